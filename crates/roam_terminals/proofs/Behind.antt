@@ -1,5 +1,5 @@
 -- What is noted of terminals was shown before, whatever is shown later.
-use Rattle.std.proofs.Common.{◌≡◌, ℕ, Bool, true, false, List, [], ◌∷◌, ◌++◌, Option, None, Some, sym, subst, arith, ◌∙◌, ap, append-nil, length, take, drop, inl, inr}
+use Rattle.std.proofs.Common.{◌≡◌, ℕ, Bool, true, false, List, [], ◌∷◌, ◌++◌, Option, None, Some, refl, sym, subst, arith, ◌∙◌, ap, append-nil, length, take, drop, inl, inr}
 use Rattle.std.proofs.Math.Seq.{drop-length, take-length}
 use Rattle.std.specs.Prelude.{◌⊎◌}
 use Rattle.std.specs.List.{All, items_where_true}
@@ -41,6 +41,18 @@ each_head first others n s h = All-head (λ t. IsBehind t.outer n s) first other
 pub each_tail : {S : Type 0} (first : Terminal S) (others : List (Terminal S)) (n : ℕ) (s : Screenshot) → AreEachBehind (first ∷ others) n s
     → AreEachBehind others n s
 each_tail first others n s h = All-tail (λ t. IsBehind t.outer n s) first others h
+
+-- one more behind the others
+pub each_last : {S : Type 0} (all : List (Terminal S)) (last : Terminal S) (n : ℕ) (s : Screenshot) → AreEachBehind all n s
+    → IsBehind last.outer n s → AreEachBehind (all ++ last ∷ []) n s
+each_last [] last n s h k = each_cons last [] n s k (λ i d lt. absurd (omega (arith, lt)))
+each_last (t ∷ all) last n s h k = each_cons t (all ++ last ∷ []) n s (each_head t all n s h) (each_last all last n s (each_tail t all n s h) k)
+
+-- what is shown, or was noted before, is noted
+pub behind_noted : (old new : Option Noted) (n : ℕ) (s : Screenshot)
+    → (new ≡ Some (record { number = n; screen = s })) ⊎ (new ≡ old) → IsBehind old n s → IsBehind new n s
+behind_noted old new n s (inl is) h = subst (λ o. IsBehind o n s) (sym is) (record { rises = omega arith; same = λ e. refl })
+behind_noted old new n s (inr same) h = subst (λ o. IsBehind o n s) (sym same) h
 
 chosen : {X : Type 0} (P : X → Type 0) (bs : List Bool) (xs : List X) → All P xs → All P (items_where_true bs xs)
 chosen P [] xs h = λ k d lt. absurd (omega (arith, lt))

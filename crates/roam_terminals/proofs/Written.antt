@@ -3,6 +3,7 @@ use Rattle.std.proofs.Common.{◌≡◌, ◌⊎◌, ℕ, ◌+◌, Bool, true, fa
 use Rattle.std.proofs.KnownBytes.{Appends-kept, Appends-nil, Appends-trans}
 use Rattle.std.proofs.lemmas.List.{drop-drop, drop-take, take-append-drop}
 use Rattle.std.proofs.lemmas.Grind.{common_steps}
+use Rattle.std.specs.Prelude.{is_some}
 use Rattle.std.specs.Io.KnownBytes.{Appends, Keeps}
 use Rattle.roam_frames.specs.Carriers.{Writes}
 use Rattle.roam_terminals.specs.Painted.{is_here}
@@ -93,7 +94,7 @@ here_is Left e = absurd cc
 here_is Refused e = absurd cc
 here_is Gone e = absurd cc
 
-pub tells_by : {S : Type 0} (silence : Silence) (seconds : ℕ) (old new : Terminal S) → old.telling ≡ None
+pub tells_by : {S : Type 0} (silence : Silence) (seconds : ℕ) (old new : Terminal S) → is_some old.telling ≡ false
     → is_over (seen_by silence old) ≡ false → due_of (seen_by silence old) ≡ Some seconds → old.waiting ≡ [] → old.over ≡ None
     → old.state ≡ Here
     → ((new ≡ old)

@@ -1,5 +1,6 @@
 -- An outer terminal is heard: bytes of its stream are read, and the line that stands first then is taken, or there is a reason why not.
 use Rattle.std.specs.Prelude.{◌≡◌, ◌⊎◌, ℕ, ◌<◌, Bool, true, false, not, ◌&&◌, ◌==◌, List, [], ◌++◌, length, Option, Some, None, is_some, if◌then◌else◌}
+use Rattle.std.specs.Borrow.{Bor}
 use Rattle.std.specs.Io.KnownBytes.{Keeps}
 use Rattle.roam_acts.specs.Senders.{last_number}
 use Rattle.roam_acts.specs.declared.acts.Act.{Act}
@@ -27,7 +28,7 @@ use Rattle.roam_terminals.specs.declared.terminal.Terminal.{Terminal}
 -- why a line is refused is told in words, or in a record to one who is told in records, where there is memory for it
 abbrev pub IsRefusal : Bool → List ℕ → Type 0
 IsRefusal false text = Unit {0}
-IsRefusal true text = (text ≡ []) ⊎ ((line : ℕ) × (words : List ℕ) × (text ≡ text_of (records.Refused line (record { now = words }))))
+IsRefusal true text = (text ≡ []) ⊎ ((line : ℕ) × (words : Bor (List ℕ)) × (text ≡ text_of (records.Refused line words)))
 
 -- its line is refused: it is told so, where there is memory for that, and nothing is noted of it any more
 abbrev pub IsRefused : {S : Type 0} → Terminal S → Terminal S → Type 0

@@ -45,7 +45,7 @@ pub data IsJudged (now : ℕ) (client : ClientView) (noted : Option Noted) (old 
 -- no memory to take back what was laid over it, nothing is.
 pub record Paints {S : Type 0} (silence : Silence) (client : ClientView) (old new : Terminal S) : Type 0 where
   pub ready : is_ready old ≡ true
-  pub untold : old.telling ≡ None
+  pub untold : is_some old.telling ≡ false
   pub noted : Option Noted
   pub is_noted : (noted ≡ Some (shown_of client)) ⊎ ((noted ≡ old.outer) ⊎ (noted ≡ None))
   pub stays : (new.outer ≡ noted) ⊎ (new.outer ≡ None)
@@ -69,25 +69,29 @@ TellsNoted (Some noted) over said old new =
     (mid : TellingView) × (looked : List Record) × (shown : List Record) × TellsLook noted.screen looked old mid
     × Tells (shown_screen over noted) shown mid new × (said ≡ looked ++ shown)
 
--- A terminal that asked for records was told in them: first which of its lines are taken and all their acts acknowledged, then the screen
--- that it asked for, then what is to be shown. Whole screens are noted, and guesses are made and judged over these. What is noted is what
--- the start shows, or what was noted before, where that has its number or memory was wanting.
-pub record TellsAll {S : Type 0} (silence : Silence) (client : ClientView) (old new : Terminal S) : Type 0 where
-  pub ready : is_ready old ≡ true
-  pub before : TellingView
-  pub was : old.telling ≡ Some before
+-- It was told in records, behind what waits: first which of its lines are taken, where so many acts are acknowledged; then the screen that it
+-- asked for; then what is to be shown.
+pub record TellsIt {S : Type 0} (acknowledged : ℕ) (before : TellingView) (old new : Terminal S) : Type 0 where
   pub between : TellingView
   pub after : TellingView
   pub taken : List Record
   pub shown : List Record
-  pub noted : (new.outer ≡ Some (shown_of client)) ⊎ (new.outer ≡ old.outer)
-  pub judged : IsJudged silence.moment client new.outer old.guessing new.guessing
-  pub over : IsOver silence.moment new.guessing new.outer new.over
-  pub tells_taken : TellsTaken client.kept.acts.acked taken before between
-  pub tells_noted : TellsNoted new.outer new.over shown between after
-  pub waiting : new.waiting ≡ old.waiting ++ texts_of (taken ++ shown)
-  pub others : new
-      ≡ record old { outer = new.outer; guessing = new.guessing; over = new.over; telling = Some after; waiting = new.waiting }
+  pub tells_taken : TellsTaken acknowledged taken before between
+  pub tells_noted : TellsNoted old.outer old.over shown between after
+  pub is : new ≡ record old { telling = Some after; waiting = old.waiting ++ texts_of (taken ++ shown) }
+
+-- A terminal that asked for records was told in them. Whole screens are noted, and guesses are made and judged over these. What is noted is
+-- what the start shows, or what was noted before, where that has its number or memory was wanting.
+pub record TellsAll {S : Type 0} (silence : Silence) (client : ClientView) (old new : Terminal S) : Type 0 where
+  pub ready : is_ready old ≡ true
+  pub before : TellingView
+  pub was : old.telling ≡ Some before
+  pub mid : Terminal S
+  pub noted : (mid.outer ≡ Some (shown_of client)) ⊎ (mid.outer ≡ old.outer)
+  pub judged : IsJudged silence.moment client mid.outer old.guessing mid.guessing
+  pub over : IsOver silence.moment mid.guessing mid.outer mid.over
+  pub others : mid ≡ record old { outer = mid.outer; guessing = mid.guessing; over = mid.over }
+  pub tells : TellsIt client.kept.acts.acked before mid new
 
 -- one that is ready was painted, or told in records what is to be shown; another is as it was
 pub data MayPaint {S : Type 0} (silence : Silence) (client : ClientView) (old new : Terminal S) : Type 0 where

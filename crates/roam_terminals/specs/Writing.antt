@@ -79,10 +79,10 @@ pub data SaysSilence {S : Type 0} (seen : Silence) (old new : Terminal S) : Type
 -- A silence that a terminal was told of is over, and what it shows isn't known; it is told of so many seconds, where nothing waits for it
 -- and nothing stands over what is noted; or nothing changes. One that asked for records is told in them.
 pub data TellsSilence {S : Type 0} (silence : Silence) (old new : Terminal S) : Type 0 where
-  over : old.telling ≡ None → is_over (seen_by silence old) ≡ true → new ≡ record old { told = None; outer = None }
+  over : is_some old.telling ≡ false → is_over (seen_by silence old) ≡ true → new ≡ record old { told = None; outer = None }
       → TellsSilence silence old new
-  told : (seconds : ℕ) → old.telling ≡ None → is_over (seen_by silence old) ≡ false → due_of (seen_by silence old) ≡ Some seconds
+  told : (seconds : ℕ) → is_some old.telling ≡ false → is_over (seen_by silence old) ≡ false → due_of (seen_by silence old) ≡ Some seconds
       → old.waiting ≡ [] → old.over ≡ None → old.state ≡ Here
       → new ≡ record old { told = Some seconds; outer = None; waiting = notice_of seconds } → TellsSilence silence old new
-  quiet : old.telling ≡ None → is_over (seen_by silence old) ≡ false → new ≡ old → TellsSilence silence old new
+  quiet : is_some old.telling ≡ false → is_over (seen_by silence old) ≡ false → new ≡ old → TellsSilence silence old new
   says : is_some old.telling ≡ true → SaysSilence (seen_by silence old) old new → TellsSilence silence old new

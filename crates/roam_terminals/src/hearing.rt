@@ -5,7 +5,8 @@ ghost use Rattle.std.specs.List.{All};
 ghost use Rattle.roam_acts.specs.Acts.{IsInRange};
 ghost use Rattle.roam_faults.specs.Streams.{IsStreamEnd};
 ghost use Rattle.roam_hub.specs.Clients.{ClientView};
-ghost use Rattle.roam_terminals.specs.Hearing.{HearsOne, IsRead, IsRefused, TakesEntry, TakesWord, Took, TypesLine, is_end, line_told, look_of};
+ghost use Rattle.roam_terminals.specs.Hearing.{HearsOne, IsRead, IsRefused, TakesEntry, TakesWord, Took, TypesLine, forgotten, is_end, line_told, look_of};
+ghost use Rattle.roam_telling.specs.Telling.{nothing_told};
 ghost use Rattle.roam_terminals.specs.Terminals.{IsSet, Reads, asks_end, fresh_guesses, guesses_after, is_heard, is_read};
 ghost use Rattle.roam_typing.specs.Entries.{Says, acts_in};
 ghost use Rattle.roam_typing.specs.declared.entries.Entry.{Entry as EntryOf};
@@ -237,6 +238,15 @@ impl<S: Duplex + Drop> Terminal<S> {
         Taking::Nothing
     }
 
+    // Nothing is told in records yet, and nothing is known of what it shows.
+    fn open_records(&mut self)
+        ensures opened { self.new ≡ record self.old { outer = None; over = None; telling = Some nothing_told } }
+    {
+        self.forget();
+        self.over = None;
+        self.telling = Some(Telling::new());
+    }
+
     // Records come from here on, behind what waits: the first line says so.
     fn begin_records(&mut self, alloc: Global) -> Taking
         ensures begins { (client : ClientView) → TakesWord Entry.Told client self.old self.new result }
@@ -247,9 +257,7 @@ impl<S: Duplex + Drop> Terminal<S> {
         if !say(alloc, &mut self.waiting, Record::Told) {
             return Taking::NoMemory;
         }
-        self.forget();
-        self.over = None;
-        self.telling = Some(Telling::new());
+        self.open_records();
         self.took_line(None);
         Taking::Line
     }
@@ -296,14 +304,21 @@ impl<S: Duplex + Drop> Terminal<S> {
         Taking::Line
     }
 
-    // What it shows isn't known any more.
-    fn repaint(&mut self) -> Taking
-        ensures anew { (client : ClientView) → TakesWord Entry.Repaint client self.old self.new result }
+    // Nothing is known of what it shows, whatever it is told.
+    fn forget_all(&mut self)
+        ensures forgotten { self.new ≡ record self.old { outer = None; telling = forgotten self.old.telling } }
     {
         self.forget();
         if let Some(telling) = &mut self.telling {
             telling.forget();
         }
+    }
+
+    // What it shows isn't known any more.
+    fn repaint(&mut self) -> Taking
+        ensures anew { (client : ClientView) → TakesWord Entry.Repaint client self.old self.new result }
+    {
+        self.forget_all();
         self.took_line(None);
         Taking::Line
     }

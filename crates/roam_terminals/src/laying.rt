@@ -1,5 +1,5 @@
 //! What is guessed is laid over the screen that is noted of an outer terminal, and taken back before another is painted.
-ghost use Rattle.std.specs.Prelude.{◌≡◌, ◌⊎◌, ◌++◌, ◌≤◌, ℕ, [], Option, true, false, None, Some, IfSome, IfOk, OnOk, OnErr, IsOkUnless};
+ghost use Rattle.std.specs.Prelude.{◌≡◌, ◌⊎◌, ◌++◌, ◌≤◌, ℕ, [], Option, true, false, None, Some, IfSome, is_some, IfOk, OnOk, OnErr, IsOkUnless};
 ghost use Rattle.roam_screens.specs.Screenshot.{Screenshot};
 ghost use Rattle.roam_scroll_paint.specs.Leads.{Leads};
 ghost use Rattle.roam_terminals.specs.Overlaid.{IsBack, IsForth, IsOver, IsSize, Lays, TakesBack, on_show};
@@ -249,6 +249,7 @@ impl<S: Duplex + Drop> Terminal<S> {
     // is laid over that. All of it waits to be written, whole.
     fn paint(&mut self, alloc: Global, client: &Client, silence: Silence)
         requires ready { is_ready self.old ≡ true }
+        requires untold { is_some self.old.telling ≡ false }
         ensures paints { Paints silence client.now self.old self.new }
         ensures behind { IsBehind self.old.outer client.now.kept.receiver.newest.number client.now.kept.receiver.newest.state
             → IsBehind self.new.outer client.now.kept.receiver.newest.number client.now.kept.receiver.newest.state }

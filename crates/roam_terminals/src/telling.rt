@@ -1,10 +1,10 @@
 //! A terminal that asked for records is told in them what is to be shown, which lines are taken, and the screen that it asked for.
-ghost use Rattle.std.specs.Prelude.{◌≡◌, ◌⊎◌, ◌++◌, List, true, Some};
+ghost use Rattle.std.specs.Prelude.{◌≡◌, ◌⊎◌, ◌++◌, List, true, Some, is_some};
 ghost use Rattle.roam_records.specs.declared.records.Record.{Record};
 ghost use Rattle.roam_screens.specs.Shown.{shown_by};
 ghost use Rattle.roam_telling.specs.Saying.{texts_of};
-ghost use Rattle.roam_telling.specs.Telling.{Tells};
-ghost use Rattle.roam_terminals.specs.Painted.{TellsAll, TellsNoted, is_ready, shown_of};
+ghost use Rattle.roam_telling.specs.Telling.{TellingView, Tells};
+ghost use Rattle.roam_terminals.specs.Painted.{TellsAll, TellsIt, TellsNoted, is_ready, shown_of};
 ghost use Rattle.roam_turns.specs.Painting.{IsBehind};
 
 use crate::duplex::Duplex;
@@ -63,20 +63,36 @@ impl<S: Duplex + Drop> Terminal<S> {
         self.outer.see(alloc, number, &screen);
     }
 
-    // Tells it in records what it is to know, behind what waits: which lines are taken, the screen that it asked for, and what is to be shown
-    // of the screen that is noted with what is guessed over it.
+    // Tells in records which lines are taken, where so many acts are acknowledged, the screen that it asked for, and what is to be shown of
+    // the screen that is noted with what stands over it; all behind what waits.
+    fn tell_all(&mut self, alloc: Global, acknowledged: u64)
+        ensures told { (before : TellingView) → self.old.telling ≡ Some before → TellsIt acknowledged before self.old self.new }
+    {
+        if let Some(telling) = &mut self.telling {
+            telling.tell_taken(alloc, &mut self.waiting, acknowledged);
+            tell_noted(alloc, telling, &mut self.waiting, &self.outer, &self.over);
+        }
+    }
+
+    // What stands over the screen that is noted, as it is told.
+    fn stand_over(&mut self, over: Option<RowShot>)
+        ensures over { self.new ≡ record self.old { over = over } }
+    {
+        self.over = over;
+    }
+
+    // Tells it in records what it is to know, behind what waits: whole screens are noted, and guesses judged by these.
     pub(crate) fn tell(&mut self, alloc: Global, client: &Client, silence: Silence)
         requires ready { is_ready self.old ≡ true }
+        requires told { is_some self.old.telling ≡ true }
         ensures tells { TellsAll silence client.now self.old self.new }
         ensures behind { IsBehind self.old.outer client.now.kept.receiver.newest.number client.now.kept.receiver.newest.state
             → IsBehind self.new.outer client.now.kept.receiver.newest.number client.now.kept.receiver.newest.state }
     {
         self.note(alloc, client);
         self.judge(alloc, client, silence.moment());
-        self.over = self.wanted(alloc, silence);
-        if let Some(telling) = &mut self.telling {
-            telling.tell_taken(alloc, &mut self.waiting, client.acknowledged());
-            tell_noted(alloc, telling, &mut self.waiting, &self.outer, &self.over);
-        }
+        let wanted = self.wanted(alloc, silence);
+        self.stand_over(wanted);
+        self.tell_all(alloc, client.acknowledged());
     }
 }

@@ -1,4 +1,7 @@
-use Rattle.std.proofs.Common.{◌++◌, ◌∷◌, [], ap, ◌∙◌}
+use Rattle.std.proofs.Common.{◌++◌, ◌∷◌, [], ap, ◌∙◌, sym, subst}
+use Rattle.roam_turns.specs.Painting.{IsBehind}
+use Rattle.roam_terminals.specs.Sharing.{AreEachBehind}
+use Rattle.roam_terminals.proofs.Behind.{each_last}
 use Rattle.roam_terminals.proofs.sharing.SharedStart.add.Goals as goal
 
 pub returns-clause-added : goal.returns-clause-added
@@ -16,6 +19,14 @@ returns-clause-added g c =
         told = new.painted.2;
         stuck = new.painted.3;
         here = new.here;
+        untold = new.untold;
       },
       c.in_ok-push.ensures.items ∙ ap (λ v. v.all ++ c.new.result ∷ []) c.self.view_is,
     )
+
+pub invariant_of-self-2 : goal.invariant_of-self-2
+invariant_of-self-2 g c =
+    let client = c.self.inside.client.kept.receiver.newest in
+    subst (λ l. AreEachBehind l client.number client.state) (sym c.in_ok-push.ensures.items)
+    (each_last c.self.inside.all.items c.new.result client.number client.state c.self.invariant
+    (subst (λ o. IsBehind o client.number client.state) (sym c.new.ensures.painted.0) tt))

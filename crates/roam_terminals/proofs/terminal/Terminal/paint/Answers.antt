@@ -24,6 +24,7 @@ returns-clause-paints g c =
     (subst (λ w. LeadsSized mid.outer w painted.outer) (sym waiting) c.paint_noted.ensures.leads) in
     record {
       ready = c.requires.ready;
+      untold = c.requires.untold;
       noted = painted.outer;
       is_noted = noted_from old.outer mid.outer painted.outer (Some (shown_of client))
           (noted_kept old.over old.outer mid.outer c.take_back-taken.result taken) c.paint_noted.ensures.noted;

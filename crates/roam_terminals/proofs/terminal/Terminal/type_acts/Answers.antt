@@ -15,7 +15,8 @@ returns-in-Ok-clause-types g c =
     let types = types_all acts client c.typed_all.new.self c.in-Ok.ensures.typed in
     let guesses : c.guess.new.self.guessing
     ≡ guesses_after c.args.is_pasted (first_number client) acts client.kept.receiver.newest.state old.guessing = search rules in
-    typed refl (λ line rest is. c.took-in-Ok.ensures.took line rest (subst (λ l. IsFirst l line rest) (sym kept) is))
+    let after : c.took_line-in-Ok.new.self.guessing ≡ c.guess.new.self.guessing = ap (λ t. t.guessing) c.took_line-in-Ok.ensures.others in
+    typed refl (λ line rest is. c.took_line-in-Ok.ensures.took line rest (subst (λ l. IsFirst l line rest) (sym kept) is))
     (subst (λ w. Types (acts_by w acts) client c.typed_all.new.self) (sym heard) types)
-    (guesses ∙ sym (ap (λ w. guesses_by w c.args.is_pasted acts client old.guessing) heard))
+    (after ∙ (guesses ∙ sym (ap (λ w. guesses_by w c.args.is_pasted acts client old.guessing) heard)))
     (search rules)
