@@ -12,14 +12,16 @@ use Rattle.roam_turns.specs.Calls.{PortCall}
 use Rattle.roam_typing.specs.declared.entries.Entry.{Entry}
 use Rattle.roam_typing.specs.Lines.{ended_all}
 use Rattle.roam_terminals.specs.Hearing.{HearsOne, TakesLine}
-use Rattle.roam_terminals.specs.Hearing.TakesLine.{taken, waits, no_memory, refused, nothing, unheard}
+use Rattle.roam_terminals.specs.Hearing.TakesLine.{taken, waits, no_memory, looks, untold, refused, nothing, unheard}
 use Rattle.roam_terminals.specs.Painted.{MayPaint}
-use Rattle.roam_terminals.specs.Painted.MayPaint.{painted, not_ready}
+use Rattle.roam_terminals.specs.Painted.MayPaint.{painted, told as was_told, not_ready}
 use Rattle.roam_terminals.specs.Running.{Came, Comes, IsStep, RunStep, RunsBy, Took}
 use Rattle.roam_terminals.specs.Sharing.{AreEach, HearsAll, Settles, Shared, is_gone, is_let_go, turned_round, who_stay}
 use Rattle.roam_terminals.specs.Terminals.{Stands, Types, is_heard, typed_by}
 use Rattle.roam_terminals.specs.Writing.{TellsSilence, is_empty, state_after, unwritten}
-use Rattle.roam_terminals.specs.Writing.TellsSilence.{over as is_told_over, told as is_told_more, quiet as is_quiet}
+use Rattle.roam_terminals.specs.Writing.{SaysSilence}
+use Rattle.roam_terminals.specs.Writing.SaysSilence.{heard as is_heard_again, silent as is_silent, quiet as is_as_it_was}
+use Rattle.roam_terminals.specs.Writing.TellsSilence.{over as is_told_over, told as is_told_more, quiet as is_quiet, says as in_records}
 use Rattle.roam_terminals.specs.declared.silence.Silence.{Silence}
 use Rattle.roam_terminals.specs.declared.terminal.State.{State}
 use Rattle.roam_terminals.specs.declared.terminal.State.TheVariants.{Here, Gone}
@@ -214,7 +216,7 @@ module _ {S : Type 0} (remaining contents : S → Option (List ℕ)) (came : Lis
   heard_taken : (typed : List Typed) (a : Account S) (entry : Option Entry) (mid new : Terminal S) (client client' : ClientView)
       → IsAccount remaining came typed (record a { last = mid; read = a.read }) → TakesLine entry mid new client client'
       → Heard typed a new client client'
-  heard_taken typed a entry mid new client client' h (taken e line is heard first says typing guesses to) =
+  heard_taken typed a entry mid new client client' h (taken e line is heard first says may typing guesses to) =
       let on = not_gone mid.state heard in
       let acts = acts_of a.number typed in
       let all : acts_of a.number (typed ++ numbered a.number (typed_by mid.watches e)) ≡ acts ++ typed_by mid.watches e =
@@ -239,8 +241,14 @@ module _ {S : Type 0} (remaining contents : S → Option (List ℕ)) (came : Lis
   heard_taken typed a entry mid new client client' h (no_memory e is heard asks watches some c to) =
       heard_untaken typed a mid new client client' h (ap (λ t. t.stream) to) (ap (λ t. t.lines) to) (ap (λ t. t.watches) to)
       (λ on gone. on (ap (λ t. t.state) to ∙ gone)) c
+  heard_taken typed a entry mid new client client' h (looks e is heard asks is_look again c to) =
+      heard_untaken typed a mid new client client' h (ap (λ t. t.stream) to) (ap (λ t. t.lines) to) (ap (λ t. t.watches) to)
+      (λ on gone. on (ap (λ t. t.state) to ∙ gone)) c
+  heard_taken typed a entry mid new client client' h (untold is heard asks c to) =
+      heard_untaken typed a mid new client client' h (ap (λ t. t.stream) to) (ap (λ t. t.lines) to) (ap (λ t. t.watches) to)
+      (λ on gone. on (ap (λ t. t.state) to ∙ gone)) c
   heard_taken typed a entry mid new client client' h (refused is heard why to c) =
-      heard_untaken typed a mid new client client' h (ap (λ t. t.stream) to.1) (ap (λ t. t.lines) to.1) (ap (λ t. t.watches) to.1)
+      heard_untaken typed a mid new client client' h (ap (λ t. t.stream) to.2) (ap (λ t. t.lines) to.2) (ap (λ t. t.watches) to.2)
       (λ on. not_gone mid.state heard) c
   heard_taken typed a entry mid new client client' h (nothing is heard none c to) =
       heard_untaken typed a mid new client client' h (ap (λ t. t.stream) to) (ap (λ t. t.lines) to) (ap (λ t. t.watches) to)
@@ -386,6 +394,11 @@ module _ {S : Type 0} (remaining contents : S → Option (List ℕ)) (came : Lis
   painted_account silence client typed a new (painted p) h =
       account_stays typed a new (keeps_same a.last.stream new.stream (ap (λ t. t.stream) p.others)) (ap (λ t. t.lines) p.others)
       (ap (λ t. t.watches) p.others) (λ on gone. on (ap (λ t. t.state) p.others ∙ gone)) h
+  painted_account silence client typed a new (was_told p) h =
+      account_stays typed a new
+      (keeps_same a.last.stream new.stream (ap (λ t. t.stream) p.tells.is ∙ ap (λ t. t.stream) p.others))
+      (ap (λ t. t.lines) p.tells.is ∙ ap (λ t. t.lines) p.others) (ap (λ t. t.watches) p.tells.is ∙ ap (λ t. t.watches) p.others)
+      (λ on gone. on (ap (λ t. t.state) p.tells.is ∙ (ap (λ t. t.state) p.others ∙ gone))) h
   painted_account silence client typed a new (not_ready not_is to) h =
       account_stays typed a new (keeps_same a.last.stream new.stream (ap (λ t. t.stream) to)) (ap (λ t. t.lines) to)
       (ap (λ t. t.watches) to) (λ on gone. on (ap (λ t. t.state) to ∙ gone)) h
@@ -406,14 +419,25 @@ module _ {S : Type 0} (remaining contents : S → Option (List ℕ)) (came : Lis
   unwritten_gone old written (inl is) gone = is ∙ gone
   unwritten_gone old written (inr is) gone = is ∙ ap unwritten gone
 
-  told_same : (silence : Silence) (old new : Terminal S) → TellsSilence silence old new
-      → (new.stream ≡ old.stream) × (new.lines ≡ old.lines) × (new.watches ≡ old.watches) × (new.state ≡ old.state)
-  told_same silence old new (is_told_over h is) =
+  abbrev Same : Terminal S → Terminal S → Type 0
+  Same old new = (new.stream ≡ old.stream) × (new.lines ≡ old.lines) × (new.watches ≡ old.watches) × (new.state ≡ old.state)
+
+  said_same : (seen : Silence) (old new : Terminal S) → SaysSilence seen old new → Same old new
+  said_same seen old new (is_heard_again h empty here is) =
       (ap (λ t. t.stream) is, ap (λ t. t.lines) is, ap (λ t. t.watches) is, ap (λ t. t.state) is)
-  told_same silence old new (is_told_more seconds h due empty bare here is) =
+  said_same seen old new (is_silent seconds h due empty here is) =
       (ap (λ t. t.stream) is, ap (λ t. t.lines) is, ap (λ t. t.watches) is, ap (λ t. t.state) is)
-  told_same silence old new (is_quiet h is) =
+  said_same seen old new (is_as_it_was is) =
       (ap (λ t. t.stream) is, ap (λ t. t.lines) is, ap (λ t. t.watches) is, ap (λ t. t.state) is)
+
+  told_same : (silence : Silence) (old new : Terminal S) → TellsSilence silence old new → Same old new
+  told_same silence old new (is_told_over bare h is) =
+      (ap (λ t. t.stream) is, ap (λ t. t.lines) is, ap (λ t. t.watches) is, ap (λ t. t.state) is)
+  told_same silence old new (is_told_more seconds bare h due empty plain here is) =
+      (ap (λ t. t.stream) is, ap (λ t. t.lines) is, ap (λ t. t.watches) is, ap (λ t. t.state) is)
+  told_same silence old new (is_quiet bare h is) =
+      (ap (λ t. t.stream) is, ap (λ t. t.lines) is, ap (λ t. t.watches) is, ap (λ t. t.state) is)
+  told_same silence old new (in_records is h) = said_same _ old new h
 
   settled_account : (silence : Silence) (typed : List Typed) (a : Account S) (new : Terminal S)
       → Settles remaining contents silence a.last new → IsAccount remaining came typed a

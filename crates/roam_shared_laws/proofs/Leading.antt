@@ -2,7 +2,7 @@
 use Rattle.std.proofs.Common.{◌≡◌, ◌⊎◌, ℕ, Bool, true, false, List, [], ◌∷◌, ◌++◌, map, take, append-nil, append_assoc, Option, Some, None, refl, sym, ap, ◌∙◌, subst, inl, inr, arith}
 use Rattle.std.proofs.KnownBytes.{Appends-kept, Appends-nil, Appends-trans}
 use Rattle.std.proofs.lemmas.List.{map-append, take-append-drop}
-use Rattle.std.specs.Prelude.{not, ◌&&◌, is_some, if◌then◌else◌}
+use Rattle.std.specs.Prelude.{not, ◌&&◌, ◌==◌, is_some, if◌then◌else◌}
 use Rattle.std.specs.Io.KnownBytes.{Appends, Keeps}
 use Rattle.roam_guess.specs.Guesses.{GuessesOf, are_shown}
 use Rattle.roam_guess.specs.Overlay.{guessed, overlay}
@@ -19,39 +19,35 @@ use Rattle.roam_text.specs.Log.{Item, Byte}
 use Rattle.roam_turns.specs.Calls.{PortCall}
 use Rattle.roam_turns.specs.Painting.{Fits, LeadsSized, ShowsAt}
 use Rattle.roam_turns.specs.declared.outer.Noted.{Noted}
+use Rattle.roam_records.specs.Records.{text_of}
+use Rattle.roam_records.specs.Taken.{nothing_taken, took}
+use Rattle.roam_records.specs.declared.records.Record.TheVariants as records
+use Rattle.roam_telling.specs.Saying.{texts_of}
+use Rattle.roam_telling.specs.Telling.{TellingView, nothing_told}
 use Rattle.roam_typing.specs.declared.entries.Entry.{Entry}
-use Rattle.roam_terminals.specs.Hearing.{HearsOne, IsRead, TakesLine}
+use Rattle.roam_typing.specs.declared.entries.Entry.TheVariants.{Acts, Paste, Told, Repaint, Watch, Guess, Look, LookStyled, Show, End}
+use Rattle.roam_terminals.specs.Hearing.{HearsOne, IsRead, IsRefusal, IsRefused, Makes, TakesLine, may_take, over_after, telling_after, waiting_after}
 use Rattle.roam_terminals.specs.Hearing.IsRead.{read, refused as was_refused}
-use Rattle.roam_terminals.specs.Hearing.TakesLine.{taken, waits, no_memory, refused, nothing, unheard}
+use Rattle.roam_terminals.specs.Hearing.TakesLine.{taken, waits, no_memory, looks, untold, refused, nothing, unheard}
 use Rattle.roam_terminals.specs.Overlaid.{IsOver, on_show}
-use Rattle.roam_terminals.specs.Painted.{MayPaint, Paints, is_here, is_ready, shown_of}
-use Rattle.roam_terminals.specs.Painted.MayPaint.{painted, not_ready}
+use Rattle.roam_terminals.specs.Painted.{MayPaint, Paints, is_here, is_open, is_ready, shown_of}
+use Rattle.roam_terminals.specs.Painted.MayPaint.{painted, told as was_told, not_ready}
 use Rattle.roam_terminals.specs.Running.{Came, Comes, IsFresh, IsStep, RunStep, RunsBy, Took}
 use Rattle.roam_terminals.specs.Sharing.{AreEach, HearsAll, Settles, Shared, is_gone, turned_round, who_stay}
 use Rattle.roam_terminals.specs.Silence.{notice_of}
-use Rattle.roam_terminals.specs.Writing.{Flushes, TellsSilence, is_empty}
-use Rattle.roam_terminals.specs.Writing.TellsSilence.{over as is_told_over, told as is_told_more, quiet as is_quiet}
+use Rattle.roam_terminals.specs.Writing.{Flushes, SaysSilence, TellsSilence, is_empty}
+use Rattle.roam_terminals.specs.Writing.SaysSilence.{heard as is_heard_again, silent as is_silent, quiet as is_as_it_was}
+use Rattle.roam_terminals.specs.Writing.TellsSilence.{over as is_told_over, told as is_told_more, quiet as is_quiet, says as in_records}
 use Rattle.roam_terminals.specs.declared.silence.Silence.{Silence}
 use Rattle.roam_terminals.specs.declared.terminal.Terminal.{Terminal}
 use Rattle.roam_terminals.proofs.Heard.{taken_outer}
 use Rattle.roam_terminals.proofs.Written.{empty_is}
 use Rattle.roam_shared_laws.specs.Lines.{came_in}
-use Rattle.roam_shared_laws.specs.Paintings.{AreLed, FitsAll, IsLed, IsNotedOf, IsOneOf, LeadsAny, PaintingsLead, screens_in}
+use Rattle.roam_shared_laws.specs.Paintings.{AreLed, FitsAll, IsFollowed, IsLed, IsNotedOf, IsToldAs, IsOneOf, LeadsAny, PaintingsLead, screens_in}
+use Rattle.roam_shared_laws.proofs.Lists.{noted_of_more, one_of_last, one_of_more}
+use Rattle.roam_shared_laws.proofs.Records.{is_told_entry, refusal_quiet, told_after, told_all, told_begins, told_flushed, told_more, told_on, untold_after}
 
 -- ---- lists
-
-one_of_more : {X : Type 0} (x : X) (xs more : List X) → IsOneOf x xs → IsOneOf x (xs ++ more)
-one_of_more x [] more h = absurd h
-one_of_more x (y ∷ ys) more (inl is) = inl is
-one_of_more x (y ∷ ys) more (inr h) = inr (one_of_more x ys more h)
-
-one_of_last : {X : Type 0} (x : X) (xs : List X) → IsOneOf x (xs ++ x ∷ [])
-one_of_last x [] = inl refl
-one_of_last x (y ∷ ys) = inr (one_of_last x ys)
-
-noted_of_more : (screens more : List Screenshot) (noted : Option Noted) → IsNotedOf screens noted → IsNotedOf (screens ++ more) noted
-noted_of_more screens more None h = tt
-noted_of_more screens more (Some noted) h = one_of_more noted.screen screens more h
 
 fits_fewer : (rows cols lines : ℕ) (log : List Item) (screens more : List Screenshot) → FitsAll rows cols lines log (screens ++ more)
     → FitsAll rows cols lines log screens
@@ -129,42 +125,163 @@ module _ {S : Type 0} (remaining contents : S → Option (List ℕ)) where
 
   read_stays : (old mid : Terminal S) → IsRead old mid → Stays old mid
   read_stays old mid (read is) = same (ap (λ t. t.waiting) is) (ap (λ t. t.outer) is) (ap (λ t. t.over) is)
-  read_stays old mid (was_refused text long is) = lost text (ap (λ t. t.waiting) is) (ap (λ t. t.outer) is)
+  read_stays old mid (was_refused text words long is) = lost text (ap (λ t. t.waiting) is) (ap (λ t. t.outer) is)
 
-  taken_stays : (entry : Option Entry) (old new : Terminal S) (client client' : ClientView) → TakesLine entry old new client client'
-      → Stays old new
-  taken_stays entry old new client client' (taken e line is heard first says types guesses to) =
-      by (taken_outer entry old new client client' (taken e line is heard first says types guesses to))
-    where
-      by : (new.outer ≡ old.outer) ⊎ (new.outer ≡ None) → Stays old new
-      by (inl stays) = same (ap (λ t. t.waiting) to) stays (ap (λ t. t.over) to)
-      by (inr none) = lost [] (ap (λ t. t.waiting) to ∙ sym (append-nil old.waiting)) none
-  taken_stays entry old new client client' (waits e is heard asks watches holds c to) =
-      same (ap (λ t. t.waiting) to) (ap (λ t. t.outer) to) (ap (λ t. t.over) to)
-  taken_stays entry old new client client' (no_memory e is heard asks watches some c to) =
-      same (ap (λ t. t.waiting) to) (ap (λ t. t.outer) to) (ap (λ t. t.over) to)
-  taken_stays entry old new client client' (refused is heard why to c) =
-      lost to.0 (ap (λ t. t.waiting) to.1) (ap (λ t. t.outer) to.1)
-  taken_stays entry old new client client' (nothing is heard none c to) =
-      same (ap (λ t. t.waiting) to) (ap (λ t. t.outer) to) (ap (λ t. t.over) to)
-  taken_stays entry old new client client' (unheard is not_heard c to) =
-      same (ap (λ t. t.waiting) to) (ap (λ t. t.outer) to) (ap (λ t. t.over) to)
+  -- records don't begin with this line
+  no_records : (e : Entry) → is_told_entry e ≡ false → (waiting : List ℕ) (over : Option Screenshot)
+      → (waiting_after e waiting ≡ waiting) × (over_after e over ≡ over)
+  no_records (Acts acts) none waiting over = (refl, refl)
+  no_records (Paste acts) none waiting over = (refl, refl)
+  no_records Told none waiting over = absurd cc
+  no_records Repaint none waiting over = (refl, refl)
+  no_records Watch none waiting over = (refl, refl)
+  no_records (Guess guessing) none waiting over = (refl, refl)
+  no_records Look none waiting over = (refl, refl)
+  no_records LookStyled none waiting over = (refl, refl)
+  no_records (Show showing) none waiting over = (refl, refl)
+  no_records End none waiting over = (refl, refl)
+
+  made_stays : (e : Entry) (client : ClientView) (old new : Terminal S) → is_told_entry e ≡ false → Makes e client old new
+      → (new.outer ≡ old.outer) ⊎ (new.outer ≡ None) → Stays old new
+  made_stays e client old new none to (inl stays) =
+      let kept = no_records e none old.waiting old.over in
+      same (ap (λ t. t.waiting) to ∙ kept.0) stays (ap (λ t. t.over) to ∙ kept.1)
+  made_stays e client old new none to (inr gone) =
+      let kept = no_records e none old.waiting old.over in
+      lost [] (ap (λ t. t.waiting) to ∙ (kept.0 ∙ sym (append-nil old.waiting))) gone
 
   pub taken_stream : (entry : Option Entry) (old new : Terminal S) (client client' : ClientView) → TakesLine entry old new client client'
       → new.stream ≡ old.stream
-  taken_stream entry old new client client' (taken e line is heard first says types guesses to) = ap (λ t. t.stream) to
+  taken_stream entry old new client client' (taken e line is heard first says may types guesses to) = ap (λ t. t.stream) to
   taken_stream entry old new client client' (waits e is heard asks watches holds c to) = ap (λ t. t.stream) to
   taken_stream entry old new client client' (no_memory e is heard asks watches some c to) = ap (λ t. t.stream) to
-  taken_stream entry old new client client' (refused is heard why to c) = ap (λ t. t.stream) to.1
+  taken_stream entry old new client client' (looks e is heard asks is_look again c to) = ap (λ t. t.stream) to
+  taken_stream entry old new client client' (untold is heard asks c to) = ap (λ t. t.stream) to
+  taken_stream entry old new client client' (refused is heard why to c) = ap (λ t. t.stream) to.2
   taken_stream entry old new client client' (nothing is heard none c to) = ap (λ t. t.stream) to
   taken_stream entry old new client client' (unheard is not_heard c to) = ap (λ t. t.stream) to
 
-  heard_led : (came : List S) (screens : List Screenshot) (entry : Option Entry) (old new : Terminal S) (client client' : ClientView)
-      → HearsOne remaining contents entry old new client client' → IsLed contents came screens old → IsLed contents came screens new
-  heard_led came screens entry old new client client' h led =
-      stays_led came screens h.read new (keeps_same h.read.stream new.stream (taken_stream entry h.read new client client' h.takes))
-      (taken_stays entry h.read new client client' h.takes)
-      (stays_led came screens old h.read h.apart (read_stays old h.read h.is_read) led)
+  read_followed : (came : List S) (screens : List Screenshot) (old mid : Terminal S) → Keeps (contents old.stream) (contents mid.stream)
+      → IsRead old mid → IsFollowed contents came screens old old.telling → IsFollowed contents came screens mid mid.telling
+  read_followed came screens old mid keeps (read is) h =
+      subst (IsFollowed contents came screens mid) (sym (ap (λ t. t.telling) is)) (by old.telling refl h)
+    where
+      by : (o : Option TellingView) → old.telling ≡ o → IsFollowed contents came screens old o → IsFollowed contents came screens mid o
+      by None told led = stays_led came screens old mid keeps (read_stays old mid (read is)) led
+      by (Some t) told led =
+          told_on remaining contents came screens old mid t t [] keeps tt (ap (λ t. t.waiting) is ∙ sym (append-nil old.waiting))
+          (inl (ap (λ t. t.outer) is)) refl (inl (refl, refl)) led
+  read_followed came screens old mid keeps (was_refused text words long is) h =
+      subst (IsFollowed contents came screens mid) (sym (ap (λ t. t.telling) is)) (by old.telling refl h)
+    where
+      by : (o : Option TellingView) → old.telling ≡ o → IsFollowed contents came screens old o → IsFollowed contents came screens mid o
+      by None told led = stays_led came screens old mid keeps (read_stays old mid (was_refused text words long is)) led
+      by (Some t) told led =
+          let more = refusal_quiet text (subst (λ o. IsRefusal (is_some o) text) told words) in
+          told_on remaining contents came screens old mid t t more.0 keeps more.1
+          (ap (λ t. t.waiting) is ∙ ap (λ l. old.waiting ++ l) more.2) (inr (ap (λ t. t.outer) is)) refl (inl (refl, refl)) led
+
+  -- nothing of it changed but what is told
+  same_followed : (came : List S) (screens : List Screenshot) (old new : Terminal S) → new ≡ old
+      → IsFollowed contents came screens old old.telling → IsFollowed contents came screens new new.telling
+  same_followed came screens old new is h = subst (λ t. IsFollowed contents came screens t t.telling) (sym is) h
+
+  refused_followed : (came : List S) (screens : List Screenshot) (old new : Terminal S) → IsRefused old new
+      → IsFollowed contents came screens old old.telling → IsFollowed contents came screens new new.telling
+  refused_followed came screens old new to h =
+      subst (IsFollowed contents came screens new) (sym (ap (λ t. t.telling) to.2)) (by old.telling refl h)
+    where
+      keeps : Keeps (contents old.stream) (contents new.stream)
+      keeps = keeps_same old.stream new.stream (ap (λ t. t.stream) to.2)
+
+      by : (o : Option TellingView) → old.telling ≡ o → IsFollowed contents came screens old o → IsFollowed contents came screens new o
+      by None told led =
+          stays_led came screens old new keeps (lost to.0 (ap (λ t. t.waiting) to.2) (ap (λ t. t.outer) to.2)) led
+      by (Some t) told led =
+          let more = refusal_quiet to.0 (subst (λ o. IsRefusal (is_some o) to.0) told to.1) in
+          told_on remaining contents came screens old new t t more.0 keeps more.1
+          (ap (λ t. t.waiting) to.2 ∙ ap (λ l. old.waiting ++ l) more.2) (inr (ap (λ t. t.outer) to.2)) refl (inl (refl, refl)) led
+
+  -- where records begin nothing was told
+  begin_bare : (count : ℕ) (o : Option TellingView) → may_take Told count o ≡ true → o ≡ None
+  begin_bare count None may = refl
+  begin_bare count (Some t) may = by (count == 0) may
+    where
+      by : (b : Bool) → (b && false) ≡ true → Some t ≡ None
+      by true e = absurd cc
+      by false e = absurd cc
+
+  made_followed : (came : List S) (screens : List Screenshot) (e : Entry) (client : ClientView) (old new : Terminal S)
+      → may_take e old.lines.count old.telling ≡ true → Makes e client old new → (new.outer ≡ old.outer) ⊎ (new.outer ≡ None)
+      → IsFollowed contents came screens old old.telling → IsFollowed contents came screens new new.telling
+  made_followed came screens e client old new may to outer h = by (is_told_entry e) refl
+    where
+      keeps : Keeps (contents old.stream) (contents new.stream)
+      keeps = keeps_same old.stream new.stream (ap (λ t. t.stream) to)
+
+      further : (o : Option TellingView) → is_told_entry e ≡ false → old.telling ≡ o → IsFollowed contents came screens old o
+          → IsFollowed contents came screens new (telling_after old.watches e client o)
+      further None none told led =
+          subst (IsFollowed contents came screens new) (sym (untold_after e old.watches client none))
+          (stays_led came screens old new keeps (made_stays e client old new none to outer) led)
+      further (Some t) none told led =
+          let on = told_after e old.watches client t none in
+          subst (IsFollowed contents came screens new) (sym on.1)
+          (told_on remaining contents came screens old new t on.0 [] keeps tt
+          (ap (λ t. t.waiting) to ∙ ((no_records e none old.waiting old.over).0 ∙ sym (append-nil old.waiting))) outer on.2 on.3 led)
+
+      begun : (x : Entry) → e ≡ x → is_told_entry x ≡ true → IsFollowed contents came screens new new.telling
+      begun (Acts acts) is told = absurd cc
+      begun (Paste acts) is told = absurd cc
+      begun Told is told =
+          let bare : old.telling ≡ None =
+          begin_bare old.lines.count old.telling (subst (λ x. may_take x old.lines.count old.telling ≡ true) is may) in
+          let now : new ≡ record old {
+            lines = new.lines;
+            guessing = new.guessing;
+            outer = None;
+            over = None;
+            waiting = old.waiting ++ text_of records.Told;
+            telling = telling_after old.watches Told client old.telling;
+          } = subst (λ x. Makes x client old new) is to in
+          subst (IsFollowed contents came screens new) (sym (ap (λ t. t.telling) now))
+          (told_begins remaining contents came screens old new (record nothing_told { taken = took None nothing_taken }) keeps
+          (ap (λ t. t.outer) now) refl refl (subst (IsFollowed contents came screens old) bare h))
+      begun Repaint is told = absurd cc
+      begun Watch is told = absurd cc
+      begun (Guess guessing) is told = absurd cc
+      begun Look is told = absurd cc
+      begun LookStyled is told = absurd cc
+      begun (Show showing) is told = absurd cc
+      begun End is told = absurd cc
+
+      by : (b : Bool) → is_told_entry e ≡ b → IsFollowed contents came screens new new.telling
+      by true told = begun e refl told
+      by false none =
+          subst (IsFollowed contents came screens new) (sym (ap (λ t. t.telling) to)) (further old.telling none refl h)
+
+  taken_followed : (came : List S) (screens : List Screenshot) (entry : Option Entry) (old new : Terminal S) (client client' : ClientView)
+      → TakesLine entry old new client client' → IsFollowed contents came screens old old.telling
+      → IsFollowed contents came screens new new.telling
+  taken_followed came screens entry old new client client' (taken e line is heard first says may types guesses to) h =
+      made_followed came screens e client' old new may to
+      (taken_outer entry old new client client' (taken e line is heard first says may types guesses to)) h
+  taken_followed came screens entry old new client client' (waits e is heard asks watches holds c to) h =
+      same_followed came screens old new to h
+  taken_followed came screens entry old new client client' (no_memory e is heard asks watches some c to) h =
+      same_followed came screens old new to h
+  taken_followed came screens entry old new client client' (looks e is heard asks is_look again c to) h =
+      same_followed came screens old new to h
+  taken_followed came screens entry old new client client' (untold is heard asks c to) h = same_followed came screens old new to h
+  taken_followed came screens entry old new client client' (refused is heard why to c) h = refused_followed came screens old new to h
+  taken_followed came screens entry old new client client' (nothing is heard none c to) h = same_followed came screens old new to h
+  taken_followed came screens entry old new client client' (unheard is not_heard c to) h = same_followed came screens old new to h
+
+  heard_followed : (came : List S) (screens : List Screenshot) (entry : Option Entry) (old new : Terminal S) (client client' : ClientView)
+      → HearsOne remaining contents entry old new client client' → IsFollowed contents came screens old old.telling
+      → IsFollowed contents came screens new new.telling
+  heard_followed came screens entry old new client client' h led =
+      taken_followed came screens entry h.read new client client' h.takes (read_followed came screens old h.read h.apart h.is_read led)
 
   -- ---- it is painted
 
@@ -268,11 +385,11 @@ module _ {S : Type 0} (remaining contents : S → Option (List ℕ)) where
       subst (IsNotedOf (screens ++ shown.screen ∷ [])) (sym (same_is ∙ none)) tt
 
   ready_waits : (t : Terminal S) → is_ready t ≡ true → t.waiting ≡ []
-  ready_waits t ready = empty_is t.waiting (by (is_here t.state) (is_some t.told) (is_empty t.waiting) ready)
+  ready_waits t ready = empty_is t.waiting (by (is_here t.state) (is_open t) (is_empty t.waiting) ready)
     where
-      by : (a b c : Bool) → (a && (not b && c)) ≡ true → c ≡ true
-      by true true c e = absurd cc
-      by true false c e = e
+      by : (a b c : Bool) → (a && (b && c)) ≡ true → c ≡ true
+      by true false c e = absurd cc
+      by true true c e = e
       by false b c e = absurd cc
 
   parts_on : (written before since waiting old : List ℕ) → written ++ old ≡ before ++ since → old ≡ []
@@ -327,28 +444,81 @@ module _ {S : Type 0} (remaining contents : S → Option (List ℕ)) where
         leads = on.2;
       }
 
-  painted_led : (came : List S) (screens : List Screenshot) (silence : Silence) (client : ClientView) (old new : Terminal S)
-      → MayPaint silence client old new → IsLed contents came screens old
-      → IsLed contents came (screens ++ (shown_of client).screen ∷ []) new
-  painted_led came screens silence client old new (painted p) h = paints_led came screens silence client old new p h
-  painted_led came screens silence client old new (not_ready not_is to) h =
-      subst (IsLed contents came (screens ++ (shown_of client).screen ∷ [])) (sym to)
-      (subst (λ c. IsLed contents c (screens ++ (shown_of client).screen ∷ []) old) (append-nil came)
-      (led_more came [] screens ((shown_of client).screen ∷ []) old h))
+  untold_is : (o : Option TellingView) → is_some o ≡ false → o ≡ None
+  untold_is None e = refl
+  untold_is (Some t) e = absurd cc
+
+  followed_more : (came more : List S) (screens extra : List Screenshot) (t : Terminal S) (o : Option TellingView)
+      → IsFollowed contents came screens t o → IsFollowed contents (came ++ more) (screens ++ extra) t o
+  followed_more came more screens extra t None h = led_more came more screens extra t h
+  followed_more came more screens extra t (Some telling) h = told_more remaining contents came more screens extra t telling h
+
+  painted_followed : (came : List S) (screens : List Screenshot) (silence : Silence) (client : ClientView) (old new : Terminal S)
+      → MayPaint silence client old new → IsFollowed contents came screens old old.telling
+      → IsFollowed contents came (screens ++ (shown_of client).screen ∷ []) new new.telling
+  painted_followed came screens silence client old new (painted p) h =
+      let bare : old.telling ≡ None = untold_is old.telling p.untold in
+      let now : new.telling ≡ None = ap (λ t. t.telling) p.others ∙ bare in
+      subst (IsFollowed contents came (screens ++ (shown_of client).screen ∷ []) new) (sym now)
+      (paints_led came screens silence client old new p (subst (IsFollowed contents came screens old) bare h))
+  painted_followed came screens silence client old new (was_told p) h =
+      subst (IsFollowed contents came (screens ++ (shown_of client).screen ∷ []) new) (sym (ap (λ t. t.telling) p.tells.is))
+      (told_all remaining contents came screens silence.moment client old p.mid new p.before p.noted p.over p.others p.tells
+      (subst (IsFollowed contents came screens old) p.was h))
+  painted_followed came screens silence client old new (not_ready not_is to) h =
+      subst (λ t. IsFollowed contents came (screens ++ (shown_of client).screen ∷ []) t t.telling) (sym to)
+      (subst (λ c. IsFollowed contents c (screens ++ (shown_of client).screen ∷ []) old old.telling) (append-nil came)
+      (followed_more came [] screens ((shown_of client).screen ∷ []) old old.telling h))
 
   -- ---- what waits is written
 
-  tells_stays : (silence : Silence) (old new : Terminal S) → TellsSilence silence old new → Stays old new
-  tells_stays silence old new (is_told_over h is) =
-      lost [] (ap (λ t. t.waiting) is ∙ sym (append-nil old.waiting)) (ap (λ t. t.outer) is)
-  tells_stays silence old new (is_told_more seconds h due empty bare here is) =
-      lost (notice_of seconds) (ap (λ t. t.waiting) is ∙ ap (λ w. w ++ notice_of seconds) (sym empty)) (ap (λ t. t.outer) is)
-  tells_stays silence old new (is_quiet h is) = same (ap (λ t. t.waiting) is) (ap (λ t. t.outer) is) (ap (λ t. t.over) is)
+  said_followed : (came : List S) (screens : List Screenshot) (seen : Silence) (old new : Terminal S) (t : TellingView)
+      → SaysSilence seen old new → IsToldAs contents came screens old t → IsToldAs contents came screens new t
+  said_followed came screens seen old new t (is_heard_again h empty here is) led =
+      told_on remaining contents came screens old new t t (records.Heard ∷ [])
+      (keeps_same old.stream new.stream (ap (λ t. t.stream) is)) (refl, λ told. refl, tt)
+      (ap (λ t. t.waiting) is ∙ (sym (append-nil (text_of records.Heard)) ∙ ap (λ w. w ++ texts_of (records.Heard ∷ [])) (sym empty)))
+      (inl (ap (λ t. t.outer) is)) refl (inl (refl, refl)) led
+  said_followed came screens seen old new t (is_silent seconds h due empty here is) led =
+      told_on remaining contents came screens old new t t (records.Silent seconds ∷ [])
+      (keeps_same old.stream new.stream (ap (λ t. t.stream) is)) (refl, λ told. refl, tt)
+      (ap (λ t. t.waiting) is
+      ∙ (sym (append-nil (text_of (records.Silent seconds)))
+      ∙ ap (λ w. w ++ texts_of (records.Silent seconds ∷ [])) (sym empty)))
+      (inl (ap (λ t. t.outer) is)) refl (inl (refl, refl)) led
+  said_followed came screens seen old new t (is_as_it_was is) led =
+      subst (λ x. IsToldAs contents came screens x t) (sym is) led
 
-  tells_stream : (silence : Silence) (old new : Terminal S) → TellsSilence silence old new → new.stream ≡ old.stream
-  tells_stream silence old new (is_told_over h is) = ap (λ t. t.stream) is
-  tells_stream silence old new (is_told_more seconds h due empty bare here is) = ap (λ t. t.stream) is
-  tells_stream silence old new (is_quiet h is) = ap (λ t. t.stream) is
+  said_telling : (seen : Silence) (old new : Terminal S) → SaysSilence seen old new → new.telling ≡ old.telling
+  said_telling seen old new (is_heard_again h empty here is) = ap (λ t. t.telling) is
+  said_telling seen old new (is_silent seconds h due empty here is) = ap (λ t. t.telling) is
+  said_telling seen old new (is_as_it_was is) = ap (λ t. t.telling) is
+
+  -- one that isn't told in records
+  bare_followed : (came : List S) (screens : List Screenshot) (old new : Terminal S) → is_some old.telling ≡ false
+      → new.telling ≡ old.telling → new.stream ≡ old.stream → Stays old new → IsFollowed contents came screens old old.telling
+      → IsFollowed contents came screens new new.telling
+  bare_followed came screens old new bare telling stream stays h =
+      let none : old.telling ≡ None = untold_is old.telling bare in
+      subst (IsFollowed contents came screens new) (sym (telling ∙ none))
+      (stays_led came screens old new (keeps_same old.stream new.stream stream) stays
+      (subst (IsFollowed contents came screens old) none h))
+
+  tells_followed : (came : List S) (screens : List Screenshot) (silence : Silence) (old new : Terminal S) → TellsSilence silence old new
+      → IsFollowed contents came screens old old.telling → IsFollowed contents came screens new new.telling
+  tells_followed came screens silence old new (is_told_over bare h is) led =
+      bare_followed came screens old new bare (ap (λ t. t.telling) is) (ap (λ t. t.stream) is)
+      (lost [] (ap (λ t. t.waiting) is ∙ sym (append-nil old.waiting)) (ap (λ t. t.outer) is)) led
+  tells_followed came screens silence old new (is_told_more seconds bare h due empty plain here is) led =
+      bare_followed came screens old new bare (ap (λ t. t.telling) is) (ap (λ t. t.stream) is)
+      (lost (notice_of seconds) (ap (λ t. t.waiting) is ∙ ap (λ w. w ++ notice_of seconds) (sym empty)) (ap (λ t. t.outer) is)) led
+  tells_followed came screens silence old new (is_quiet bare h is) led = same_followed came screens old new is led
+  tells_followed came screens silence old new (in_records is h) led =
+      subst (IsFollowed contents came screens new) (sym (said_telling _ old new h)) (by old.telling is led)
+    where
+      by : (o : Option TellingView) → is_some o ≡ true → IsFollowed contents came screens old o → IsFollowed contents came screens new o
+      by None none later = absurd cc
+      by (Some t) some later = said_followed came screens _ old new t h later
 
   flushed_led : (came : List S) (screens : List Screenshot) (now : ℕ) (old new : Terminal S) → Flushes remaining contents now old new
       → IsLed contents came screens old → IsLed contents came screens new
@@ -372,12 +542,21 @@ module _ {S : Type 0} (remaining contents : S → Option (List ℕ)) where
             (subst (λ o. LeadsAny screens h.since (on_show old.over o)) (sym outer) h.leads);
       }
 
-  settled_led : (came : List S) (screens : List Screenshot) (silence : Silence) (old new : Terminal S)
-      → Settles remaining contents silence old new → IsLed contents came screens old → IsLed contents came screens new
-  settled_led came screens silence old new s h =
-      flushed_led came screens silence.moment s.told new s.flushes
-      (stays_led came screens old s.told (keeps_same old.stream s.told.stream (tells_stream silence old s.told s.tells))
-      (tells_stays silence old s.told s.tells) h)
+  flushed_followed : (came : List S) (screens : List Screenshot) (now : ℕ) (old new : Terminal S)
+      → Flushes remaining contents now old new → IsFollowed contents came screens old old.telling
+      → IsFollowed contents came screens new new.telling
+  flushed_followed came screens now old new f h =
+      subst (IsFollowed contents came screens new) (sym (ap (λ t. t.telling) f.others)) (by old.telling h)
+    where
+      by : (o : Option TellingView) → IsFollowed contents came screens old o → IsFollowed contents came screens new o
+      by None led = flushed_led came screens now old new f led
+      by (Some t) led = told_flushed remaining contents came screens now old new t f led
+
+  settled_followed : (came : List S) (screens : List Screenshot) (silence : Silence) (old new : Terminal S)
+      → Settles remaining contents silence old new → IsFollowed contents came screens old old.telling
+      → IsFollowed contents came screens new new.telling
+  settled_followed came screens silence old new s h =
+      flushed_followed came screens silence.moment s.told new s.flushes (tells_followed came screens silence old s.told s.tells h)
 
   -- ---- all of them
 
@@ -385,7 +564,7 @@ module _ {S : Type 0} (remaining contents : S → Option (List ℕ)) where
       → AreLed contents (came ++ more) (screens ++ extra) all
   all_more came more screens extra [] h = tt
   all_more came more screens extra (t ∷ all) h =
-      (led_more came more screens extra t h.0, all_more came more screens extra all h.1)
+      (followed_more came more screens extra t t.telling h.0, all_more came more screens extra all h.1)
 
   both_led : (came : List S) (screens : List Screenshot) (xs ys : List (Terminal S)) → AreLed contents came screens xs
       → AreLed contents came screens ys → AreLed contents came screens (xs ++ ys)
@@ -398,7 +577,7 @@ module _ {S : Type 0} (remaining contents : S → Option (List ℕ)) where
   all_heard came screens [] (t ∷ new) client client' ending h led = absurd h
   all_heard came screens (t ∷ old) [] client client' ending h led = absurd h
   all_heard came screens (t ∷ old) (t' ∷ new) client client' ending h led =
-      (heard_led came screens h.1 t t' client h.0 h.3 led.0, all_heard came screens old new h.0 client' h.2 h.4 led.1)
+      (heard_followed came screens h.1 t t' client h.0 h.3 led.0, all_heard came screens old new h.0 client' h.2 h.4 led.1)
 
   all_painted : (came : List S) (screens : List Screenshot) (silence : Silence) (client : ClientView) (old new : List (Terminal S))
       → AreEach (MayPaint silence client) old new → AreLed contents came screens old
@@ -407,7 +586,7 @@ module _ {S : Type 0} (remaining contents : S → Option (List ℕ)) where
   all_painted came screens silence client [] (t ∷ new) h led = absurd h
   all_painted came screens silence client (t ∷ old) [] h led = absurd h
   all_painted came screens silence client (t ∷ old) (t' ∷ new) h led =
-      (painted_led came screens silence client t t' h.0 led.0, all_painted came screens silence client old new h.1 led.1)
+      (painted_followed came screens silence client t t' h.0 led.0, all_painted came screens silence client old new h.1 led.1)
 
   all_settled : (came : List S) (screens : List Screenshot) (silence : Silence) (old new : List (Terminal S))
       → AreEach (Settles remaining contents silence) old new → AreLed contents came screens old → AreLed contents came screens new
@@ -415,9 +594,10 @@ module _ {S : Type 0} (remaining contents : S → Option (List ℕ)) where
   all_settled came screens silence [] (t ∷ new) h led = absurd h
   all_settled came screens silence (t ∷ old) [] h led = absurd h
   all_settled came screens silence (t ∷ old) (t' ∷ new) h led =
-      (settled_led came screens silence t t' h.0 led.0, all_settled came screens silence old new h.1 led.1)
+      (settled_followed came screens silence t t' h.0 led.0, all_settled came screens silence old new h.1 led.1)
 
-  if_led : (b : Bool) (came : List S) (screens : List Screenshot) (t : Terminal S) (all : List (Terminal S)) → IsLed contents came screens t
+  if_led : (b : Bool) (came : List S) (screens : List Screenshot) (t : Terminal S) (all : List (Terminal S))
+      → IsFollowed contents came screens t t.telling
       → AreLed contents came screens all → AreLed contents came screens (if b then t ∷ all else all)
   if_led true came screens t all h k = (h, k)
   if_led false came screens t all h k = k
@@ -458,8 +638,11 @@ module _ {S : Type 0} (remaining contents : S → Option (List ℕ)) where
         let comes : Comes stream old new = h.1 in
         let first = all_more came (stream ∷ []) screens (screen ∷ []) old.all led in
         subst (AreLed contents (came ++ stream ∷ []) (screens ++ screen ∷ [])) (sym (ap (λ s. s.all) comes.all))
-        (both_led (came ++ stream ∷ []) (screens ++ screen ∷ []) old.all (comes.terminal ∷ []) first
-        (came_led came (screens ++ screen ∷ []) stream comes.terminal comes.is comes.fresh, tt))
+        (both_led (came ++ stream ∷ []) (screens ++ screen ∷ []) old.all (comes.terminal ∷ []) first (
+          subst (IsFollowed contents (came ++ stream ∷ []) (screens ++ screen ∷ []) comes.terminal) (sym comes.fresh.untold)
+              (came_led came (screens ++ screen ∷ []) stream comes.terminal comes.is comes.fresh),
+          tt,
+        ))
     step_led came screens (Took silence) calls calls' old new h led =
         let screen = new.client.kept.receiver.newest.state in
         let heard = all_heard came screens old.all h.heard old.client h.client h.ending h.hears led in

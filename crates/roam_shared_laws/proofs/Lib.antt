@@ -1,2 +1,4 @@
 mod Leading
 mod Accounts
+mod Lists
+mod Records

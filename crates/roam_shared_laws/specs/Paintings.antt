@@ -2,7 +2,14 @@
 use Rattle.std.specs.Prelude.{◌≡◌, ◌⊎◌, ℕ, List, [], ◌∷◌, ◌++◌, Option, Some, None}
 use Rattle.std.specs.Io.KnownBytes.{Appends}
 use Rattle.roam_hub.specs.declared.addresses.Addr.{Addr}
+use Rattle.roam_overlay.specs.Overlays.{OverlayOf, laid_over}
+use Rattle.roam_parts.specs.Parts.{part_of}
+use Rattle.roam_parts.specs.declared.parts.Part.{Part}
+use Rattle.roam_records.specs.declared.records.Record.{Record}
 use Rattle.roam_screens.specs.Screenshot.{Screenshot}
+use Rattle.roam_telling.specs.Leading.{IsSaid}
+use Rattle.roam_telling.specs.Saying.{texts_of}
+use Rattle.roam_telling.specs.Telling.{TellingView}
 use Rattle.roam_text.specs.Log.{Item}
 use Rattle.roam_turns.specs.Calls.{PortCall}
 use Rattle.roam_turns.specs.Painting.{DisplaysNoted, Fits, ShowsAt}
@@ -58,9 +65,44 @@ pub record IsLed {S : Type 0} (contents : S → Option (List ℕ)) (came : List 
   pub parts : written ++ t.waiting ≡ before ++ since
   pub leads : LeadsAny screens since (on_show t.over t.outer)
 
+-- ---- in records
+
+-- a screen that was shown, with what was guessed over it or without
+abbrev pub IsLaidOf : List Screenshot → Screenshot → Type 0
+IsLaidOf screens s =
+    (base : Screenshot) × IsOneOf base screens
+    × ((s ≡ base) ⊎ ((overlay : OverlayOf) × (now : ℕ) × (s ≡ laid_over overlay base now)))
+
+-- what a terminal is to show is a part of such a screen, but for what is masked
+abbrev pub IsPartOf : List Screenshot → List Part → Option Screenshot → Type 0
+IsPartOf screens masks None = Unit {0}
+IsPartOf screens masks (Some view) = (part : Part) × (s : Screenshot) × IsLaidOf screens s × (view ≡ part_of part masks s)
+
+-- A terminal that asked for records and came at the other end of one of these streams: what is noted of it is one of the screens that were
+-- shown; what it was written and what waits for it are what was before records began, and then records; the paintings among them, since it
+-- was last painted anew, lead any terminal that has each size which was told to what it is to show, of which the size was told last; and that
+-- is a part of one of these screens with what was guessed over it.
+pub record IsToldAs {S : Type 0} (contents : S → Option (List ℕ)) (came : List S) (screens : List Screenshot) (t : Terminal S)
+    (telling : TellingView) : Type 0 where
+  pub stream : S
+  pub is : IsOneOf stream came
+  pub noted : IsNotedOf screens t.outer
+  pub written : List ℕ
+  pub appended : Appends (contents stream) (contents t.stream) written
+  pub before : List ℕ
+  pub said : List Record
+  pub parts : written ++ t.waiting ≡ before ++ texts_of said
+  pub leads : IsSaid said telling
+  pub shows : IsPartOf screens telling.masks telling.view
+
+-- so it is of a terminal that asked for records, and of one that didn't
+abbrev pub IsFollowed : {S : Type 0} → (S → Option (List ℕ)) → List S → List Screenshot → Terminal S → Option TellingView → Type 0
+IsFollowed contents came screens t None = IsLed contents came screens t
+IsFollowed contents came screens t (Some telling) = IsToldAs contents came screens t telling
+
 abbrev pub AreLed : {S : Type 0} → (S → Option (List ℕ)) → List S → List Screenshot → List (Terminal S) → Type 0
 AreLed contents came screens [] = Unit {0}
-AreLed contents came screens (t ∷ all) = IsLed contents came screens t × AreLed contents came screens all
+AreLed contents came screens (t ∷ all) = IsFollowed contents came screens t t.telling × AreLed contents came screens all
 
 -- ---- the law
 

@@ -4,4 +4,4 @@ mod Joined
 pub mod Showing
 pub mod Taking
 pub mod Written
-mod Said
+pub mod Said
