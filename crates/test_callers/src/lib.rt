@@ -30,6 +30,7 @@ pub mod show;
 pub mod simulation;
 pub mod sockets;
 pub mod sync;
+pub mod telling;
 pub mod terminals;
 pub mod text;
 pub mod typing;

@@ -214,12 +214,66 @@ round
 acts 3
 terminals 1";
 
+/// A terminal that asks for records is told in them, behind what was painted before: which of its lines are taken, and what of the screen is
+/// shown, of which size and from where on, opened anew where it isn't known what the terminal shows. A line whose acts aren't acknowledged
+/// is told to nobody, and one that is refused is told by its number. Only the second line may say that it watches, and none but the first
+/// asks for records; a terminal that doesn't is refused what is told in records alone.
+const TOLD: &str = "\
+first connects told/terminals
+second connects told/terminals
+round
+first reads \x1Bc\x1B[?25l\x1B[0m\x1B[1;1H\x1B[?25h
+second reads \x1Bc\x1B[?25l\x1B[0m\x1B[1;1H\x1B[?25h
+first types told/
+round
+first reads /told/
+round
+first reads taken 1/size 24 80/anew 24/\x1Bc\x1B[?25l\x1B[0m\x1B[1;1H\x1B[?25h
+first types part 2 4/
+round
+first reads taken 2/size 2 4/part 0 0/anew 24/\x1Bc\x1B[?25l\x1B[0m\x1B[1;1H\x1B[?25h
+first types mask 0 0 1 4/
+round
+first reads taken 3/anew 24/\x1Bc\x1B[?25l\x1B[0m\x1B[1;1H\x1B[?25h
+first types repaint/
+round
+first reads taken 4/anew 24/\x1Bc\x1B[?25l\x1B[0m\x1B[1;1H\x1B[?25h
+first types char 61/
+round
+acts 1
+first waits
+first types told/
+round
+first reads refused 6 bad act/
+first is let go
+second types look/
+round
+second reads \r/roam: line 1: bad act\r/
+second is let go
+first connects told/terminals
+round
+first reads \x1Bc\x1B[?25l\x1B[0m\x1B[1;1H\x1B[?25h
+first types told/watch/char 61/
+round
+first reads /told/
+round
+first reads taken 2/size 24 80/anew 24/\x1Bc\x1B[?25l\x1B[0m\x1B[1;1H\x1B[?25h
+round
+first reads taken 3/
+acts 1
+first types watch/
+round
+first reads refused 4 bad act/
+first is let go
+terminals 0";
+
 #[test]
 fn terminals_share_a_start(rt: HostRuntime) -> Result<(), Fail> {
     let stories = [
         ("shared", "shared/terminals", LINES),
         ("many", "many/terminals", MANY),
         ("pasted", "pasted/terminals", PASTED),
+        ("told", "told/terminals", TOLD),
     ];
     for (folder, path, lines) in stories {
         create_dir(&rt, folder)?;
