@@ -1,11 +1,14 @@
 -- What is read of a stream and written to it, piece after piece.
-use Rattle.std.proofs.Common.{◌≡◌, ℕ, ◌+◌, Bool, true, false, List, [], ◌∷◌, ◌++◌, take, drop, Option, Some, None, inl, inr, sym, ap, ◌∙◌, refl, append_assoc, append-nil, subst, arith}
-use Rattle.std.specs.Prelude.{◌⊎◌, IsErr}
+use Rattle.std.proofs.Common.{◌≡◌, ℕ, ◌+◌, Bool, true, false, List, [], ◌∷◌, ◌++◌, length, ◌<◌, ◌≤◌, take, drop, Option, Some, None, inl, inr, sym, ap, ◌∙◌, refl, append_assoc, append-nil, subst, arith, rules}
+use Rattle.std.specs.Prelude.{◌⊎◌, IsErr, IsOk, Ok, Err}
 use Rattle.std.proofs.KnownBytes.{Appends-kept, Appends-nil, Appends-trans, Consumes-nil, Consumes-trans}
 use Rattle.std.proofs.lemmas.List.{drop-drop, drop-take, take-append-drop}
 use Rattle.std.proofs.lemmas.Grind.{common_steps}
 use Rattle.std.specs.Io.KnownBytes.{Appends, Consumes, Keeps}
-use Rattle.roam_frames.specs.Carriers.{Came, IsGiven, Receives, Writes}
+use Rattle.std.proofs.lemmas.Bool.Decides.{nat_tests}
+use Rattle.roam_frames.specs.Carriers.{Came, HasReadAll, IsGiven, Receives, Writes}
+use Rattle.roam_frames.specs.Frames.{front_of}
+use Rattle.roam_frames.specs.declared.frames.Front.TheVariants.{Part}
 use Rattle.roam_frames.specs.Streams.{Answer, Answered, Asks, HasAnswered, HasStopped}
 
 pub kept_none : (known : Option (List ℕ)) (old : List ℕ) → Came known known old old
@@ -139,3 +142,25 @@ asks_more Ends before mid after was had is p q = record {
     })
   ];
 }
+
+-- ---- until no more comes
+
+one_more : (k n : ℕ) → k < n → k + 1 ≤ n
+one_more k n lt = omega arith
+
+-- so many bytes are more than a datagram and its length
+pub long_is_no_part : (kept : List ℕ) → 1244 ≤ length kept → front_of kept ≡ Part → ⊥
+long_is_no_part kept long part = grind (arith, nat_tests)
+
+pub all_read_more : (over : Bool) (kept : List ℕ) (before mid after : Option (List Answer)) (first : List Answer) → Answered before mid first
+    → HasReadAll over kept mid after → HasReadAll over kept before after
+all_read_more over kept before mid after first p stopped = elim stopped [
+  | inl is ↦ inl is
+  | inr other ↦ inr (elim other [ inl whole ↦ inl whole | inr by ↦ inr (has_more IsErr before mid after first p by) ])
+]
+
+-- an answer that brought nothing to keep has ended the stream, or is a failure
+pub stopped_by : (over result : Bool) (before after : Option (List Answer)) (answer : Answer) → Answered before after (answer ∷ [])
+    → (IsOk answer × (result ≡ false) → over ≡ true) → result ≡ false → (over ≡ true) ⊎ HasAnswered IsErr before after
+stopped_by over result before after (Ok n) answered lost none = inl (lost (search rules, none))
+stopped_by over result before after (Err error) answered lost none = inr (has_one IsErr before after (Err error) answered (search rules))

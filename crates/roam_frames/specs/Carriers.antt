@@ -1,5 +1,5 @@
 -- One end of a stream that carries datagrams: what is read of it, and what is written.
-use Rattle.std.specs.Prelude.{◌≡◌, ◌⊎◌, ℕ, Bool, true, List, ◌++◌, take, drop, Option, Some, None}
+use Rattle.std.specs.Prelude.{◌≡◌, ◌⊎◌, ℕ, Bool, true, List, ◌++◌, take, drop, Option, Some, None, IsErr}
 use Rattle.std.specs.Io.KnownBytes.{Appends, Consumes}
 use Rattle.roam_frames.specs.declared.frames.Front.TheVariants.{Part, Spoiled}
 use Rattle.roam_frames.specs.Frames.{Gives, front_of}
@@ -32,3 +32,7 @@ pub record Writes (before after : Option (List ℕ)) (old new : List ℕ) : Type
 -- brought what there was no memory for.
 abbrev pub IsOverByReads : Bool → List ℕ → Option (List Answer) → Option (List Answer) → Type 0
 IsOverByReads was kept before after = (was ≡ true) ⊎ ((front_of kept ≡ Spoiled) ⊎ HasAnswered MayEndReading before after)
+
+-- Why no more is read of a stream: it is over; something else than the beginning of a datagram stands first; or a read has failed.
+abbrev pub HasReadAll : Bool → List ℕ → Option (List Answer) → Option (List Answer) → Type 0
+HasReadAll over kept before after = (over ≡ true) ⊎ ((front_of kept ≡ Part → ⊥) ⊎ HasAnswered IsErr before after)

@@ -2,7 +2,7 @@
 ghost use Rattle.std.specs.Prelude.{◌≡◌, ◌⊎◌, ◌↔◌, ◌++◌, ◌<◌, ◌≤◌, ℕ, List, [], IsTrue, true, false, length, drop, None, Some, IfSome, IsOk, IsErr, IfOk, IfErr};
 ghost use Rattle.std.specs.Io.KnownBytes.{Consumes};
 ghost use Rattle.roam_faults.specs.Streams.{IsStreamEnd};
-ghost use Rattle.roam_frames.specs.Carriers.{Came, IsGiven, IsOverByReads, Receives, Writes};
+ghost use Rattle.roam_frames.specs.Carriers.{Came, HasReadAll, IsGiven, IsOverByReads, Receives, Writes};
 ghost use Rattle.roam_frames.specs.Frames.{front_of};
 ghost use Rattle.roam_frames.specs.Streams.{Asks, HasAnswered, HasStopped, MayEndReading, bytes_of};
 ghost use Rattle.roam_frames.specs.Queues.{IsLost, IsQueued, nothing_queued};
@@ -84,6 +84,9 @@ impl<S: Stream> Carrier<S> {
             self.old.frames self.new.frames }
         ensures asks { Asks MayEndReading (S.answers self.old.stream) (S.answers self.new.stream) self.old.over self.new.over }
         ensures none { result ≡ false → self.new.frames ≡ self.old.frames }
+        ensures more { result ≡ true → length self.old.frames < length self.new.frames }
+        ensures stops { result ≡ false → (self.new.over ≡ true) ⊎ HasAnswered IsErr (S.answers self.old.stream)
+            (S.answers self.new.stream) }
         ensures queue { self.new.queue ≡ self.old.queue }
     {
         let mut piece = [0u8; PIECE];
@@ -96,6 +99,9 @@ impl<S: Stream> Carrier<S> {
         ensures came { self.new.over ≡ false → Came (S.remaining self.old.stream) (S.remaining self.new.stream)
             self.old.frames self.new.frames }
         ensures asks { Asks MayEndReading (S.answers self.old.stream) (S.answers self.new.stream) self.old.over self.new.over }
+        ensures more { result ≡ true → length self.old.frames < length self.new.frames }
+        ensures stops { result ≡ false → HasReadAll self.new.over self.new.frames
+            (S.answers self.old.stream) (S.answers self.new.stream) }
         ensures queue { self.new.queue ≡ self.old.queue }
     {
         match self.frames.front() {
@@ -109,6 +115,7 @@ impl<S: Stream> Carrier<S> {
         ensures came { self.new.over ≡ false → Came (S.remaining self.old.stream) (S.remaining self.new.stream)
             self.old.frames self.new.frames }
         ensures asks { Asks MayEndReading (S.answers self.old.stream) (S.answers self.new.stream) self.old.over self.new.over }
+        ensures stops { HasReadAll self.new.over self.new.frames (S.answers self.old.stream) (S.answers self.new.stream) }
         ensures queue { self.new.queue ≡ self.old.queue }
     {
         for _ in 0..MOST_READS {
@@ -143,6 +150,9 @@ impl<S: Stream> Carrier<S> {
     pub fn receive(&mut self, buf: &mut [u8]) -> Option<usize>
         ensures receives { self.new.over ≡ false → Receives (S.remaining self.old.stream) (S.remaining self.new.stream)
             self.old.frames self.new.frames result buf.new }
+        // Nothing is given only where the stream is over or a read of it failed: who waits for it misses nothing that came.
+        ensures none { result ≡ None → (self.new.over ≡ true) ⊎ HasAnswered IsErr (S.answers self.old.stream)
+            (S.answers self.new.stream) }
         ensures within { IfSome result (λ n. n ≤ length buf.new) }
         ensures over { self.new.over ≡ true → IsOverByReads self.old.over self.new.frames
             (S.answers self.old.stream) (S.answers self.new.stream) }
@@ -153,10 +163,11 @@ impl<S: Stream> Carrier<S> {
         self.give(buf)
     }
 
-    /// Queues a datagram to be written, and tells whether it did.
+    /// Queues a datagram to be written, and tells whether it did; where the stream is over none is.
     pub fn send(&mut self, datagram: &[u8]) -> bool
         ensures queued { result ≡ true → IsQueued self.old.queue datagram.now self.new.queue }
-        ensures lost { result ≡ false → IsLost self.old.queue self.new.queue ⊎ (self.new ≡ self.old) }
+        ensures open { result ≡ true → self.old.over ≡ false }
+        ensures lost { result ≡ false → IsLost self.old.queue self.new.queue ⊎ ((self.old.over ≡ true) × (self.new ≡ self.old)) }
         ensures others { self.new ≡ record self.old { queue = self.new.queue } }
     {
         !self.over && self.queue.push(datagram)
