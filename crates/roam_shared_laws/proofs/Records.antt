@@ -182,7 +182,7 @@ follows_screen screens screen said more old new laid h tells = record {
   where
     by : Tells screen more old new → IsPartOf screens new.masks new.view
     by (no_screen none same) = subst (λ t. IsPartOf screens t.masks t.view) (sym same) h.shows
-    by (a_screen part view text part_is view_is leads is to) =
+    by (a_screen part view text part_is view_is leads still is to) =
         subst (λ t. IsPartOf screens t.masks t.view) (sym to) (part, screen, laid, view_is)
 
 laid_over_noted : (screens : List Screenshot) (now : ℕ) (guessing : Option OverlayOf) (noted : Noted) (over : Option Screenshot)

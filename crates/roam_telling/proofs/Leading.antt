@@ -224,7 +224,7 @@ said_same said old new same h = subst (λ l. IsSaid l new) (sym (append-nil said
 pub tells_on : TellsOn
 tells_on screen said more old new h (nothing none same) =
     subst (λ l. IsSaid (said ++ l) new) (sym none) (said_same said old new same h)
-tells_on screen said more old new h (shown part view text part_is view_is leads is to) =
+tells_on screen said more old new h (shown part view text part_is view_is leads still is to) =
     subst (λ l. IsSaid (said ++ l) new) (sym is) (by old.view refl)
   where
     by : (v : Option Screenshot) → old.view ≡ v → IsSaid (said ++ More said old view (place_told old.scope part) text) new

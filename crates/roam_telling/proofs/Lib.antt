@@ -1,2 +1,3 @@
 mod Found
 pub mod Leading
+mod Masking

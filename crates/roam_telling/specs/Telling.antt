@@ -1,6 +1,7 @@
 -- What a terminal is told in records, and what is kept of it (this project's profile).
 use Rattle.std.specs.Borrow.{Bor}
 use Rattle.std.specs.Prelude.{◌≡◌, ℕ, Bool, true, false, ◌&&◌, ◌==◌, List, [], ◌∷◌, ◌++◌, length, Option, Some, None, nat_lt, if◌then◌else◌}
+use Rattle.roam_paint.specs.Painting.{text_between}
 use Rattle.roam_parts.specs.Parts.{part_of}
 use Rattle.roam_parts.specs.declared.parts.Part.{Part}
 use Rattle.roam_records.specs.Looks.{screen_text}
@@ -63,6 +64,12 @@ abbrev pub LeadsFrom : Option Screenshot → List ℕ → Screenshot → Type 0
 LeadsFrom None text s = ShowsSized None text s
 LeadsFrom (Some old) text s = Leads old s text
 
+-- where cells are masked the text writes each place that differs, and no other
+abbrev pub IsStill : List Part → Option Screenshot → List ℕ → Screenshot → Type 0
+IsStill [] before text s = Unit {0}
+IsStill (mask ∷ masks) None text s = Unit {0}
+IsStill (mask ∷ masks) (Some old) text s = text ≡ text_between old s
+
 -- two numbers were told last
 abbrev pub is_told : Option (ℕ × ℕ) → ℕ → ℕ → Bool
 is_told None first second = false
@@ -87,7 +94,7 @@ painting_said (Some before) text = Paint text
 pub data Tells (screen : Screenshot) (said : List Record) (old new : TellingView) : Type 0 where
   nothing : said ≡ [] → new ≡ old → Tells screen said old new
   shown : (part : Part) (view : Screenshot) (text : Bor (List ℕ)) → part ≡ part_for old.scope screen
-      → view ≡ part_of part old.masks screen → LeadsFrom old.view text.now view
+      → view ≡ part_of part old.masks screen → LeadsFrom old.view text.now view → IsStill old.masks old.view text.now view
       → said
       ≡ sizes_said old.sized view
       ++ (places_said old.placed (place_told old.scope part) ++ painting_said old.view text ∷ [])

@@ -1,5 +1,8 @@
 //! Laws of the definitions, each the contract of a function that does nothing when it runs.
 ghost use Rattle.roam_telling.specs.Leading.{BeginsSaid, QuietOn, TellsOn};
+ghost use Rattle.roam_telling.specs.Masking.{MaskedCellsStay};
+
+use roam_scroll_paint::laws::paint_leads;
 
 /// Where records begin nothing is said, and nothing is known of what the terminal shows.
 pub fn begins_said()
@@ -10,6 +13,13 @@ pub fn begins_said()
 pub fn tells_on()
     ensures on { TellsOn }
 {}
+
+/// A terminal that is painted round masked cells shows in them what it showed.
+pub fn masked_cells_stay()
+    ensures stay { MaskedCellsStay }
+{
+    paint_leads();
+}
 
 /// So it does once anything is said that paints nothing.
 pub fn quiet_on()

@@ -1,11 +1,13 @@
 //! What leads a terminal from what it shows to another part of a screen.
 ghost use Rattle.std.specs.Prelude.{◌≡◌, [], ◌∷◌, IfOk, IfSome, Some, None};
 ghost use Rattle.roam_scroll_paint.specs.Leads.{Leads};
-ghost use Rattle.roam_telling.specs.Telling.{LeadsFrom};
+ghost use Rattle.roam_telling.specs.Telling.{IsStill, LeadsFrom};
+ghost use Rattle.roam_paint.specs.Painting.{text_between};
 ghost use Rattle.roam_turns.specs.Painting.{ShowsSized};
 
 use roam_cells::{Fault, are_same_cells};
 use roam_paint::paint;
+use roam_parts::Part;
 use roam_screens::{RowShot, Seen, Shown};
 use roam_scroll_paint::laws::paint_leads;
 use roam_scroll_paint::paint_moved;
@@ -35,6 +37,7 @@ fn moving(alloc: Global, before: &RowShot, view: &RowShot) -> Result<Vec<u8>, Fa
 // A text that leads from one screen to another and writes each place that differs, and no other.
 fn standing(alloc: Global, before: &RowShot, view: &RowShot) -> Result<Vec<u8>, Fault>
     ensures leads { IfOk result (λ text. Leads before.now view.now text.items) }
+    ensures still { IfOk result (λ text. text.items ≡ text_between before.now view.now) }
 {
     paint_leads();
     view.facts();
@@ -43,19 +46,20 @@ fn standing(alloc: Global, before: &RowShot, view: &RowShot) -> Result<Vec<u8>, 
     Ok(text)
 }
 
-/// A text that leads a terminal from what it shows, where that is known, to another screen; where no row may be moved each place that differs
-/// is written, and no other. Refuses want of memory.
+/// A text that leads a terminal from what it shows, where that is known, to another screen; where cells are masked no row is moved: each place
+/// that differs is written, and no other. Refuses want of memory.
 pub(crate) fn text_to(
     alloc: Global,
     before: &Option<RowShot>,
-    may_move: bool,
+    masks: &[Part],
     view: &RowShot,
 ) -> Result<Vec<u8>, Fault>
     ensures leads { IfOk result (λ text. LeadsFrom before.now text.items view.now) }
+    ensures still { IfOk result (λ text. IsStill masks.now before.now text.items view.now) }
 {
     match before {
         None => opening(alloc, view),
-        Some(before) if may_move => moving(alloc, before, view),
+        Some(before) if masks.is_empty() => moving(alloc, before, view),
         Some(before) => standing(alloc, before, view),
     }
 }

@@ -7,7 +7,7 @@ ghost use Rattle.roam_records.specs.Taken.{took};
 ghost use Rattle.roam_records.specs.declared.records.Record.{Record as RecordOf};
 ghost use Rattle.roam_telling.specs.Saying.{texts_of};
 ghost use Rattle.roam_telling.specs.Scopes.{part_for, place_told, scope_after};
-ghost use Rattle.roam_telling.specs.Telling.{LeadsFrom, Tells, TellsLook, TellsTaken, has_room_for, is_told, nothing_told, painting_said, places_said, shown_so, sizes_said};
+ghost use Rattle.roam_telling.specs.Telling.{IsStill, LeadsFrom, Tells, TellsLook, TellsTaken, has_room_for, is_told, nothing_told, painting_said, places_said, shown_so, sizes_said};
 
 use crate::painting::{is_other, text_to};
 use crate::saying::say;
@@ -235,7 +235,7 @@ impl Telling {
     // What is to be told of a screen; none where nothing is new. Refuses want of memory.
     fn painting(&self, alloc: Global, shot: &RowShot) -> Result<Option<Painting>, Fault>
         ensures painting { IfOk result (λ found. IfSome found (λ p. (text : Bor (List ℕ)) × (p.part ≡ part_for self.now.scope shot.now)
-            × (p.view ≡ part_in p.part self.now.masks shot.now) × LeadsFrom self.now.view text.now p.view
+            × (p.view ≡ part_in p.part self.now.masks shot.now) × LeadsFrom self.now.view text.now p.view × IsStill self.now.masks self.now.view text.now p.view
             × (p.text.items ≡ texts_of (sizes_said self.now.sized p.view
             ++ (places_said self.now.placed (place_told self.now.scope p.part) ++ painting_said self.now.view text ∷ []))))) }
     {
@@ -247,7 +247,7 @@ impl Telling {
         if text.is_empty() && !is_other(&self.view, &view) {
             return Ok(None);
         }
-        let bytes = text_to(alloc, &self.view, self.masks.is_empty(), &view)?;
+        let bytes = text_to(alloc, &self.view, &self.masks, &view)?;
         push_painting(alloc, &mut text, &self.view, &bytes)?;
         Ok(Some(Painting { text, part, view }))
     }

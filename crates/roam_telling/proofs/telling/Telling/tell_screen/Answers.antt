@@ -13,7 +13,7 @@ returns-then-is_ok c =
       tells = (
         sizes_said old.sized c.in-Ok-Some.painting.view
             ++ (places_said old.placed (place_told old.scope c.in-Ok-Some.painting.part) ++ painting_said old.view is.0 ∷ []),
-        shown c.in-Ok-Some.painting.part c.in-Ok-Some.painting.view is.0 is.1 is.2 is.3 refl (search rules),
+        shown c.in-Ok-Some.painting.part c.in-Ok-Some.painting.view is.0 is.1 is.2 is.3 is.4 refl (search rules),
         search rules,
       );
     }
