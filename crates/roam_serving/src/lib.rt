@@ -3,6 +3,7 @@
 
 mod closing;
 mod following;
+mod inflows;
 mod panes;
 mod peers;
 mod programs;
@@ -10,6 +11,7 @@ mod refused;
 mod seats;
 mod server_ports;
 mod serving;
+mod sieves;
 
 pub use refused::tell_unbound;
 pub use server_ports::{OwnStart, ServerPorts};

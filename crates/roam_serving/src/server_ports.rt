@@ -1,5 +1,5 @@
 //! The ports of a server over sockets. What they carried isn't told.
-ghost use Rattle.std.specs.Prelude.{◌≡◌, ◌≢◌, ◌⊎◌, ◌<◌, ◌≤◌, [], ℕ, true, false, not, length, map, string_bytes, is_some, nat_lt, None, IfOk, IfSome, IfErr};
+ghost use Rattle.std.specs.Prelude.{◌≡◌, ◌≢◌, ◌⊎◌, ◌<◌, ◌≤◌, [], ℕ, List, true, false, not, length, map, string_bytes, is_some, nat_lt, None, Some, IfOk, IfSome, IfErr};
 ghost use Rattle.std.specs.List.{All};
 ghost use Rattle.std.specs.Option.{option_map};
 ghost use Rattle.roam_sockets.specs.Addresses.{number_of};
@@ -12,7 +12,9 @@ ghost use Rattle.roam_serving.specs.Following.{AreAllTold, HaveCome, most_taken,
 ghost use Rattle.roam_serving.specs.Rests.{SendsBy, is_paced};
 ghost use Rattle.roam_serving.specs.declared.closing.Closer.{Closer as CloserOf};
 ghost use Rattle.roam_serving.specs.Panes.{IsPortOf, clients_path, paths_of};
-ghost use Rattle.roam_serving.specs.Peers.{Asks, Changes, Lives};
+ghost use Rattle.roam_serving.specs.Inflows.{IsFreshInflow};
+ghost use Rattle.roam_serving.specs.Peers.{Asks, Changes, Hears, Lives};
+ghost use Rattle.roam_serving.specs.Sieves.{bytes_given};
 
 use crate::closing::{Closer, OWN};
 use crate::following::Followers;
@@ -146,7 +148,8 @@ fn next_arrival(
 impl<R: Clock + Drop> ServerPorts<R> {
     /// Binds in a folder the sockets `p1` to `p9`, of panes that aren't there yet, `panes`, where a program follows them, and `clients`,
     /// for client starts; and where it is asked for a port of this machine, any that is free where it is 0. `Bind` where one can't be
-    /// bound, or the folder has no name; `OutOfMemory`; then nothing stays.
+    /// bound, or the folder has no name; `OutOfMemory`; then nothing stays. What panes' programs write goes on as it comes, or as it is
+    /// meant.
     pub fn bind<N: Files + Net>(
         rt: &N,
         alloc: Global,
@@ -154,11 +157,13 @@ impl<R: Clock + Drop> ServerPorts<R> {
         port: Option<u16>,
         moments: Moments<R>,
         own: OwnStart,
+        as_meant: bool,
     ) -> Result<ServerPorts<R>, RunFault>
         ensures moments { IfOk result (λ ports. ports.moments ≡ moments) }
         ensures port { IfOk result (λ ports. IsPortOf port ports.udp) }
         ensures nine { IfOk result (λ ports. length ports.panes.all.items ≡ 9) }
         ensures none { IfOk result (λ ports. All (λ pane. pane.making ≡ None) ports.panes.all.items) }
+        ensures fresh { IfOk result (λ ports. All (λ pane. IsFreshInflow pane.inflow as_meant) ports.panes.all.items) }
         ensures named { IfOk result (λ _. folder.now ≢ []) }
         ensures paths { IfOk result (λ ports. map (λ pane. string_bytes pane.path) ports.panes.all.items ≡ paths_of folder.now 9) }
         ensures followers { IfOk result (λ ports. (ports.followers.all.items ≡ [])
@@ -169,7 +174,7 @@ impl<R: Clock + Drop> ServerPorts<R> {
     {
         let waits = Waits::new(rt, alloc)?;
         let udp = bind_udp(rt, alloc, &waits, port)?;
-        let panes = Panes::bind(rt, alloc, waits.registry(), folder)?;
+        let panes = Panes::bind(rt, alloc, waits.registry(), folder, as_meant)?;
         match bind_others(rt, alloc, &waits, folder) {
             Ok((followers, clients)) => Ok(ServerPorts {
                 moments,
@@ -278,6 +283,17 @@ impl<R: Clock + Drop> ServerPorts<R> {
     }
 }
 
+// A count of bytes, where there are some.
+fn some_bytes(count: Option<usize>) -> Option<usize>
+    ensures some { IfSome result (λ n. (0 < n) × (count ≡ Some n)) }
+    ensures same { (buf : List ℕ) → bytes_given result buf ≡ bytes_given count buf }
+{
+    match count {
+        Some(0) => None,
+        other => other,
+    }
+}
+
 impl<R: Clock + Drop> Ports for ServerPorts<R> {
     fn now(&mut self) -> u64
         ensures set { (moment : ℕ) → self.old.moments ≡ Moments.Set moment → result ≡ moment }
@@ -312,6 +328,7 @@ impl<R: Clock + Drop> Ports for ServerPorts<R> {
         ensures near { to ≢ own_address → result ≡ true → IfSome (number_of to) (λ _.
             IsQueuedFor self.old.clients.all.items self.new.clients.all.items (number_of to) bytes.now) }
         ensures far { number_of to ≡ None → SendsBy self.old.moment to self.old.udp self.new.udp bytes.now result }
+        ensures panes { self.new.panes ≡ self.old.panes }
     {
         if to == OWN {
             self.closer.hear(self.alloc, bytes, self.moment);
@@ -334,16 +351,18 @@ impl<R: Clock + Drop> Ports for ServerPorts<R> {
     fn pane_in(&mut self, pane: u8, buf: &mut [u8]) -> Option<usize>
         ensures some { IfSome result (λ n. 0 < n) }
         ensures within { IfSome result (λ n. n ≤ length buf.new) }
-        ensures asks { Changes (Asks (is_some result)) pane self.old.panes.all.items self.new.panes.all.items }
+        // What came in this life of the pane is given piece after piece, as it came or as it is meant, and stands beside its terminal.
+        ensures hears { Changes (Hears (is_some result) (bytes_given result buf.new)) pane self.old.panes.all.items
+            self.new.panes.all.items }
         ensures stirs { IfSome result (λ _. self.new.waits.quiet ≡ false) }
     {
         let had_peer = self.panes.has_peer(pane);
         let count = self.panes.read(self.waits.registry(), pane, buf);
-        // Where a peer is gone the next may wait.
+        // Where a peer is gone the next may wait, and where all that came waits, more may have come.
         if count.is_some() || had_peer != self.panes.has_peer(pane) {
             self.waits.stir();
         }
-        count
+        some_bytes(count)
     }
 
     fn pane_out(&mut self, pane: u8, bytes: &[u8]) -> usize
@@ -360,6 +379,7 @@ impl<R: Clock + Drop> Ports for ServerPorts<R> {
 
     fn show(&mut self, _bytes: &[u8]) -> bool
         ensures none { result ≡ false }
+        ensures panes { self.new.panes ≡ self.old.panes }
     {
         false
     }

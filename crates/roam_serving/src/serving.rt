@@ -38,6 +38,8 @@ pub struct Serve<'a> {
     pub session: Option<u64>,
     /// How many turns the run takes.
     pub turns: u64,
+    /// Whether what panes' programs write goes to their terminals as it is meant (`roam_meant`), and not as it comes.
+    pub as_meant: bool,
 }
 
 // A pane of a server, where it is there.
@@ -165,7 +167,16 @@ fn serve_bound<R: Files + Net + Clock + RandomSource + Eprint + AllocGlobal>(
 {
     let alloc = rt.alloc();
     let own = own_start(rt, session)?;
-    let mut ports = ServerPorts::bind(rt, alloc, serve.folder, serve.port, Moments::real(rt), own)?;
+    let moments = Moments::real(rt);
+    let mut ports = ServerPorts::bind(
+        rt,
+        alloc,
+        serve.folder,
+        serve.port,
+        moments,
+        own,
+        serve.as_meant,
+    )?;
     let written = write_session(rt, serve.folder, session);
     if written.is_ok() {
         tell_port(rt, serve.port, ports.port());

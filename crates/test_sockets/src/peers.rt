@@ -6,8 +6,9 @@
 //! there), and how many client starts edit and watch, where that is known. `files are removed` by the ports. `start asks ACT, ACT` or `is
 //! quiet`: a datagram of the server's own start comes, with these acts, or none.
 use crate::acts::has;
-use crate::files::{first_untrue, is_so, ports_in};
+use crate::files::{first_untrue, is_so, ports_for};
 use crate::programs::Programs;
+use roam_faults::RunFault;
 use roam_pane_list::{ListedPane, PaneList};
 use roam_serving::ServerPorts;
 use roam_turns::Ports;
@@ -182,7 +183,19 @@ fn first_undone<'a>(
     Ok(None)
 }
 
-// The first line that isn't so of a story: of files alone, or, behind a line `ports FOLDER`, of the sockets there too.
+// The ports in a folder, of a server whose panes' bytes go on as they are meant where `as meant` stands behind it.
+fn ports_of<'a>(
+    rt: &'a HostRuntime,
+    words: &str,
+) -> Result<ServerPorts<&'a HostRuntime>, RunFault> {
+    match words.strip_suffix(" as meant") {
+        Some(folder) => ports_for(rt, folder, true),
+        None => ports_for(rt, words, false),
+    }
+}
+
+// The first line that isn't so of a story: of files alone, or, behind a line `ports FOLDER`, or one with `as meant`, of the sockets there
+// too.
 fn first_wrong<'a>(rt: &HostRuntime, story: &'a str) -> Result<Option<&'a str>, Fail> {
     let (ready, rest) = story.split_once("\nports ").unwrap_or((story, ""));
     let wrong = first_untrue(rt, ready)?;
@@ -190,7 +203,7 @@ fn first_wrong<'a>(rt: &HostRuntime, story: &'a str) -> Result<Option<&'a str>, 
     if wrong.is_some() || folder.is_empty() {
         return Ok(wrong);
     }
-    let mut ports = ports_in(rt, folder)?;
+    let mut ports = ports_of(rt, folder)?;
     first_undone(rt, &mut ports, &mut Programs::new(), lines)
 }
 
@@ -215,6 +228,8 @@ fn first_wrong_of<'a>(rt: &HostRuntime, stories: &'a str) -> Result<Option<&'a s
 /// and what the first program wrote is never read.
 ///
 /// One peer at a time: that the first program left is read before what the second wrote.
+///
+/// Bytes as they are meant: whole, cut, more of them than the buffer has room for; what is held back of one life never comes in another.
 ///
 /// A program follows the panes: one pane, two, one of them sized and the other moved, closed and made anew in one turn, closed; and how
 /// many client starts there are.
@@ -288,6 +303,33 @@ second waits
 first leaves
 pane 1 gives nothing
 pane 1 gives second
+files are removed
+
+folder meant
+ports meant as meant
+first connects meant/p1
+pane 1 lives 1
+pane 1 gives nothing
+first writes a\u{1b}[4:3mb
+pane 1 gives a\u{1b}[4mb
+first writes \u{1b}[4
+pane 1 gives nothing
+first writes :0mc
+pane 1 gives \u{1b}[24mc
+first writes abc\u{1b}[?3hd
+pane 1 gives abc\u{1b}[?3h\u{1b}[r\u{1b}[2J\u{1b}
+first writes e
+pane 1 gives [Hd
+pane 1 gives e
+pane 1 gives nothing
+first writes f\u{1b}[58
+pane 1 gives f
+pane 1 lives 2
+second connects meant/p1
+second writes ;5;1mg
+pane 1 gives ;5;1mg
+pane 1 takes key
+second reads key
 files are removed
 
 folder follows
