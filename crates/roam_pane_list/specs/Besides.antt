@@ -62,3 +62,11 @@ with_bells n b = record b { settings = record b.settings { bells = n } }
 -- with so many titles
 abbrev pub with_titles : ℕ → BesidePane → BesidePane
 with_titles n b = record b { titles = n }
+
+-- what was told of it to a follower who comes now: no bell that rang before is told to him, and all else is
+abbrev pub before_told : BesidePane → BesidePane
+before_told b = with_bells b.settings.bells (fresh_beside b.life)
+
+-- with no more bells than were known of this life
+abbrev pub without_new_bells : Option BesidePane → BesidePane → BesidePane
+without_new_bells known b = with_bells (in_life b.life known).settings.bells b

@@ -2,11 +2,11 @@
 ghost use Rattle.std.specs.Prelude.{◌≡◌, ◌++◌, ℕ, List, [], IfOk, OnOk, IsOkUnless, encode_utf8_all, string_bytes};
 ghost use Rattle.hex.specs.Hex.{encode_lower};
 ghost use Rattle.roam_pane_list.specs.BesideLines.{Modes, Shape, Title, Bell, beside_lines, bell_news, modes_news, shape_news, title_news, word_if, beside_text, beside_texts, head_text, keys_word, life_news, mode_words, tracking_word};
-ghost use Rattle.roam_pane_list.specs.Besides.{fresh_beside, in_life, same_flag, same_modes, same_tracking};
+ghost use Rattle.roam_pane_list.specs.Besides.{same_flag, same_modes, same_tracking};
 
-use crate::beside_list::BesidePane;
+use crate::beside_list::{BesidePane, in_life};
 use hex::encode;
-use roam_beside::{Settings, Tracking, fresh_settings};
+use roam_beside::{Settings, Tracking};
 use roam_cells::Fault;
 use std::alloc::Global;
 
@@ -38,20 +38,6 @@ fn same_modes(one: &Settings, other: &Settings) -> bool
         && same_flag(one.bracketed_paste, other.bracketed_paste)
         && same_flag(one.alternate_screen, other.alternate_screen)
         && one.other_keys == other.other_keys
-}
-
-// What is known of a life of a pane.
-fn in_life(life: u64, known: Option<BesidePane>) -> BesidePane
-    ensures known { result ≡ in_life life known }
-{
-    match known {
-        Some(known) if known.life == life => known,
-        _ => BesidePane {
-            life,
-            settings: fresh_settings(),
-            titles: 0,
-        },
-    }
 }
 
 fn tracking_word(tracking: Tracking) -> &'static str

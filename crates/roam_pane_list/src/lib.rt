@@ -9,7 +9,7 @@ mod lines;
 mod pane_list;
 
 pub use beside_lines::push_beside;
-pub use beside_list::{BesideList, BesidePane};
+pub use beside_list::{BesideList, BesidePane, in_life};
 pub use closes::{Close, Closing, acts_for, read_close};
 pub use lines::lines_between;
 pub use pane_list::{ListedPane, PaneList};

@@ -2,6 +2,7 @@ mod Answering
 mod Asked
 mod Bound
 mod Bringing
+mod News
 mod Seated
 mod Sifting
 mod Turning

@@ -1,3 +1,4 @@
+pub mod Asides
 pub mod Asking
 pub mod Closing
 pub mod Following
@@ -9,3 +10,4 @@ pub mod Rests
 pub mod Runs
 pub mod Seats
 pub mod Sieves
+pub mod Tellings

@@ -1,10 +1,12 @@
 //! What comes of a pane's program, on its way to the pane's terminal, and what stands beside that.
 ghost use Rattle.std.specs.Prelude.{◌≡◌, ◌≤◌, ◌++◌, ℕ, List, [], length, min, take, is_some, None, IfSome};
+ghost use Rattle.roam_serving.specs.Asides.{title_codes};
 ghost use Rattle.roam_serving.specs.Inflows.{Carries, IsFreshInflow};
 ghost use Rattle.roam_serving.specs.Sieves.{Goes, IsFree, bytes_given};
 
 use crate::sieves::Sieve;
 use roam_beside::Beside;
+use roam_pane_list::BesidePane;
 use std::alloc::Global;
 
 // A filter, where one is asked for.
@@ -79,6 +81,24 @@ impl Inflow {
     {
         let is_meant = self.sieve.is_some();
         *self = Inflow::new(self.alloc, is_meant);
+    }
+
+    /// What stands beside the terminal of this life of the pane.
+    pub(crate) fn beside_of(&self, life: u64) -> BesidePane
+        ensures beside { result ≡ record { life = life; settings = self.now.beside.settings; titles = self.now.beside.texts.said.titles } }
+    {
+        BesidePane {
+            life,
+            settings: self.beside.settings(),
+            titles: self.beside.titles(),
+        }
+    }
+
+    /// The last title that was said, or nothing.
+    pub(crate) fn title(&self) -> &[char]
+        ensures title { result.now ≡ title_codes self.now.beside.texts.said.title }
+    {
+        self.beside.title().unwrap_or(&[])
     }
 
     /// How many bytes go on of what waits, which may be none for want of memory; nothing waits where it answers none.

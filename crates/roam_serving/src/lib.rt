@@ -1,6 +1,7 @@
 //! `roam serve`: the turns of a server round its sockets and the clock.
 #![tactic(auto)]
 
+mod asides;
 mod closing;
 mod following;
 mod inflows;
@@ -12,6 +13,7 @@ mod seats;
 mod server_ports;
 mod serving;
 mod sieves;
+mod tellings;
 
 pub use refused::tell_unbound;
 pub use server_ports::{OwnStart, ServerPorts};

@@ -1,18 +1,20 @@
 //! The sockets of the panes, where their programs are reached.
-ghost use Rattle.std.specs.Prelude.{◌≡◌, ◌≢◌, ◌⊎◌, ◌++◌, ◌≤◌, ◌<◌, [], ◌∷◌, length, map, string_bytes, is_some, nat_lt, None, IfOk, OnOk, IfSome, IfErr, IsOkUnless};
+ghost use Rattle.std.specs.Prelude.{◌≡◌, ◌≢◌, ◌⊎◌, ◌++◌, ◌≤◌, ◌<◌, ◌-◌, [], ◌∷◌, length, map, slice_get, string_bytes, is_some, nat_lt, None, Some, IfOk, OnOk, IfSome, IfErr, IsOkUnless};
 ghost use Rattle.std.specs.List.{All};
 ghost use Rattle.roam_serving.specs.Panes.{path_of, paths_of};
+ghost use Rattle.roam_serving.specs.Asides.{AreBeside, pane_beside, shown_bells, title_of};
 ghost use Rattle.roam_serving.specs.Inflows.{IsFreshInflow};
 ghost use Rattle.roam_serving.specs.Peers.{Changes, Lives, Asks, Hears};
 ghost use Rattle.roam_serving.specs.Sieves.{bytes_given};
 
 use crate::inflows::Inflow;
-use crate::peers::{Making, has_peer, live, read, write};
+use crate::peers::{Making, has_peer, life_of, live, read, write};
 use mio::net::UnixListener;
 use mio::{Interest, Registry, Token};
 use roam_acts::limits::{MOST_PANES, PANES_END};
 use roam_cells::Fault;
 use roam_faults::RunFault;
+use roam_pane_list::{BesideList, BesidePane};
 use roam_sockets::listen;
 use std::alloc::Global;
 use std::fs::{Files, remove_file};
@@ -79,12 +81,37 @@ impl Pane {
         )
     }
 
+    // What stands beside the terminal, where the pane is there.
+    fn beside(&self) -> Option<BesidePane>
+        ensures beside { result ≡ pane_beside (Some self.now) }
+    {
+        match life_of(&self.making) {
+            None => None,
+            Some(life) => Some(self.inflow.beside_of(life)),
+        }
+    }
+
     // How many of the bytes the program took.
     fn write(&mut self, registry: &Registry, bytes: &[u8]) -> usize
         ensures within { result ≤ length bytes.now }
         ensures asks { Asks (nat_lt 0 result) self.old self.new }
     {
         write(&mut self.making, &self.listener, registry, bytes)
+    }
+}
+
+// What is told of what stands beside a terminal: where no bell may be told, as many as were shown before.
+fn shown_bells(
+    may_ring: bool,
+    shown: Option<BesidePane>,
+    now: Option<BesidePane>,
+) -> Option<BesidePane>
+    ensures shown { result ≡ shown_bells may_ring shown now }
+{
+    match now {
+        None => None,
+        Some(now) if may_ring => Some(now),
+        Some(now) => Some(now.without_new_bells(shown)),
     }
 }
 
@@ -179,6 +206,42 @@ impl Panes {
             return None;
         }
         self.all[at - 1].read(registry, buf)
+    }
+
+    // What stands beside the terminal of a pane, where it is there.
+    fn beside(&self, pane: u8) -> Option<BesidePane>
+        ensures beside { 1 ≤ pane → result ≡ pane_beside (slice_get self.now.all.items (pane - 1)) }
+    {
+        let at = usize::from(pane);
+        if at < 1 || self.all.len() < at {
+            return None;
+        }
+        self.all[at - 1].beside()
+    }
+
+    /// The last title that the program of a pane said, or nothing.
+    pub(crate) fn title(&self, pane: u8) -> &[char]
+        ensures title { 1 ≤ pane → result.now ≡ title_of self.now.all.items pane }
+    {
+        let at = usize::from(pane);
+        if at < 1 || self.all.len() < at {
+            return &[];
+        }
+        self.all[at - 1].inflow.title()
+    }
+
+    /// What stands beside the panes' terminals, with the bells that may be told: all that rang, or those that were shown before.
+    pub(crate) fn besides(&self, may_ring: bool, shown: &BesideList) -> BesideList
+        ensures are { AreBeside may_ring shown.now self.now.all.items result }
+    {
+        let mut list = BesideList::unknown();
+        for pane in 1..PANES_END {
+            list.set(
+                pane,
+                shown_bells(may_ring, shown.get(pane), self.beside(pane)),
+            );
+        }
+        list
     }
 
     /// Whether a peer came to a pane that is there.

@@ -58,11 +58,7 @@ pub(crate) fn live(making: &mut Option<Making>, inflow: &mut Inflow, life: Optio
     ensures goes { life_in making.old ≢ life → peer_in making.new ≡ None }
     ensures fresh { life_in making.old ≢ life → IsFreshInflow inflow.new (is_some inflow.old.sieve) }
 {
-    let was = match making {
-        None => None,
-        Some(making) => Some(making.life),
-    };
-    if was != life {
+    if life_of(making) != life {
         *making = match life {
             None => None,
             Some(life) => Some(Making {
@@ -71,6 +67,16 @@ pub(crate) fn live(making: &mut Option<Making>, inflow: &mut Inflow, life: Optio
             }),
         };
         inflow.renew();
+    }
+}
+
+/// Which making is there, if any.
+pub(crate) fn life_of(making: &Option<Making>) -> Option<u64>
+    ensures life { result ≡ life_in making.now }
+{
+    match making {
+        None => None,
+        Some(making) => Some(making.life),
     }
 }
 

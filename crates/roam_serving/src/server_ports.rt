@@ -11,6 +11,7 @@ ghost use Rattle.roam_serving.specs.Closing.{GivesOwn, HearsAnswer, own_address}
 ghost use Rattle.roam_serving.specs.Following.{AreAllTold, HaveCome, most_taken, panes_path};
 ghost use Rattle.roam_serving.specs.Rests.{SendsBy, is_paced};
 ghost use Rattle.roam_serving.specs.declared.closing.Closer.{Closer as CloserOf};
+ghost use Rattle.roam_serving.specs.Tellings.{AreToldBeside, sooner};
 ghost use Rattle.roam_serving.specs.Panes.{IsPortOf, clients_path, paths_of};
 ghost use Rattle.roam_serving.specs.Inflows.{IsFreshInflow};
 ghost use Rattle.roam_serving.specs.Peers.{Asks, Changes, Hears, Lives};
@@ -19,6 +20,7 @@ ghost use Rattle.roam_serving.specs.Sieves.{bytes_given};
 use crate::closing::{Closer, OWN};
 use crate::following::Followers;
 use crate::panes::Panes;
+use crate::tellings::{AsideTimes, sooner};
 use mio::net::UnixStream;
 use roam_cells::Fault;
 use roam_faults::RunFault;
@@ -54,6 +56,7 @@ pub struct ServerPorts<R> {
     clients: Clients,
     panes: Panes,
     followers: Followers,
+    telling: AsideTimes,
     closer: Closer,
     alloc: Global,
     is_udp_next: bool,
@@ -145,6 +148,30 @@ fn next_arrival(
     }
 }
 
+// Tells the programs that asked what is new beside the panes' terminals, where it is time.
+fn tell_beside(
+    alloc: Global,
+    telling: &mut AsideTimes,
+    followers: &mut Followers,
+    panes: &Panes,
+    moment: u64,
+)
+    ensures told { AreToldBeside ⟦<UnixStream as Stream>⟧.contents telling.old.told moment panes.now.all.items followers.old.all.items
+        followers.new.all.items }
+{
+    if !followers.is_beside_asked() {
+        telling.rest();
+        return;
+    }
+    if !telling.is_time(moment) {
+        telling.wait();
+        return;
+    }
+    let now = panes.besides(telling.may_ring(moment), telling.shown());
+    followers.tell_beside(alloc, &now, panes);
+    telling.tells(&now, moment);
+}
+
 impl<R: Clock + Drop> ServerPorts<R> {
     /// Binds in a folder the sockets `p1` to `p9`, of panes that aren't there yet, `panes`, where a program follows them, and `clients`,
     /// for client starts; and where it is asked for a port of this machine, any that is free where it is 0. `Bind` where one can't be
@@ -184,6 +211,7 @@ impl<R: Clock + Drop> ServerPorts<R> {
                 clients,
                 panes,
                 followers,
+                telling: AsideTimes::new(),
                 closer: Closer::new(own.session, own.id),
                 alloc,
                 is_udp_next: false,
@@ -226,12 +254,13 @@ impl<R: Clock + Drop> ServerPorts<R> {
         }
     }
 
-    /// Writes what waits for client starts, takes those that come, and waits until something comes or is due at a moment, where nothing
-    /// came since the last call and no datagram of its own start waits.
+    /// Writes what waits for client starts, takes those that come, and waits until something comes or is due at a moment, or what
+    /// stands beside the panes' terminals is to be told, where nothing came since the last call and no datagram of its own start waits.
     pub fn rest(&mut self, due: Option<u64>)
         ensures quiet { self.new.waits.quiet ≡ true }
         ensures waited { IfSome self.new.waits.longest (λ longest. (self.old.waits.quiet ≡ true) × (self.old.closer.closing ≡ None)
-            × (longest ≡ wait_for due self.old.moment (is_paced self.new.udp))) }
+            × (longest ≡ wait_for (sooner due self.old.telling.due) self.old.moment (is_paced self.new.udp))) }
+        ensures telling { self.new.telling ≡ self.old.telling }
         ensures panes { self.new.panes ≡ self.old.panes }
         ensures followers { self.new.followers ≡ self.old.followers }
         ensures moment { self.new.moment ≡ self.old.moment }
@@ -241,6 +270,7 @@ impl<R: Clock + Drop> ServerPorts<R> {
         }
         let is_paced = !flush_udp(&mut self.udp, self.moment);
         let waits = self.waits.is_quiet();
+        let due = sooner(due, self.telling.due());
         self.waits.rest(wait_for(due, self.moment, is_paced));
         self.look(self.alloc, waits);
     }
@@ -273,6 +303,22 @@ impl<R: Clock + Drop> ServerPorts<R> {
         if may_ask {
             self.waits.stir();
         }
+    }
+
+    /// Tells the programs that asked what is new of what stands beside the panes' terminals, each 20 milliseconds at most.
+    pub fn tell_beside(&mut self)
+        ensures panes { self.new.panes ≡ self.old.panes }
+        ensures told { AreToldBeside ⟦<UnixStream as Stream>⟧.contents self.old.telling.told self.old.moment self.old.panes.all.items
+            self.old.followers.all.items self.new.followers.all.items }
+        ensures moment { self.new.moment ≡ self.old.moment }
+    {
+        tell_beside(
+            self.alloc,
+            &mut self.telling,
+            &mut self.followers,
+            &self.panes,
+            self.moment,
+        );
     }
 
     /// Removes the files of the sockets.

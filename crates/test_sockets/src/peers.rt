@@ -3,7 +3,8 @@
 //! A line begins with `first` or `second`, one of the programs, with what it does; with `files`, with what is seen of them; with `pane` and
 //! its number: `lives N` or `goes`, `gives TEXT` or `gives nothing`, `takes TEXT` or `takes nothing of TEXT`; with `told`, panes 1 and 2,
 //! each with its life, its first row and its rows or `none`, of which a program that follows them is told (pane 2 is in focus where it is
-//! there), and how many client starts edit and watch, where that is known. `files are removed` by the ports. `start asks ACT, ACT` or `is
+//! there), and how many client starts edit and watch, where that is known; with `beside` and a moment, at which what stands beside the
+//! panes' terminals is told. `files are removed` by the ports. `start asks ACT, ACT` or `is
 //! quiet`: a datagram of the server's own start comes, with these acts, or none.
 use crate::acts::has;
 use crate::files::{first_untrue, is_so, ports_for};
@@ -131,6 +132,19 @@ fn asks(alloc: Global, ports: &mut ServerPorts<&HostRuntime>, acts: &str) -> boo
     }
 }
 
+// At this moment what stands beside the panes' terminals is told.
+fn is_beside(ports: &mut ServerPorts<&HostRuntime>, words: &str) -> bool {
+    match words.parse::<u64>() {
+        Ok(moment) => {
+            ports.set_moment(moment);
+            ports.now();
+            ports.tell_beside();
+            true
+        }
+        Err(_) => false,
+    }
+}
+
 fn is_start(alloc: Global, ports: &mut ServerPorts<&HostRuntime>, words: &str) -> bool {
     match words.strip_prefix("asks ") {
         Some(acts) => asks(alloc, ports, acts),
@@ -162,6 +176,7 @@ fn is_done(
     match who {
         "pane" => Ok(is_numbered(ports, words)),
         "told" => Ok(is_told(rt.alloc(), ports, words)),
+        "beside" => Ok(is_beside(ports, words)),
         "files" => are_files(rt, ports, words),
         "start" => Ok(is_start(rt.alloc(), ports, words)),
         _ => programs.does(rt, who, words),
@@ -233,6 +248,9 @@ fn first_wrong_of<'a>(rt: &HostRuntime, stories: &'a str) -> Result<Option<&'a s
 ///
 /// A program follows the panes: one pane, two, one of them sized and the other moved, closed and made anew in one turn, closed; and how
 /// many client starts there are.
+///
+/// What stands beside a pane's terminal is told to who asked for it: as it is, and then what is new, each 20 ms at most, and bells once a
+/// second at most; of another life of the pane what is new in it.
 ///
 /// Programs follow and close. Two are told each what is new for it; a line that asks for no close, for one of a pane that is gone, or of
 /// the last pane; of two closes the second waits until a turn was taken with the first, and a pane that is still there then may be closed
@@ -369,6 +387,50 @@ second reads 1 1 1 22 80 1/
 first connects keepers/panes
 told 1 1 22, none
 first reads 1 1 1 22 80 1/focus 1/
+files are removed
+
+folder besides
+ports besides
+first connects besides/p1
+pane 1 lives 1
+first writes \u{1b}[?2004h\u{1b}]0;\u{e9}\u{7}
+pane 1 gives \u{1b}[?2004h\u{1b}]0;\u{e9}\u{7}
+first writes \u{7}
+pane 1 gives \u{7}
+second connects besides/panes
+second types beside/
+told 1 1 23, none
+second reads 1 1 1 23 80 1/focus 1/
+beside 0
+second reads modes 1 1 paste/title 1 1 c3a9/
+first writes \u{7}
+pane 1 gives \u{7}
+beside 10
+second waits
+beside 20
+second waits
+first writes \u{7}\u{1b}[5 q
+pane 1 gives \u{7}\u{1b}[5 q
+beside 40
+second reads shape 1 1 5/
+beside 999
+second waits
+beside 1019
+second reads bell 1 1/
+beside 1040
+second waits
+first writes \u{1b}c
+pane 1 gives \u{1b}c
+beside 1060
+second reads modes 1 1/shape 1 1 0/
+pane 1 lives 2
+beside 1080
+second waits
+first connects besides/p1
+first writes \u{1b}]2;z\u{7}\u{7}
+pane 1 gives \u{1b}]2;z\u{7}\u{7}
+beside 2100
+second reads title 1 2 7a/bell 1 2/
 files are removed
 
 folder followers
