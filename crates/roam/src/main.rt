@@ -100,6 +100,7 @@ fn run(rt: &HostRuntime, request: Request<'_>) -> ExitCode {
             port,
             session,
             turns,
+            as_meant,
         } => serve(
             rt,
             &Serve {
@@ -107,6 +108,7 @@ fn run(rt: &HostRuntime, request: Request<'_>) -> ExitCode {
                 port,
                 session,
                 turns,
+                as_meant,
             },
         ),
         Request::Attach {

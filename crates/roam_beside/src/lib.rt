@@ -21,4 +21,4 @@ mod silence;
 mod texts;
 
 pub use beside::Beside;
-pub use settings::{Settings, Tracking};
+pub use settings::{Settings, Tracking, fresh_settings};

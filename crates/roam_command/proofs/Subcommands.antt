@@ -20,7 +20,7 @@ pub show_asked : (m inner : ArgMatches) (r : Result Request Refusal) → IsUsed 
 show_asked m inner (Err e) used h = tt
 show_asked m inner (Ok (request.Show rows cols)) used h = (found_of inner, used, h)
 show_asked m inner (Ok request.World) used h = absurd h
-show_asked m inner (Ok (request.Serve folder port session turns)) used h = absurd h
+show_asked m inner (Ok (request.Serve folder port session turns as_meant)) used h = absurd h
 show_asked m inner (Ok (request.Attach server session client source wire watches turns)) used h = absurd h
 
 pub serve_asked : (m inner : ArgMatches) (r : Result Request Refusal) → IsUsed m (codes "serve") (found_of inner)
@@ -28,7 +28,7 @@ pub serve_asked : (m inner : ArgMatches) (r : Result Request Refusal) → IsUsed
 serve_asked m inner (Err e) used h = tt
 serve_asked m inner (Ok (request.Show rows cols)) used h = absurd h
 serve_asked m inner (Ok request.World) used h = absurd h
-serve_asked m inner (Ok (request.Serve folder port session turns)) used h = (found_of inner, used, h)
+serve_asked m inner (Ok (request.Serve folder port session turns as_meant)) used h = (found_of inner, used, h)
 serve_asked m inner (Ok (request.Attach server session client source wire watches turns)) used h = absurd h
 
 pub attach_asked : (m inner : ArgMatches) (r : Result Request Refusal) → IsUsed m (codes "attach") (found_of inner)
@@ -36,5 +36,5 @@ pub attach_asked : (m inner : ArgMatches) (r : Result Request Refusal) → IsUse
 attach_asked m inner (Err e) used h = tt
 attach_asked m inner (Ok (request.Show rows cols)) used h = absurd h
 attach_asked m inner (Ok request.World) used h = absurd h
-attach_asked m inner (Ok (request.Serve folder port session turns)) used h = absurd h
+attach_asked m inner (Ok (request.Serve folder port session turns as_meant)) used h = absurd h
 attach_asked m inner (Ok (request.Attach server session client source wire watches turns)) used h = (found_of inner, used, h)

@@ -80,9 +80,9 @@ IsShow found (request.Show rows cols) =
 IsShow found other = ⊥
 
 abbrev pub IsServe : Found → Request → Type 0
-IsServe found (request.Serve folder port session turns) =
+IsServe found (request.Serve folder port session turns as_meant) =
     (first_value found (codes "dir") ≡ Some folder.now) × IsNumberOf 16 found (codes "port") port × IsIdOf found (codes "session") session
-    × IsTurnsOf found turns
+    × IsTurnsOf found turns × IsFlagOf found (codes "as-meant") as_meant
 IsServe found other = ⊥
 
 abbrev pub IsAttach : Found → Request → Type 0
@@ -100,8 +100,8 @@ pub record IsUsed (m : ArgMatches) (name : List ℕ) (found : Found) : Type 0 wh
 abbrev pub Asks : ArgMatches → Request → Type 0
 Asks m (request.Show rows cols) = (found : Found) × IsUsed m (codes "show") found × IsShow found (request.Show rows cols)
 Asks m request.World = subcommand_name_of m ≡ Some (codes "world")
-Asks m (request.Serve folder port session turns) =
-    (found : Found) × IsUsed m (codes "serve") found × IsServe found (request.Serve folder port session turns)
+Asks m (request.Serve folder port session turns as_meant) =
+    (found : Found) × IsUsed m (codes "serve") found × IsServe found (request.Serve folder port session turns as_meant)
 Asks m (request.Attach server session client source wire watches turns) =
     (found : Found) × IsUsed m (codes "attach") found
     × IsAttach found (request.Attach server session client source wire watches turns)

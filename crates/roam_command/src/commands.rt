@@ -128,6 +128,16 @@ const SERVE: Subcommand = Subcommand {
         },
         SESSION,
         TURNS,
+        Choice {
+            name: "as-meant",
+            value: "",
+            help: "Reads what programs write as they mean it where the profile reads it otherwise: colons in SGR, more than sixteen of \
+                   its parameters, colours of lines, CSI s and CSI u, the clearing of DECCOLM, the soft hyphen",
+            reads: Reads::Nothing,
+            needed: Needed::Never,
+            needs: &[],
+            excludes: &[],
+        },
     ],
 };
 

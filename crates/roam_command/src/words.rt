@@ -24,12 +24,13 @@ pub enum Request<'a> {
     World,
 
     /// `roam serve`: a server of this session, or of one by chance, for so many turns (2^64 - 1 where the words name none), with its
-    /// sockets in this folder, and on this port of loopback where there is one.
+    /// sockets in this folder, and on this port of loopback where there is one; what panes' programs write may be read as it is meant.
     Serve {
         folder: &'a str,
         port: Option<u16>,
         session: Option<u64>,
         turns: u64,
+        as_meant: bool,
     },
 
     /// `roam attach`: a client start with this id, or one by chance, for so many turns, of the session that is served in this folder or on
@@ -123,6 +124,7 @@ fn serve_of<'a>(matches: &ArgMatches<'a>) -> Result<Request<'a>, Refusal>
             port: small_in(matches, "port"),
             session,
             turns: turns_in(matches),
+            as_meant: matches.get_flag("as-meant"),
         }),
         // Not reached: clap takes no words without it.
         None => Err(Refusal::NoText),

@@ -1,2 +1,4 @@
+mod Besides
 pub mod Following
 pub mod ReadAgain
+mod Titles

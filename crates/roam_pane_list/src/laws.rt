@@ -1,4 +1,5 @@
 //! Laws of the definitions, each the contract of a function that does nothing when it runs.
+ghost use Rattle.roam_pane_list.specs.BesideLines.{BesideArrives, BesideIsNews};
 ghost use Rattle.roam_pane_list.specs.Lines.{LinesArrive, LinesAreNews};
 
 /// Who reads the lines between what was told and what is so now knows then what is so now.
@@ -10,4 +11,15 @@ pub fn lines_arrive()
 /// same.
 pub fn lines_are_news()
     ensures news { LinesAreNews }
+{}
+
+/// Who was told something of what stands beside a pane's terminal, and reads the lines of what is new, knows then what is so: which modes
+/// are set, the shape of the cursor, and how many titles and bells there were.
+pub fn beside_arrives()
+    ensures arrive { BesideArrives }
+{}
+
+/// Each of these lines says what wasn't known before it.
+pub fn beside_is_news()
+    ensures news { BesideIsNews }
 {}

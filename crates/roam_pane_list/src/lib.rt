@@ -1,11 +1,15 @@
 //! Which panes a session has, how large each is and which is in focus, told in lines to a program that follows it.
 #![tactic(auto)]
 
+mod beside_lines;
+mod beside_list;
 mod closes;
 pub mod laws;
 mod lines;
 mod pane_list;
 
+pub use beside_lines::push_beside;
+pub use beside_list::{BesideList, BesidePane, in_life};
 pub use closes::{Close, Closing, acts_for, read_close};
 pub use lines::lines_between;
 pub use pane_list::{ListedPane, PaneList};

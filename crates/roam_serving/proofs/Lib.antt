@@ -1,6 +1,9 @@
 mod Answering
 mod Asked
 mod Bound
+mod Bringing
+mod News
 mod Seated
+mod Sifting
 mod Turning
 mod Telling

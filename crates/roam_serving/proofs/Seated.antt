@@ -1,11 +1,11 @@
 -- Who keeps shells has his place, and each is told what is so none the less.
-use Rattle.std.proofs.Common.{◌≡◌, ℕ, ◌-◌, Bool, eqb, List, [], ◌∷◌, Option, Some, None, refl, sym, ap, subst, ◌∙◌, inl, inr}
+use Rattle.std.proofs.Common.{◌≡◌, ℕ, ◌-◌, Bool, eqb, List, [], ◌∷◌, Option, Some, None, sym, subst, inl, inr}
 use Rattle.std.proofs.lemmas.Bool.{cases_Bool}
 use Rattle.std.specs.List.{AllZip}
 use Rattle.std.specs.Prelude.{IfSome, if◌then◌else◌}
 use Rattle.roam_pane_list.specs.declared.pane_list.PaneList.{PaneList}
 use Rattle.roam_serving.specs.Following.{IsTold, WasTold, is_there}
-use Rattle.roam_serving.specs.Seats.{any_new, first_stay, has_keeper, kept_place, let_go, places_for, seated, seated_by, seated_one}
+use Rattle.roam_serving.specs.Seats.{any_new, first_stay, has_keeper, kept_place, let_go, places_for, seated, seated_by}
 use Rattle.roam_serving.specs.declared.following.Follower.{Follower}
 use Rattle.roam_serving.specs.declared.seats.Role.{Role}
 use Rattle.roam_serving.specs.declared.seats.Role.TheVariants.{Other, New, Keeper}

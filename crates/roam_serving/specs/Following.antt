@@ -11,7 +11,10 @@ use Rattle.roam_pane_list.specs.Lines.{lines_text, lines_between}
 use Rattle.roam_pane_list.specs.declared.pane_list.ListedPane.{ListedPane}
 use Rattle.roam_pane_list.specs.declared.pane_list.PaneList.{PaneList}
 use Rattle.roam_typing.specs.Lines.{nothing_came}
+use Rattle.roam_pane_list.specs.declared.beside_list.BesideList.{BesideList}
+use Rattle.roam_serving.specs.Asides.{IsFreshAside, Renews}
 use Rattle.roam_serving.specs.Programs.{Wrote}
+use Rattle.roam_serving.specs.declared.panes.Pane.{Pane}
 use Rattle.roam_serving.specs.declared.following.Follower.{Follower}
 use Rattle.roam_serving.specs.declared.seats.Role.TheVariants.{Other}
 
@@ -37,6 +40,7 @@ pub record IsFresh {S : Type 0} (f : Follower S) : Type 0 where
   pub waiting : f.waiting.items ≡ []
   pub lines : f.lines ≡ nothing_came
   pub role : f.role ≡ Other
+  pub aside : IsFreshAside f.aside
 
 -- what is said to a line by which nothing is done; nothing is said to a close of a pane that is gone
 abbrev pub IsReply : List ℕ → Type 0
@@ -68,6 +72,39 @@ pub record WasTold {S : Type 0} (contents : S → Option (List ℕ)) (now : Pane
   pub mid : Follower S
   pub replies : Replies old mid
   pub tells : Tells contents now mid new
+
+-- it asked for what stands beside the panes' terminals, and nothing waits for it
+pub record MayHear {S : Type 0} (f : Follower S) : Type 0 where
+  pub asked : f.aside.is_asked ≡ true
+  pub clear : f.aside.text.items ≡ []
+  pub none : f.waiting.items ≡ []
+
+-- what is new of that waits for it where it may be told, and only then; nothing else of it changes
+abbrev pub RenewsBeside : {S : Type 0} → BesideList → List Pane → Follower S → Follower S → Type 0
+RenewsBeside now panes old new =
+    (new ≡ old) ⊎ (MayHear old × Renews now panes old.aside new.aside × (new ≡ record old { aside = new.aside }))
+
+-- what else waits is handed to it, the first of it, once that is whole: a line stands in no other; nothing else of it changes
+pub record GoesOn {S : Type 0} (contents : S → Option (List ℕ)) (old new : Follower S) : Type 0 where
+  pub count : ℕ
+  pub whole : (count ≡ 0) ⊎ (old.aside.text.items ≡ [])
+  pub waiting : new.waiting.items ≡ drop count old.waiting.items
+  pub wrote : Wrote contents old.program.stream new.program.stream (take count old.waiting.items)
+  pub others : new ≡ record old { program = new.program; waiting = new.waiting }
+
+-- The program was told what is new of that, where it might be; the first of what waits of it was written, and the rest waits; nothing else
+-- of it changes.
+pub record TellsBeside {S : Type 0} (contents : S → Option (List ℕ)) (now : BesideList) (panes : List Pane)
+    (old new : Follower S) : Type 0 where
+  pub mid : Follower S
+  pub renews : RenewsBeside now panes old mid
+  pub count : ℕ
+  pub then : Follower S
+  pub waits : then.aside.text.items ≡ drop count mid.aside.text.items
+  pub wrote : Wrote contents mid.program.stream then.program.stream (take count mid.aside.text.items)
+  pub aside : then.aside ≡ record mid.aside { text = then.aside.text }
+  pub others : then ≡ record mid { program = then.program; aside = then.aside }
+  pub goes : GoesOn contents then new
 
 -- one that is still there was
 abbrev pub IsTold : {S : Type 0} → (S → Option (List ℕ)) → PaneList → Follower S → Follower S → Type 0

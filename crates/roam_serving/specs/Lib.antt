@@ -1,9 +1,13 @@
+pub mod Asides
 pub mod Asking
 pub mod Closing
 pub mod Following
+pub mod Inflows
 pub mod Panes
 pub mod Peers
 pub mod Programs
 pub mod Rests
 pub mod Runs
 pub mod Seats
+pub mod Sieves
+pub mod Tellings

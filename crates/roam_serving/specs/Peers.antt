@@ -1,8 +1,10 @@
 -- The peers of a pane's socket: the programs that come to it.
-use Rattle.std.specs.Prelude.{ℕ, ◌≡◌, ◌≢◌, ◌+◌, ◌-◌, ◌≤◌, ◌⊎◌, Bool, true, List, length, slice_get, Option, Some, None, IsSome, IfSome, Result, Ok, Err}
+use Rattle.std.specs.Prelude.{ℕ, ◌≡◌, ◌≢◌, ◌+◌, ◌-◌, ◌≤◌, ◌⊎◌, Bool, true, List, length, slice_get, Option, Some, None, IsSome, IfSome, is_some, Result, Ok, Err}
 use Rattle.std.specs.declared.io.Error.{Error}
 use Rattle.roam_faults.specs.Streams.{IsForNow}
 use Rattle.mio.specs.declared.net.uds.stream.UnixStream.{UnixStream}
+use Rattle.roam_serving.specs.Inflows.{Brings, IsFreshInflow}
+use Rattle.roam_serving.specs.Sieves.{IsFree}
 use Rattle.roam_serving.specs.declared.peers.Making.{Making}
 use Rattle.roam_serving.specs.declared.panes.Pane.{Pane}
 
@@ -21,19 +23,31 @@ abbrev pub peer_in : Option Making → Option UnixStream
 peer_in None = None
 peer_in (Some making) = making.peer.stream
 
--- from now on this making of the pane is there, or none: a peer that came to it stays, and any other goes
+-- from now on this making of the pane is there, or none: a peer that came to it stays, and any other goes, with all that came
 pub record Lives (life : Option ℕ) (p q : Pane) : Type 0 where
   pub lives : life_in q.making ≡ life
   pub stays : life_in p.making ≡ life → q ≡ p
   pub goes : life_in p.making ≢ life → peer_in q.making ≡ None
+  pub fresh : life_in p.making ≢ life → IsFreshInflow q.inflow (is_some p.inflow.sieve)
 
--- Its program is asked for bytes, or handed some, and some went over or none: the making stays; where none is there, no peer is taken; a
--- peer that is there stays or goes, and no other comes in its place; and what goes over, goes over with a peer that came to the making.
+-- Its program is handed bytes, and some went over or none: the making stays; where none is there, no peer is taken; a peer that is there
+-- stays or goes, and no other comes in its place; and what goes over, goes over with a peer that came to the making.
 pub record Asks (some : Bool) (p q : Pane) : Type 0 where
   pub life : life_in q.making ≡ life_in p.making
   pub waits : life_in p.making ≡ None → q ≡ p
   pub one : IfSome (peer_in p.making) (λ peer. (q ≡ p) ⊎ (peer_in q.making ≡ None))
   pub from : some ≡ true → IsSome (peer_in q.making)
+  pub inflow : q.inflow ≡ p.inflow
+
+-- Its program is asked for bytes, and these are handed to its terminal: it is the same with the making and its peers; what came in this
+-- life is handed on, piece after piece, as it came or as it is meant; and what is handed on, came with a peer that came to the making, or
+-- waited.
+pub record Hears (some : Bool) (bytes : List ℕ) (p q : Pane) : Type 0 where
+  pub life : life_in q.making ≡ life_in p.making
+  pub waits : life_in p.making ≡ None → q ≡ p
+  pub one : IfSome (peer_in p.making) (λ peer. (q ≡ record p { inflow = q.inflow }) ⊎ (peer_in q.making ≡ None))
+  pub from : some ≡ true → IsSome (peer_in q.making) ⊎ (IsFree p.inflow.sieve → ⊥)
+  pub brings : Brings p.inflow q.inflow bytes
 
 -- of these sockets that of a pane, 1 to 9, went from one state to the other, and each other one is as it was
 pub record Changes (Goes : Pane → Pane → Type 0) (pane : ℕ) (old new : List Pane) : Type 0 where

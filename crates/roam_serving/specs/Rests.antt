@@ -10,7 +10,9 @@ use Rattle.roam_sockets.specs.Lanes.{SendsTo, is_any_waiting}
 use Rattle.roam_sockets.specs.Waits.{wait_for}
 use Rattle.roam_sockets.specs.declared.udp.Udp.{Udp}
 use Rattle.roam_serving.specs.Following.{AreAllTold, ArePanesOf}
+use Rattle.roam_serving.specs.Tellings.{AreToldBeside, sooner}
 use Rattle.roam_serving.specs.declared.following.Follower.{Follower}
+use Rattle.roam_serving.specs.declared.panes.Pane.{Pane}
 
 -- datagrams are kept back so that they go at a pace
 abbrev pub is_paced : Option Udp → Bool
@@ -30,6 +32,14 @@ pub record HasTold (contents : UnixStream → Option (List ℕ)) (server : Serve
   pub before : List (Follower UnixStream)
   pub told : AreAllTold contents panes before followers
 
+-- so they were, and then what is new of what stands beside the panes' terminals, as far as that was to be told
+pub record HasToldAll (contents : UnixStream → Option (List ℕ)) (server : ServerView) (moment : ℕ) (panes : List Pane)
+    (followers : List (Follower UnixStream)) : Type 0 where
+  pub mid : List (Follower UnixStream)
+  pub told : HasTold contents server mid
+  pub last : Option ℕ
+  pub beside : AreToldBeside contents last moment panes mid followers
+
 -- a server next has something due at a moment, or never: before it a tick does nothing, and at it one does something
 pub record IsNextDue (server : ServerView) (due : Option ℕ) : Type 0 where
   pub before : (s : Server) → Stands server s → (now : ℕ) → now < 2 ^ 64 → has_come due now ≡ false → IsQuiet s (moment s now)
@@ -39,9 +49,9 @@ pub record IsNextDue (server : ServerView) (due : Option ℕ) : Type 0 where
 abbrev pub is_for_good : ℕ → Bool
 is_for_good turns = turns == 2 ^ 64 - 1
 
--- Where it waited, it was until something is due, or only a millisecond where datagrams are kept back; where the turns are counted, for the
--- shortest wait.
-pub record HasRested (turns : ℕ) (server : ServerView) (now : ℕ) (udp : Option Udp) (longest : Option ℕ) : Type 0 where
+-- Where it waited, it was until something is due, or what stands beside the panes' terminals is to be told, or only a millisecond where
+-- datagrams are kept back; where the turns are counted, for the shortest wait.
+pub record HasRested (turns : ℕ) (server : ServerView) (now : ℕ) (udp : Option Udp) (telling : Option ℕ) (longest : Option ℕ) : Type 0 where
   pub due : Option ℕ
   pub is_due : MatchBool (is_for_good turns) (IsNextDue server due) (due ≡ Some 0)
-  pub waited : IfSome longest (λ long. long ≡ wait_for due now (is_paced udp))
+  pub waited : IfSome longest (λ long. long ≡ wait_for (sooner due telling) now (is_paced udp))

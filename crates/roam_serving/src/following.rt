@@ -3,13 +3,16 @@ ghost use Rattle.std.specs.Prelude.{◌≡◌, ◌≢◌, ◌⊎◌, ◌++◌, �
 ghost use Rattle.std.specs.List.{AllZip, filter};
 ghost use Rattle.roam_typing.specs.Lines.{IsFirst};
 ghost use Rattle.roam_serving.specs.Asking.{DoesLine, IsAsked, Settles, TakesLine};
-ghost use Rattle.roam_serving.specs.Following.{AreTold, HaveCome, IsFresh, IsReply, IsTold, Replies, Tells, is_there, most_taken, news, panes_path, room, turned};
+ghost use Rattle.roam_serving.specs.Following.{AreTold, GoesOn, HaveCome, IsFresh, IsReply, IsTold, MayHear, RenewsBeside, Replies, Tells, TellsBeside, is_there, most_taken, news, panes_path, room, turned};
 ghost use Rattle.roam_serving.specs.Programs.{Wrote};
+ghost use Rattle.roam_serving.specs.Tellings.{any_asked};
 ghost use Rattle.roam_serving.specs.Seats.{any_new, kept_place, seated};
 ghost use Rattle.roam_serving.specs.declared.closing.Closer.{Closer as CloserOf};
 ghost use Rattle.roam_serving.specs.declared.following.Follower.{Follower as FollowerOf};
 
+use crate::asides::{Aside, is_beside};
 use crate::closing::Closer;
+use crate::panes::Panes;
 use crate::programs::Program;
 use crate::seats::{Role, is_keeper, role_after, seat_keeper};
 use mio::net::{UnixListener, UnixStream};
@@ -17,7 +20,7 @@ use mio::{Interest, Registry, Token};
 use roam_cells::Fault;
 use roam_faults::RunFault;
 use roam_frames::Stream;
-use roam_pane_list::{Closing, PaneList, acts_for, lines_between, read_close};
+use roam_pane_list::{BesideList, Closing, PaneList, acts_for, lines_between, read_close};
 use roam_sockets::listen;
 use roam_typing::{Front, Lines};
 use std::alloc::Global;
@@ -48,6 +51,7 @@ pub(crate) struct Follower<S> {
     waiting: Vec<u8>,
     lines: Lines,
     pub(crate) role: Role,
+    aside: Aside,
 }
 
 // Does what a line asks for, and answers what is said to it: nothing where its pane is gone, or is being closed.
@@ -61,7 +65,7 @@ fn do_line(
     requires free { closer.old.closing ≡ None }
     ensures does { DoesLine now.now line.now moment closer.old closer.new result.now }
 {
-    if is_keeper(line) {
+    if is_keeper(line) || is_beside(line) {
         return b"";
     }
     let Some(close) = read_close(line) else {
@@ -88,6 +92,7 @@ impl<S: Stream + Drop> Follower<S> {
             waiting: Vec::new(alloc),
             lines: Lines::new(alloc),
             role: Role::Other,
+            aside: Aside::new(alloc),
         }
     }
 
@@ -120,10 +125,21 @@ impl<S: Stream + Drop> Follower<S> {
     fn hand_over(&mut self)
         ensures took { (n : ℕ) × (self.new.waiting.items ≡ drop n self.old.waiting.items)
             × Wrote S.contents self.old.program.stream self.new.program.stream (take n self.old.waiting.items) }
-        ensures told { self.new.told ≡ self.old.told }
+        ensures others { self.new ≡ record self.old { program = self.new.program; waiting = self.new.waiting } }
     {
         let count = self.program.tell(&self.waiting);
         drop(self.waiting.drain(..count));
+    }
+
+    // The same, where what was told to it beside is whole: a line stands in no other.
+    fn hand_over_whole(&mut self)
+        ensures took { (n : ℕ) × (self.new.waiting.items ≡ drop n self.old.waiting.items)
+            × Wrote S.contents self.old.program.stream self.new.program.stream (take n self.old.waiting.items) }
+        ensures told { self.new.told ≡ self.old.told }
+    {
+        if self.aside.is_clear() {
+            self.hand_over();
+        }
     }
 
     // Reads until a line stands first or nothing more comes now. One that wrote more than a line has is let go.
@@ -161,6 +177,7 @@ impl<S: Stream + Drop> Follower<S> {
         };
         let said = do_line(alloc, line, now, closer, moment);
         let role = role_after(line, self.role);
+        self.aside.heard(line);
         self.say(said);
         self.lines.took();
         self.role = role;
@@ -206,11 +223,46 @@ impl<S: Stream + Drop> Follower<S> {
         ensures room { length self.new.waiting.items ≤ room }
     {
         let is_added = self.add(alloc, now).is_ok();
-        self.hand_over();
+        self.hand_over_whole();
         if !is_added || self.waiting.len() > ROOM {
             self.program.let_go();
             self.waiting.clear();
         }
+    }
+
+    // Whether it may be told now what stands beside the panes' terminals: it asked for it, and nothing waits for it.
+    fn may_hear(&self) -> bool
+        ensures may { result ≡ true → MayHear self.now }
+    {
+        self.aside.is_asked() && self.aside.is_clear() && self.waiting.is_empty()
+    }
+
+    // What is new of that waits for the program, where it may be told.
+    fn renew_beside(&mut self, alloc: Global, now: &BesideList, panes: &Panes)
+        ensures renews { RenewsBeside now.now panes.now.all.items self.old self.new }
+    {
+        if self.may_hear() {
+            self.aside.renew(alloc, now, panes);
+        }
+    }
+
+    // Once what was told to it beside is whole, hands the program what else waits.
+    fn go_on(&mut self, had_more: bool)
+        ensures goes { GoesOn S.contents self.old self.new }
+    {
+        if had_more && self.aside.is_clear() {
+            self.hand_over();
+        }
+    }
+
+    // Tells the program what is new of that, where it may be told, and hands it what waits of it.
+    fn tell_beside(&mut self, alloc: Global, now: &BesideList, panes: &Panes)
+        ensures tells { TellsBeside S.contents now.now panes.now.all.items self.old self.new }
+    {
+        self.renew_beside(alloc, now, panes);
+        let had_more = !self.aside.is_clear();
+        self.aside.hand(&mut self.program);
+        self.go_on(had_more);
     }
 
     // Whether it is there.
@@ -314,6 +366,32 @@ fn tell_all<S: Stream + Drop>(
     may_ask
 }
 
+// Tells each program that asked what is new of what stands beside the panes' terminals.
+fn tell_each_beside<S: Stream + Drop>(
+    alloc: Global,
+    all: &mut [Follower<S>],
+    now: &BesideList,
+    panes: &Panes,
+)
+    ensures told { AllZip (λ old new. TellsBeside S.contents now.now panes.now.all.items old new) all.old all.new }
+{
+    let Some((first, others)) = all.split_first_mut() else {
+        return;
+    };
+    first.tell_beside(alloc, now, panes);
+    tell_each_beside(alloc, others, now, panes);
+}
+
+// Whether one of these asked for that.
+fn any_asked<S: Stream + Drop>(all: &[Follower<S>]) -> bool
+    ensures any { result ≡ any_asked all.now }
+{
+    let Some((first, others)) = all.split_first() else {
+        return false;
+    };
+    first.aside.is_asked() || any_asked(others)
+}
+
 /// The socket `panes` of a folder, and the programs that follow the session's panes there.
 #[derive(Drop)]
 pub(crate) struct Followers {
@@ -373,6 +451,22 @@ impl Followers {
     {
         closer.settle(now);
         tell_all(alloc, &mut self.all, now, closer, moment)
+    }
+
+    /// Tells the programs that asked what is new of what stands beside the panes' terminals.
+    pub(crate) fn tell_beside(&mut self, alloc: Global, now: &BesideList, panes: &Panes)
+        ensures path { self.new.path ≡ self.old.path }
+        ensures told { AllZip (λ old new. TellsBeside ⟦<UnixStream as Stream>⟧.contents now.now panes.now.all.items old new)
+            self.old.all.items self.new.all.items }
+    {
+        tell_each_beside(alloc, &mut self.all, now, panes);
+    }
+
+    /// Whether a program asked for that.
+    pub(crate) fn is_beside_asked(&self) -> bool
+        ensures asked { result ≡ any_asked self.now.all.items }
+    {
+        any_asked(&self.all)
     }
 
     /// Removes the socket's file.

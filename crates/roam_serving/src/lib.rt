@@ -1,8 +1,10 @@
 //! `roam serve`: the turns of a server round its sockets and the clock.
 #![tactic(auto)]
 
+mod asides;
 mod closing;
 mod following;
+mod inflows;
 mod panes;
 mod peers;
 mod programs;
@@ -10,6 +12,8 @@ mod refused;
 mod seats;
 mod server_ports;
 mod serving;
+mod sieves;
+mod tellings;
 
 pub use refused::tell_unbound;
 pub use server_ports::{OwnStart, ServerPorts};

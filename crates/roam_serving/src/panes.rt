@@ -1,26 +1,32 @@
 //! The sockets of the panes, where their programs are reached.
-ghost use Rattle.std.specs.Prelude.{◌≡◌, ◌≢◌, ◌⊎◌, ◌++◌, ◌≤◌, ◌<◌, [], ◌∷◌, length, map, string_bytes, is_some, nat_lt, None, IfOk, OnOk, IfSome, IfErr, IsOkUnless};
+ghost use Rattle.std.specs.Prelude.{◌≡◌, ◌≢◌, ◌⊎◌, ◌++◌, ◌≤◌, ◌<◌, ◌-◌, [], ◌∷◌, length, map, slice_get, string_bytes, is_some, nat_lt, None, Some, IfOk, OnOk, IfSome, IfErr, IsOkUnless};
 ghost use Rattle.std.specs.List.{All};
 ghost use Rattle.roam_serving.specs.Panes.{path_of, paths_of};
-ghost use Rattle.roam_serving.specs.Peers.{Changes, Lives, Asks};
+ghost use Rattle.roam_serving.specs.Asides.{AreBeside, pane_beside, shown_bells, title_of};
+ghost use Rattle.roam_serving.specs.Inflows.{IsFreshInflow};
+ghost use Rattle.roam_serving.specs.Peers.{Changes, Lives, Asks, Hears};
+ghost use Rattle.roam_serving.specs.Sieves.{bytes_given};
 
-use crate::peers::{Making, has_peer, live, read, write};
+use crate::inflows::Inflow;
+use crate::peers::{Making, has_peer, life_of, live, read, write};
 use mio::net::UnixListener;
 use mio::{Interest, Registry, Token};
 use roam_acts::limits::{MOST_PANES, PANES_END};
 use roam_cells::Fault;
 use roam_faults::RunFault;
+use roam_pane_list::{BesideList, BesidePane};
 use roam_sockets::listen;
 use std::alloc::Global;
 use std::fs::{Files, remove_file};
 use std::net::Net;
 
-/// The socket of a pane, and which making of the pane is there with its peer.
+/// The socket of a pane, and which making of the pane is there with its peer and with what came of it.
 #[derive(Drop)]
 pub(crate) struct Pane {
     path: String,
     listener: UnixListener,
     making: Option<Making>,
+    inflow: Inflow,
 }
 
 impl Pane {
@@ -31,9 +37,11 @@ impl Pane {
         registry: &Registry,
         folder: &str,
         number: u8,
+        as_meant: bool,
     ) -> Result<Pane, RunFault>
         ensures path { IfOk result (λ pane. string_bytes pane.path ≡ path_of folder.now number) }
         ensures none { IfOk result (λ pane. pane.making ≡ None) }
+        ensures fresh { IfOk result (λ pane. IsFreshInflow pane.inflow as_meant) }
         ensures faults { IfErr result (λ fault. (fault ≡ RunFault.Bind) ⊎ (fault ≡ RunFault.Core Fault.OutOfMemory)) }
     {
         let Ok(path) = format!(in alloc; "{folder}/p{number}") else {
@@ -48,6 +56,7 @@ impl Pane {
             path,
             listener,
             making: None,
+            inflow: Inflow::new(alloc, as_meant),
         })
     }
 
@@ -55,16 +64,31 @@ impl Pane {
     fn live(&mut self, life: Option<u64>)
         ensures lives { Lives life self.old self.new }
     {
-        live(&mut self.making, life);
+        live(&mut self.making, &mut self.inflow, life);
     }
 
-    // What the program wrote: how many bytes of `buf` it fills from the front.
+    // What goes on to the terminal of what the program wrote: how many bytes of `buf` it fills from the front.
     fn read(&mut self, registry: &Registry, buf: &mut [u8]) -> Option<usize>
-        ensures some { IfSome result (λ n. 0 < n) }
         ensures within { IfSome result (λ n. n ≤ length buf.new) }
-        ensures asks { Asks (is_some result) self.old self.new }
+        ensures hears { Hears (is_some result) (bytes_given result buf.new) self.old self.new }
     {
-        read(&mut self.making, &self.listener, registry, buf)
+        read(
+            &mut self.making,
+            &mut self.inflow,
+            &self.listener,
+            registry,
+            buf,
+        )
+    }
+
+    // What stands beside the terminal, where the pane is there.
+    fn beside(&self) -> Option<BesidePane>
+        ensures beside { result ≡ pane_beside (Some self.now) }
+    {
+        match life_of(&self.making) {
+            None => None,
+            Some(life) => Some(self.inflow.beside_of(life)),
+        }
     }
 
     // How many of the bytes the program took.
@@ -73,6 +97,21 @@ impl Pane {
         ensures asks { Asks (nat_lt 0 result) self.old self.new }
     {
         write(&mut self.making, &self.listener, registry, bytes)
+    }
+}
+
+// What is told of what stands beside a terminal: where no bell may be told, as many as were shown before.
+fn shown_bells(
+    may_ring: bool,
+    shown: Option<BesidePane>,
+    now: Option<BesidePane>,
+) -> Option<BesidePane>
+    ensures shown { result ≡ shown_bells may_ring shown now }
+{
+    match now {
+        None => None,
+        Some(now) if may_ring => Some(now),
+        Some(now) => Some(now.without_new_bells(shown)),
     }
 }
 
@@ -85,16 +124,18 @@ pub(crate) struct Panes {
 impl Panes {
     /// Binds the sockets of a folder; no pane is there yet. A socket's file to which nobody listens is removed first. `Bind` where one
     /// can't be bound, as where its file is there, or where the folder has no name; `OutOfMemory`; those that were bound before are removed
-    /// then.
+    /// then. What programs write goes on as it comes, or as it is meant.
     pub(crate) fn bind<R: Files + Net>(
         rt: &R,
         alloc: Global,
         registry: &Registry,
         folder: &str,
+        as_meant: bool,
     ) -> Result<Panes, RunFault>
         ensures nine { IfOk result (λ panes. length panes.all.items ≡ 9) }
         ensures paths { IfOk result (λ panes. map (λ pane. string_bytes pane.path) panes.all.items ≡ paths_of folder.now 9) }
         ensures none { IfOk result (λ panes. All (λ pane. pane.making ≡ None) panes.all.items) }
+        ensures fresh { IfOk result (λ panes. All (λ pane. IsFreshInflow pane.inflow as_meant) panes.all.items) }
         ensures named { IfOk result (λ _. folder.now ≢ []) }
         ensures faults { IfErr result (λ fault. (fault ≡ RunFault.Bind) ⊎ (fault ≡ RunFault.Core Fault.OutOfMemory)) }
     {
@@ -105,7 +146,7 @@ impl Panes {
             return Err(RunFault::Core(Fault::OutOfMemory));
         };
         let mut panes = Panes { all };
-        match panes.bind_all(rt, alloc, registry, folder) {
+        match panes.bind_all(rt, alloc, registry, folder, as_meant) {
             Ok(()) => Ok(panes),
             Err(fault) => {
                 panes.remove(rt);
@@ -120,15 +161,17 @@ impl Panes {
         alloc: Global,
         registry: &Registry,
         folder: &str,
+        as_meant: bool,
     ) -> Result<(), RunFault>
         requires empty { length self.old.all.items ≡ 0 }
         ensures nine { OnOk result (length self.new.all.items ≡ 9) }
         ensures paths { OnOk result (map (λ pane. string_bytes pane.path) self.new.all.items ≡ paths_of folder.now 9) }
         ensures none { OnOk result (All (λ pane. pane.making ≡ None) self.new.all.items) }
+        ensures fresh { OnOk result (All (λ pane. IsFreshInflow pane.inflow as_meant) self.new.all.items) }
         ensures faults { IfErr result (λ fault. (fault ≡ RunFault.Bind) ⊎ (fault ≡ RunFault.Core Fault.OutOfMemory)) }
     {
         for number in 1..PANES_END {
-            let pane = Pane::bind(rt, alloc, registry, folder, number)?;
+            let pane = Pane::bind(rt, alloc, registry, folder, number, as_meant)?;
             self.add(pane)?;
         }
         Ok(())
@@ -152,18 +195,53 @@ impl Panes {
         }
     }
 
-    /// What the program of a pane wrote: how many bytes of `buf` it fills from the front. A peer is taken where there is none, and let go
-    /// where it is gone; one that comes to a pane that isn't there waits.
+    /// What goes on to a pane's terminal of what its program wrote: how many bytes of `buf` it fills from the front, none where all that
+    /// came waits. A peer is taken where there is none, and let go where it is gone; one that comes to a pane that isn't there waits.
     pub(crate) fn read(&mut self, registry: &Registry, pane: u8, buf: &mut [u8]) -> Option<usize>
-        ensures some { IfSome result (λ n. 0 < n) }
         ensures within { IfSome result (λ n. n ≤ length buf.new) }
-        ensures asks { Changes (Asks (is_some result)) pane self.old.all.items self.new.all.items }
+        ensures hears { Changes (Hears (is_some result) (bytes_given result buf.new)) pane self.old.all.items self.new.all.items }
     {
         let at = usize::from(pane);
         if at < 1 || self.all.len() < at {
             return None;
         }
         self.all[at - 1].read(registry, buf)
+    }
+
+    // What stands beside the terminal of a pane, where it is there.
+    fn beside(&self, pane: u8) -> Option<BesidePane>
+        ensures beside { 1 ≤ pane → result ≡ pane_beside (slice_get self.now.all.items (pane - 1)) }
+    {
+        let at = usize::from(pane);
+        if at < 1 || self.all.len() < at {
+            return None;
+        }
+        self.all[at - 1].beside()
+    }
+
+    /// The last title that the program of a pane said, or nothing.
+    pub(crate) fn title(&self, pane: u8) -> &[char]
+        ensures title { 1 ≤ pane → result.now ≡ title_of self.now.all.items pane }
+    {
+        let at = usize::from(pane);
+        if at < 1 || self.all.len() < at {
+            return &[];
+        }
+        self.all[at - 1].inflow.title()
+    }
+
+    /// What stands beside the panes' terminals, with the bells that may be told: all that rang, or those that were shown before.
+    pub(crate) fn besides(&self, may_ring: bool, shown: &BesideList) -> BesideList
+        ensures are { AreBeside may_ring shown.now self.now.all.items result }
+    {
+        let mut list = BesideList::unknown();
+        for pane in 1..PANES_END {
+            list.set(
+                pane,
+                shown_bells(may_ring, shown.get(pane), self.beside(pane)),
+            );
+        }
+        list
     }
 
     /// Whether a peer came to a pane that is there.

@@ -1,7 +1,11 @@
 //! The peers of sockets, one at a time; those of the panes' sockets are each for the making of the pane that they came to.
 ghost use Rattle.std.specs.Prelude.{◌≡◌, ◌≢◌, ◌⊎◌, ◌↔◌, ◌<◌, ◌≤◌, length, IsTrue, IsSome, IfSome, is_some, None};
+ghost use Rattle.roam_serving.specs.Inflows.{Brings, IsFreshInflow};
 ghost use Rattle.roam_serving.specs.Peers.{HasFailed, life_in, peer_in};
+ghost use Rattle.roam_serving.specs.Sieves.{IsFree, bytes_given};
 
+use crate::inflows::Inflow;
+use crate::sieves::MOST_READ;
 use mio::net::{UnixListener, UnixStream};
 use mio::{Interest, Registry, Token};
 use roam_faults::{is_for_now, is_stream_end};
@@ -46,17 +50,15 @@ pub(crate) fn next_at(listener: &UnixListener, registry: &Registry) -> Option<Un
     Some(stream)
 }
 
-/// The making of a pane that is there from now on, or that none is. That which was there stays with its peer; the peer of any other goes.
-pub(crate) fn live(making: &mut Option<Making>, life: Option<u64>)
+/// The making of a pane that is there from now on, or that none is. That which was there stays with its peer; the peer of any other goes,
+/// and what came of it.
+pub(crate) fn live(making: &mut Option<Making>, inflow: &mut Inflow, life: Option<u64>)
     ensures lives { life_in making.new ≡ life }
-    ensures stays { life_in making.old ≡ life → making.new ≡ making.old }
+    ensures stays { life_in making.old ≡ life → (making.new ≡ making.old) × (inflow.new ≡ inflow.old) }
     ensures goes { life_in making.old ≢ life → peer_in making.new ≡ None }
+    ensures fresh { life_in making.old ≢ life → IsFreshInflow inflow.new (is_some inflow.old.sieve) }
 {
-    let was = match making {
-        None => None,
-        Some(making) => Some(making.life),
-    };
-    if was != life {
+    if life_of(making) != life {
         *making = match life {
             None => None,
             Some(life) => Some(Making {
@@ -64,6 +66,17 @@ pub(crate) fn live(making: &mut Option<Making>, life: Option<u64>)
                 peer: Peer::none(),
             }),
         };
+        inflow.renew();
+    }
+}
+
+/// Which making is there, if any.
+pub(crate) fn life_of(making: &Option<Making>) -> Option<u64>
+    ensures life { result ≡ life_in making.now }
+{
+    match making {
+        None => None,
+        Some(making) => Some(making.life),
     }
 }
 
@@ -168,25 +181,48 @@ impl Peer {
     }
 }
 
-/// What the program of a pane wrote: how many bytes of `buf` it fills from the front; a pane that isn't there takes no peer, and is told
-/// nothing.
-pub(crate) fn read(
-    making: &mut Option<Making>,
+// What the program of a making wrote: how many bytes of `buf` it fills from the front.
+fn hear(
+    making: &mut Making,
     listener: &UnixListener,
     registry: &Registry,
     buf: &mut [u8],
 ) -> Option<usize>
     ensures some { IfSome result (λ n. 0 < n) }
     ensures within { IfSome result (λ n. n ≤ length buf.new) }
-    ensures from { IfSome result (λ _. IsSome (peer_in making.new)) }
-    ensures life { life_in making.new ≡ life_in making.old }
-    ensures one { IfSome (peer_in making.old) (λ _. (making.new ≡ making.old) ⊎ (peer_in making.new ≡ None)) }
+    ensures from { IfSome result (λ _. IsSome making.new.peer.stream) }
+    ensures life { making.new.life ≡ making.old.life }
+    ensures one { IfSome making.old.peer.stream (λ _. (making.new ≡ making.old) ⊎ (making.new.peer.stream ≡ None)) }
 {
-    let making = making.as_mut()?;
     if making.peer.is_there() {
         return making.peer.hear(buf);
     }
     making.peer.take_next(listener, registry, buf)
+}
+
+/// What goes on to a pane's terminal of what its program wrote: how many bytes of `buf` it fills from the front, which are none where all
+/// that came, or waited, waits. A pane that isn't there takes no peer, and is told nothing.
+pub(crate) fn read(
+    making: &mut Option<Making>,
+    inflow: &mut Inflow,
+    listener: &UnixListener,
+    registry: &Registry,
+    buf: &mut [u8],
+) -> Option<usize>
+    ensures within { IfSome result (λ n. n ≤ length buf.new) }
+    ensures from { IfSome result (λ _. IsSome (peer_in making.new) ⊎ (IsFree inflow.old.sieve → ⊥)) }
+    ensures life { life_in making.new ≡ life_in making.old }
+    ensures waits { life_in making.old ≡ None → (making.new ≡ making.old) × (inflow.new ≡ inflow.old) }
+    ensures one { IfSome (peer_in making.old) (λ _. (making.new ≡ making.old) ⊎ (peer_in making.new ≡ None)) }
+    ensures brings { Brings inflow.old inflow.new (bytes_given result buf.new) }
+{
+    let making = making.as_mut()?;
+    if let Some(count) = inflow.go_on(buf) {
+        return Some(count);
+    }
+    let most = buf.len().min(MOST_READ);
+    let count = hear(making, listener, registry, buf.split_at_mut(most).0)?;
+    Some(inflow.came(buf, count))
 }
 
 /// How many of the bytes the program of a pane took, 0 where none is there.

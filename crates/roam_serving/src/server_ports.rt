@@ -1,5 +1,5 @@
 //! The ports of a server over sockets. What they carried isn't told.
-ghost use Rattle.std.specs.Prelude.{◌≡◌, ◌≢◌, ◌⊎◌, ◌<◌, ◌≤◌, [], ℕ, true, false, not, length, map, string_bytes, is_some, nat_lt, None, IfOk, IfSome, IfErr};
+ghost use Rattle.std.specs.Prelude.{◌≡◌, ◌≢◌, ◌⊎◌, ◌<◌, ◌≤◌, [], ℕ, List, true, false, not, length, map, string_bytes, is_some, nat_lt, None, Some, IfOk, IfSome, IfErr};
 ghost use Rattle.std.specs.List.{All};
 ghost use Rattle.std.specs.Option.{option_map};
 ghost use Rattle.roam_sockets.specs.Addresses.{number_of};
@@ -11,12 +11,16 @@ ghost use Rattle.roam_serving.specs.Closing.{GivesOwn, HearsAnswer, own_address}
 ghost use Rattle.roam_serving.specs.Following.{AreAllTold, HaveCome, most_taken, panes_path};
 ghost use Rattle.roam_serving.specs.Rests.{SendsBy, is_paced};
 ghost use Rattle.roam_serving.specs.declared.closing.Closer.{Closer as CloserOf};
+ghost use Rattle.roam_serving.specs.Tellings.{AreToldBeside, sooner};
 ghost use Rattle.roam_serving.specs.Panes.{IsPortOf, clients_path, paths_of};
-ghost use Rattle.roam_serving.specs.Peers.{Asks, Changes, Lives};
+ghost use Rattle.roam_serving.specs.Inflows.{IsFreshInflow};
+ghost use Rattle.roam_serving.specs.Peers.{Asks, Changes, Hears, Lives};
+ghost use Rattle.roam_serving.specs.Sieves.{bytes_given};
 
 use crate::closing::{Closer, OWN};
 use crate::following::Followers;
 use crate::panes::Panes;
+use crate::tellings::{AsideTimes, sooner};
 use mio::net::UnixStream;
 use roam_cells::Fault;
 use roam_faults::RunFault;
@@ -52,6 +56,7 @@ pub struct ServerPorts<R> {
     clients: Clients,
     panes: Panes,
     followers: Followers,
+    telling: AsideTimes,
     closer: Closer,
     alloc: Global,
     is_udp_next: bool,
@@ -143,10 +148,35 @@ fn next_arrival(
     }
 }
 
+// Tells the programs that asked what is new beside the panes' terminals, where it is time.
+fn tell_beside(
+    alloc: Global,
+    telling: &mut AsideTimes,
+    followers: &mut Followers,
+    panes: &Panes,
+    moment: u64,
+)
+    ensures told { AreToldBeside ⟦<UnixStream as Stream>⟧.contents telling.old.told moment panes.now.all.items followers.old.all.items
+        followers.new.all.items }
+{
+    if !followers.is_beside_asked() {
+        telling.rest();
+        return;
+    }
+    if !telling.is_time(moment) {
+        telling.wait();
+        return;
+    }
+    let now = panes.besides(telling.may_ring(moment), telling.shown());
+    followers.tell_beside(alloc, &now, panes);
+    telling.tells(&now, moment);
+}
+
 impl<R: Clock + Drop> ServerPorts<R> {
     /// Binds in a folder the sockets `p1` to `p9`, of panes that aren't there yet, `panes`, where a program follows them, and `clients`,
     /// for client starts; and where it is asked for a port of this machine, any that is free where it is 0. `Bind` where one can't be
-    /// bound, or the folder has no name; `OutOfMemory`; then nothing stays.
+    /// bound, or the folder has no name; `OutOfMemory`; then nothing stays. What panes' programs write goes on as it comes, or as it is
+    /// meant.
     pub fn bind<N: Files + Net>(
         rt: &N,
         alloc: Global,
@@ -154,11 +184,13 @@ impl<R: Clock + Drop> ServerPorts<R> {
         port: Option<u16>,
         moments: Moments<R>,
         own: OwnStart,
+        as_meant: bool,
     ) -> Result<ServerPorts<R>, RunFault>
         ensures moments { IfOk result (λ ports. ports.moments ≡ moments) }
         ensures port { IfOk result (λ ports. IsPortOf port ports.udp) }
         ensures nine { IfOk result (λ ports. length ports.panes.all.items ≡ 9) }
         ensures none { IfOk result (λ ports. All (λ pane. pane.making ≡ None) ports.panes.all.items) }
+        ensures fresh { IfOk result (λ ports. All (λ pane. IsFreshInflow pane.inflow as_meant) ports.panes.all.items) }
         ensures named { IfOk result (λ _. folder.now ≢ []) }
         ensures paths { IfOk result (λ ports. map (λ pane. string_bytes pane.path) ports.panes.all.items ≡ paths_of folder.now 9) }
         ensures followers { IfOk result (λ ports. (ports.followers.all.items ≡ [])
@@ -169,7 +201,7 @@ impl<R: Clock + Drop> ServerPorts<R> {
     {
         let waits = Waits::new(rt, alloc)?;
         let udp = bind_udp(rt, alloc, &waits, port)?;
-        let panes = Panes::bind(rt, alloc, waits.registry(), folder)?;
+        let panes = Panes::bind(rt, alloc, waits.registry(), folder, as_meant)?;
         match bind_others(rt, alloc, &waits, folder) {
             Ok((followers, clients)) => Ok(ServerPorts {
                 moments,
@@ -179,6 +211,7 @@ impl<R: Clock + Drop> ServerPorts<R> {
                 clients,
                 panes,
                 followers,
+                telling: AsideTimes::new(),
                 closer: Closer::new(own.session, own.id),
                 alloc,
                 is_udp_next: false,
@@ -221,12 +254,13 @@ impl<R: Clock + Drop> ServerPorts<R> {
         }
     }
 
-    /// Writes what waits for client starts, takes those that come, and waits until something comes or is due at a moment, where nothing
-    /// came since the last call and no datagram of its own start waits.
+    /// Writes what waits for client starts, takes those that come, and waits until something comes or is due at a moment, or what
+    /// stands beside the panes' terminals is to be told, where nothing came since the last call and no datagram of its own start waits.
     pub fn rest(&mut self, due: Option<u64>)
         ensures quiet { self.new.waits.quiet ≡ true }
         ensures waited { IfSome self.new.waits.longest (λ longest. (self.old.waits.quiet ≡ true) × (self.old.closer.closing ≡ None)
-            × (longest ≡ wait_for due self.old.moment (is_paced self.new.udp))) }
+            × (longest ≡ wait_for (sooner due self.old.telling.due) self.old.moment (is_paced self.new.udp))) }
+        ensures telling { self.new.telling ≡ self.old.telling }
         ensures panes { self.new.panes ≡ self.old.panes }
         ensures followers { self.new.followers ≡ self.old.followers }
         ensures moment { self.new.moment ≡ self.old.moment }
@@ -236,6 +270,7 @@ impl<R: Clock + Drop> ServerPorts<R> {
         }
         let is_paced = !flush_udp(&mut self.udp, self.moment);
         let waits = self.waits.is_quiet();
+        let due = sooner(due, self.telling.due());
         self.waits.rest(wait_for(due, self.moment, is_paced));
         self.look(self.alloc, waits);
     }
@@ -270,11 +305,38 @@ impl<R: Clock + Drop> ServerPorts<R> {
         }
     }
 
+    /// Tells the programs that asked what is new of what stands beside the panes' terminals, each 20 milliseconds at most.
+    pub fn tell_beside(&mut self)
+        ensures panes { self.new.panes ≡ self.old.panes }
+        ensures told { AreToldBeside ⟦<UnixStream as Stream>⟧.contents self.old.telling.told self.old.moment self.old.panes.all.items
+            self.old.followers.all.items self.new.followers.all.items }
+        ensures moment { self.new.moment ≡ self.old.moment }
+    {
+        tell_beside(
+            self.alloc,
+            &mut self.telling,
+            &mut self.followers,
+            &self.panes,
+            self.moment,
+        );
+    }
+
     /// Removes the files of the sockets.
     pub fn remove(&self, files: &impl Files) {
         self.panes.remove(files);
         self.followers.remove(files);
         self.clients.remove(files);
+    }
+}
+
+// A count of bytes, where there are some.
+fn some_bytes(count: Option<usize>) -> Option<usize>
+    ensures some { IfSome result (λ n. (0 < n) × (count ≡ Some n)) }
+    ensures same { (buf : List ℕ) → bytes_given result buf ≡ bytes_given count buf }
+{
+    match count {
+        Some(0) => None,
+        other => other,
     }
 }
 
@@ -312,6 +374,7 @@ impl<R: Clock + Drop> Ports for ServerPorts<R> {
         ensures near { to ≢ own_address → result ≡ true → IfSome (number_of to) (λ _.
             IsQueuedFor self.old.clients.all.items self.new.clients.all.items (number_of to) bytes.now) }
         ensures far { number_of to ≡ None → SendsBy self.old.moment to self.old.udp self.new.udp bytes.now result }
+        ensures panes { self.new.panes ≡ self.old.panes }
     {
         if to == OWN {
             self.closer.hear(self.alloc, bytes, self.moment);
@@ -334,16 +397,18 @@ impl<R: Clock + Drop> Ports for ServerPorts<R> {
     fn pane_in(&mut self, pane: u8, buf: &mut [u8]) -> Option<usize>
         ensures some { IfSome result (λ n. 0 < n) }
         ensures within { IfSome result (λ n. n ≤ length buf.new) }
-        ensures asks { Changes (Asks (is_some result)) pane self.old.panes.all.items self.new.panes.all.items }
+        // What came in this life of the pane is given piece after piece, as it came or as it is meant, and stands beside its terminal.
+        ensures hears { Changes (Hears (is_some result) (bytes_given result buf.new)) pane self.old.panes.all.items
+            self.new.panes.all.items }
         ensures stirs { IfSome result (λ _. self.new.waits.quiet ≡ false) }
     {
         let had_peer = self.panes.has_peer(pane);
         let count = self.panes.read(self.waits.registry(), pane, buf);
-        // Where a peer is gone the next may wait.
+        // Where a peer is gone the next may wait, and where all that came waits, more may have come.
         if count.is_some() || had_peer != self.panes.has_peer(pane) {
             self.waits.stir();
         }
-        count
+        some_bytes(count)
     }
 
     fn pane_out(&mut self, pane: u8, bytes: &[u8]) -> usize
@@ -360,6 +425,7 @@ impl<R: Clock + Drop> Ports for ServerPorts<R> {
 
     fn show(&mut self, _bytes: &[u8]) -> bool
         ensures none { result ≡ false }
+        ensures panes { self.new.panes ≡ self.old.panes }
     {
         false
     }

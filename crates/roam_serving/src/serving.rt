@@ -5,7 +5,7 @@ ghost use Rattle.roam_session.specs.Places.{rect_at};
 ghost use Rattle.roam_world.specs.Servers.{Server as ServerOf};
 ghost use Rattle.roam_hub.specs.Servers.{Stands};
 ghost use Rattle.roam_serving.specs.Following.{ArePanesOf, pane_of};
-ghost use Rattle.roam_serving.specs.Rests.{HasRested, HasTold};
+ghost use Rattle.roam_serving.specs.Rests.{HasRested, HasToldAll};
 ghost use Rattle.roam_serving.specs.Runs.{Serves, ServesTurns};
 
 use crate::server_ports::{OwnStart, ServerPorts};
@@ -38,6 +38,8 @@ pub struct Serve<'a> {
     pub session: Option<u64>,
     /// How many turns the run takes.
     pub turns: u64,
+    /// Whether what panes' programs write goes to their terminals as it is meant (`roam_meant`), and not as it comes.
+    pub as_meant: bool,
 }
 
 // A pane of a server, where it is there.
@@ -80,10 +82,12 @@ fn panes_of(server: &Server) -> PaneList
 // After a turn tells who follows the panes, and waits where it brought nothing: until something is due where the turns go on for good,
 // else a short while, so that they end by themselves.
 fn tell_and_rest<C: Clock + Drop>(turns: u64, server: &Server, ports: &mut ServerPorts<C>)
-    ensures told { HasTold ⟦<UnixStream as Stream>⟧.contents server.now ports.new.followers.all.items }
-    ensures rested { HasRested turns server.now ports.new.moment ports.new.udp ports.new.waits.longest }
+    ensures told { HasToldAll ⟦<UnixStream as Stream>⟧.contents server.now ports.new.moment ports.new.panes.all.items
+        ports.new.followers.all.items }
+    ensures rested { HasRested turns server.now ports.new.moment ports.new.udp ports.new.telling.due ports.new.waits.longest }
 {
     ports.tell_panes(&panes_of(server));
+    ports.tell_beside();
     ports.rest(if turns == FOR_GOOD {
         server.next_due()
     } else {
@@ -100,8 +104,10 @@ fn serve_turns<C: Clock + Drop>(
 )
     ensures turns { ServesTurns turns server.old server.new }
     // After each turn, and so after the last.
-    ensures told { 0 < turns → HasTold ⟦<UnixStream as Stream>⟧.contents server.new ports.new.followers.all.items }
-    ensures rested { 0 < turns → HasRested turns server.new ports.new.moment ports.new.udp ports.new.waits.longest }
+    ensures told { 0 < turns → HasToldAll ⟦<UnixStream as Stream>⟧.contents server.new ports.new.moment ports.new.panes.all.items
+        ports.new.followers.all.items }
+    ensures rested { 0 < turns
+        → HasRested turns server.new ports.new.moment ports.new.udp ports.new.telling.due ports.new.waits.longest }
 {
     for _ in 0..turns {
         serve_turn(alloc, server, ports);
@@ -165,7 +171,16 @@ fn serve_bound<R: Files + Net + Clock + RandomSource + Eprint + AllocGlobal>(
 {
     let alloc = rt.alloc();
     let own = own_start(rt, session)?;
-    let mut ports = ServerPorts::bind(rt, alloc, serve.folder, serve.port, Moments::real(rt), own)?;
+    let moments = Moments::real(rt);
+    let mut ports = ServerPorts::bind(
+        rt,
+        alloc,
+        serve.folder,
+        serve.port,
+        moments,
+        own,
+        serve.as_meant,
+    )?;
     let written = write_session(rt, serve.folder, session);
     if written.is_ok() {
         tell_port(rt, serve.port, ports.port());

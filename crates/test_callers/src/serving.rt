@@ -18,6 +18,7 @@ pub fn serve_a_while<R: Files + Net + Clock + RandomSource + Eprint + AllocGloba
         port: None,
         session: None,
         turns: 1000,
+        as_meant: false,
     };
     run_serve(rt, &serve)
 }

@@ -118,7 +118,8 @@ fn texts_of_words(rt: HostRuntime) {
     }
 }
 
-// Words, and what they ask for: of `serve` the folder, the port, the session and the turns; of `attach` the folder or the port, the
+// Words, and what they ask for: of `serve` the folder, the port, the session, the turns, and whether bytes are read as meant; of `attach`
+// the folder or the port, the
 // session, the client (`-` is none), where acts come from, the version, whether it watches, and the turns. Numbers are decimal. Words that
 // exclude one another or need one another, and a version that is none, ask for nothing.
 const ASKED: &str = "\
@@ -128,6 +129,8 @@ roam serve --dir d --port 4000 --session 5E55 --turns 9|serve d 4000 24149 9
 roam serve --dir d --port 4000 --session 5E55|serve d 4000 24149 18446744073709551615
 roam serve --dir d|serve d - - 18446744073709551615
 roam serve --dir d --session 5E55|serve d - 24149 18446744073709551615
+roam serve --dir d --as-meant --turns 9|serve d - - 9 as meant
+roam serve --dir d --as-meant 1|nothing
 roam serve --dir d --port 4000|nothing
 roam serve --port 4000 --session 5E55|nothing
 roam attach --turns 18446744073709551615 --keys k --client ffffffffffffffff --session 0 --port 1|\
@@ -188,10 +191,12 @@ fn text_of(alloc: Global, request: &Request<'_>) -> Result<String, AllocError> {
             port,
             session,
             turns,
+            as_meant,
         } => {
             let port = text_or_none(alloc, &port.map(u64::from))?;
             let session = text_or_none(alloc, session)?;
-            format!(in alloc; "serve {folder} {port} {session} {turns}")
+            let how = if *as_meant { " as meant" } else { "" };
+            format!(in alloc; "serve {folder} {port} {session} {turns}{how}")
         }
         Request::Attach {
             server,

@@ -10,10 +10,11 @@ use std::fs::{create_dir, exists, remove_file, write};
 use std::os::unix::fs::symlink;
 use std::test::*;
 
-/// The ports of a server whose panes are in a folder.
-pub fn ports_in<'a>(
+/// The ports of a server whose panes are in a folder, and whose panes' bytes go on as they are meant, or as they come.
+pub fn ports_for<'a>(
     rt: &'a HostRuntime,
     folder: &str,
+    as_meant: bool,
 ) -> Result<ServerPorts<&'a HostRuntime>, RunFault> {
     ServerPorts::bind(
         rt,
@@ -25,7 +26,16 @@ pub fn ports_in<'a>(
             session: 1,
             id: 0xFF,
         },
+        as_meant,
     )
+}
+
+/// The ports of a server whose panes are in a folder.
+pub fn ports_in<'a>(
+    rt: &'a HostRuntime,
+    folder: &str,
+) -> Result<ServerPorts<&'a HostRuntime>, RunFault> {
+    ports_for(rt, folder, false)
 }
 
 fn is_bound(rt: &HostRuntime, folder: &str) -> bool {

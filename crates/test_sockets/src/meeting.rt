@@ -297,7 +297,7 @@ fn server_end<'a>(rt: &'a HostRuntime, folder: &str) -> Result<ServerEnd<'a>, Fa
         session: 0x5E55,
         id: 0xFF,
     };
-    let ports = ServerPorts::bind(rt, rt.alloc(), folder, Some(0), Moments::Set(0), own)?;
+    let ports = ServerPorts::bind(rt, rt.alloc(), folder, Some(0), Moments::Set(0), own, false)?;
     Ok(ServerEnd {
         server: Server::new(rt.alloc(), 0x5E55, 24, 80)?,
         ports,

@@ -3,11 +3,13 @@
 //! A line begins with `first` or `second`, one of the programs, with what it does; with `files`, with what is seen of them; with `pane` and
 //! its number: `lives N` or `goes`, `gives TEXT` or `gives nothing`, `takes TEXT` or `takes nothing of TEXT`; with `told`, panes 1 and 2,
 //! each with its life, its first row and its rows or `none`, of which a program that follows them is told (pane 2 is in focus where it is
-//! there), and how many client starts edit and watch, where that is known. `files are removed` by the ports. `start asks ACT, ACT` or `is
+//! there), and how many client starts edit and watch, where that is known; with `beside` and a moment, at which what stands beside the
+//! panes' terminals is told. `files are removed` by the ports. `start asks ACT, ACT` or `is
 //! quiet`: a datagram of the server's own start comes, with these acts, or none.
 use crate::acts::has;
-use crate::files::{first_untrue, is_so, ports_in};
+use crate::files::{first_untrue, is_so, ports_for};
 use crate::programs::Programs;
+use roam_faults::RunFault;
 use roam_pane_list::{ListedPane, PaneList};
 use roam_serving::ServerPorts;
 use roam_turns::Ports;
@@ -130,6 +132,19 @@ fn asks(alloc: Global, ports: &mut ServerPorts<&HostRuntime>, acts: &str) -> boo
     }
 }
 
+// At this moment what stands beside the panes' terminals is told.
+fn is_beside(ports: &mut ServerPorts<&HostRuntime>, words: &str) -> bool {
+    match words.parse::<u64>() {
+        Ok(moment) => {
+            ports.set_moment(moment);
+            ports.now();
+            ports.tell_beside();
+            true
+        }
+        Err(_) => false,
+    }
+}
+
 fn is_start(alloc: Global, ports: &mut ServerPorts<&HostRuntime>, words: &str) -> bool {
     match words.strip_prefix("asks ") {
         Some(acts) => asks(alloc, ports, acts),
@@ -161,6 +176,7 @@ fn is_done(
     match who {
         "pane" => Ok(is_numbered(ports, words)),
         "told" => Ok(is_told(rt.alloc(), ports, words)),
+        "beside" => Ok(is_beside(ports, words)),
         "files" => are_files(rt, ports, words),
         "start" => Ok(is_start(rt.alloc(), ports, words)),
         _ => programs.does(rt, who, words),
@@ -182,7 +198,19 @@ fn first_undone<'a>(
     Ok(None)
 }
 
-// The first line that isn't so of a story: of files alone, or, behind a line `ports FOLDER`, of the sockets there too.
+// The ports in a folder, of a server whose panes' bytes go on as they are meant where `as meant` stands behind it.
+fn ports_of<'a>(
+    rt: &'a HostRuntime,
+    words: &str,
+) -> Result<ServerPorts<&'a HostRuntime>, RunFault> {
+    match words.strip_suffix(" as meant") {
+        Some(folder) => ports_for(rt, folder, true),
+        None => ports_for(rt, words, false),
+    }
+}
+
+// The first line that isn't so of a story: of files alone, or, behind a line `ports FOLDER`, or one with `as meant`, of the sockets there
+// too.
 fn first_wrong<'a>(rt: &HostRuntime, story: &'a str) -> Result<Option<&'a str>, Fail> {
     let (ready, rest) = story.split_once("\nports ").unwrap_or((story, ""));
     let wrong = first_untrue(rt, ready)?;
@@ -190,7 +218,7 @@ fn first_wrong<'a>(rt: &HostRuntime, story: &'a str) -> Result<Option<&'a str>, 
     if wrong.is_some() || folder.is_empty() {
         return Ok(wrong);
     }
-    let mut ports = ports_in(rt, folder)?;
+    let mut ports = ports_of(rt, folder)?;
     first_undone(rt, &mut ports, &mut Programs::new(), lines)
 }
 
@@ -216,8 +244,13 @@ fn first_wrong_of<'a>(rt: &HostRuntime, stories: &'a str) -> Result<Option<&'a s
 ///
 /// One peer at a time: that the first program left is read before what the second wrote.
 ///
+/// Bytes as they are meant: whole, cut, more of them than the buffer has room for; what is held back of one life never comes in another.
+///
 /// A program follows the panes: one pane, two, one of them sized and the other moved, closed and made anew in one turn, closed; and how
 /// many client starts there are.
+///
+/// What stands beside a pane's terminal is told to who asked for it: as it is, and then what is new, each 20 ms at most, and bells once a
+/// second at most; of another life of the pane what is new in it.
 ///
 /// Programs follow and close. Two are told each what is new for it; a line that asks for no close, for one of a pane that is gone, or of
 /// the last pane; of two closes the second waits until a turn was taken with the first, and a pane that is still there then may be closed
@@ -290,6 +323,33 @@ pane 1 gives nothing
 pane 1 gives second
 files are removed
 
+folder meant
+ports meant as meant
+first connects meant/p1
+pane 1 lives 1
+pane 1 gives nothing
+first writes a\u{1b}[4:3mb
+pane 1 gives a\u{1b}[4mb
+first writes \u{1b}[4
+pane 1 gives nothing
+first writes :0mc
+pane 1 gives \u{1b}[24mc
+first writes abc\u{1b}[?3hd
+pane 1 gives abc\u{1b}[?3h\u{1b}[r\u{1b}[2J\u{1b}
+first writes e
+pane 1 gives [Hd
+pane 1 gives e
+pane 1 gives nothing
+first writes f\u{1b}[58
+pane 1 gives f
+pane 1 lives 2
+second connects meant/p1
+second writes ;5;1mg
+pane 1 gives ;5;1mg
+pane 1 takes key
+second reads key
+files are removed
+
 folder follows
 ports follows
 first connects follows/panes
@@ -327,6 +387,50 @@ second reads 1 1 1 22 80 1/
 first connects keepers/panes
 told 1 1 22, none
 first reads 1 1 1 22 80 1/focus 1/
+files are removed
+
+folder besides
+ports besides
+first connects besides/p1
+pane 1 lives 1
+first writes \u{1b}[?2004h\u{1b}]0;\u{e9}\u{7}
+pane 1 gives \u{1b}[?2004h\u{1b}]0;\u{e9}\u{7}
+first writes \u{7}
+pane 1 gives \u{7}
+second connects besides/panes
+second types beside/
+told 1 1 23, none
+second reads 1 1 1 23 80 1/focus 1/
+beside 0
+second reads modes 1 1 paste/title 1 1 c3a9/
+first writes \u{7}
+pane 1 gives \u{7}
+beside 10
+second waits
+beside 20
+second waits
+first writes \u{7}\u{1b}[5 q
+pane 1 gives \u{7}\u{1b}[5 q
+beside 40
+second reads shape 1 1 5/
+beside 999
+second waits
+beside 1019
+second reads bell 1 1/
+beside 1040
+second waits
+first writes \u{1b}c
+pane 1 gives \u{1b}c
+beside 1060
+second reads modes 1 1/shape 1 1 0/
+pane 1 lives 2
+beside 1080
+second waits
+first connects besides/p1
+first writes \u{1b}]2;z\u{7}\u{7}
+pane 1 gives \u{1b}]2;z\u{7}\u{7}
+beside 2100
+second reads title 1 2 7a/bell 1 2/
 files are removed
 
 folder followers

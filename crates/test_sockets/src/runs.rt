@@ -52,6 +52,7 @@ fn serves(rt: &HostRuntime, folder: &str, port: Option<u16>, word: &str) -> bool
         port,
         session: port.map(|_| 1),
         turns: 3,
+        as_meant: false,
     };
     match run_serve(rt, &serve) {
         Ok(()) => word == "well",

@@ -1,4 +1,4 @@
-use Rattle.std.proofs.Common.{◌≡◌, ap, rules, subst, sym}
+use Rattle.std.proofs.Common.{◌≡◌, ◌∙◌, ap, rules, subst, sym}
 use Rattle.roam_typing.specs.Lines.{IsFirst}
 use Rattle.roam_serving.proofs.Asked.{taken}
 use Rattle.roam_serving.proofs.following.Follower.do_first.Goals as goal
@@ -12,6 +12,7 @@ returns-clause-takes g c = λ h.
           (λ l rest is. c.took.ensures.took l rest (subst (λ k. IsFirst k.kept l rest) (sym lines) is));
       said = c.do_line-said.result.now;
       role = c.role_after-role.ensures.role;
+      aside = ap (λ f. f.aside) c.say.ensures.others ∙ c.heard.ensures.asked;
       does = c.do_line-said.ensures.does;
       waits = c.say.ensures.said;
     }

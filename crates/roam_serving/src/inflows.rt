@@ -1,0 +1,128 @@
+//! What comes of a pane's program, on its way to the pane's terminal, and what stands beside that.
+ghost use Rattle.std.specs.Prelude.{◌≡◌, ◌≤◌, ◌++◌, ℕ, List, [], length, min, take, is_some, None, IfSome};
+ghost use Rattle.roam_serving.specs.Asides.{title_codes};
+ghost use Rattle.roam_serving.specs.Inflows.{Carries, IsFreshInflow};
+ghost use Rattle.roam_serving.specs.Sieves.{Goes, IsFree, bytes_given};
+
+use crate::sieves::Sieve;
+use roam_beside::Beside;
+use roam_pane_list::BesidePane;
+use std::alloc::Global;
+
+// A filter, where one is asked for.
+fn sieve_for(alloc: Global, is_meant: bool) -> Option<Sieve>
+    ensures kind { is_some result ≡ is_meant }
+    ensures fresh { Goes result [] [] }
+    ensures free { IsFree result }
+{
+    if is_meant {
+        Some(Sieve::new(alloc))
+    } else {
+        None
+    }
+}
+
+// A piece came that fills a buffer so far: how many bytes there go on now, in its place.
+fn pass(sieve: &mut Option<Sieve>, buf: &mut [u8], count: usize) -> usize
+    requires count { count ≤ min 1024 (length buf.old) }
+    requires free { IsFree sieve.old }
+    ensures within { result ≤ length buf.new }
+    ensures goes { (came given : List ℕ) → Goes sieve.old came given
+        → Goes sieve.new (came ++ take count buf.old) (given ++ take result buf.new) }
+    ensures kind { is_some sieve.new ≡ is_some sieve.old }
+{
+    match sieve {
+        None => count,
+        Some(sieve) => {
+            sieve.take_in(buf.split_at(count).0);
+            sieve.go_on(buf)
+        }
+    }
+}
+
+// How many bytes go on of what waits; none where nothing does.
+fn pass_on(sieve: &mut Option<Sieve>, buf: &mut [u8]) -> Option<usize>
+    ensures none { result ≡ None → (sieve.new ≡ sieve.old) × IsFree sieve.new }
+    ensures some { IfSome result (λ _. IsFree sieve.old → ⊥) }
+    ensures within { IfSome result (λ n. n ≤ length buf.new) }
+    ensures goes { (came given : List ℕ) → Goes sieve.old came given → Goes sieve.new came (given ++ bytes_given result buf.new) }
+    ensures kind { is_some sieve.new ≡ is_some sieve.old }
+{
+    let sieve = sieve.as_mut()?;
+    if sieve.is_free() {
+        return None;
+    }
+    Some(sieve.go_on(buf))
+}
+
+/// What comes of a pane's program in one life of the pane: as it comes, or through a filter; and what it says beside the screen.
+#[derive(Drop)]
+pub(crate) struct Inflow {
+    alloc: Global,
+    sieve: Option<Sieve>,
+    beside: Beside,
+}
+
+impl Inflow {
+    /// Nothing came yet; what comes goes through a filter where it is to be as it is meant.
+    pub(crate) fn new(alloc: Global, is_meant: bool) -> Inflow
+        ensures fresh { IsFreshInflow result is_meant }
+    {
+        Inflow {
+            alloc,
+            sieve: sieve_for(alloc, is_meant),
+            beside: Beside::new(alloc),
+        }
+    }
+
+    /// Another life of the pane begins.
+    pub(crate) fn renew(&mut self)
+        ensures fresh { IsFreshInflow self.new (is_some self.old.sieve) }
+    {
+        let is_meant = self.sieve.is_some();
+        *self = Inflow::new(self.alloc, is_meant);
+    }
+
+    /// What stands beside the terminal of this life of the pane.
+    pub(crate) fn beside_of(&self, life: u64) -> BesidePane
+        ensures beside { result ≡ record { life = life; settings = self.now.beside.settings; titles = self.now.beside.texts.said.titles } }
+    {
+        BesidePane {
+            life,
+            settings: self.beside.settings(),
+            titles: self.beside.titles(),
+        }
+    }
+
+    /// The last title that was said, or nothing.
+    pub(crate) fn title(&self) -> &[char]
+        ensures title { result.now ≡ title_codes self.now.beside.texts.said.title }
+    {
+        self.beside.title().unwrap_or(&[])
+    }
+
+    /// How many bytes go on of what waits, which may be none for want of memory; nothing waits where it answers none.
+    pub(crate) fn go_on(&mut self, buf: &mut [u8]) -> Option<usize>
+        ensures none { result ≡ None → (self.new ≡ self.old) × IsFree self.new.sieve }
+        ensures some { IfSome result (λ _. IsFree self.old.sieve → ⊥) }
+        ensures within { IfSome result (λ n. n ≤ length buf.new) }
+        ensures carries { (came given : List ℕ) → Carries self.old came given
+            → Carries self.new came (given ++ bytes_given result buf.new) }
+        ensures kind { is_some self.new.sieve ≡ is_some self.old.sieve }
+    {
+        pass_on(&mut self.sieve, buf)
+    }
+
+    /// A piece came that fills a buffer so far: how many bytes there go on now, in its place.
+    pub(crate) fn came(&mut self, buf: &mut [u8], count: usize) -> usize
+        requires count { count ≤ min 1024 (length buf.old) }
+        requires free { IsFree self.old.sieve }
+        ensures within { result ≤ length buf.new }
+        ensures carries { (came given : List ℕ) → Carries self.old came given
+            → Carries self.new (came ++ take count buf.old) (given ++ take result buf.new) }
+        ensures kind { is_some self.new.sieve ≡ is_some self.old.sieve }
+    {
+        self.beside.feed(buf.split_at(count).0);
+        pass(&mut self.sieve, buf, count)
+    }
+}
