@@ -157,7 +157,7 @@ class PanesFollower:
         self.folder, self.loop, self.changed, self.tells = folder, loop, changed, tells
         self.told = ToldPanes()
         self.places: Places | None = None
-        self.has_said = False
+        self.has_said = self.was_told = False
         self.awaited_until = loop.clock() + AWAITED if folder else 0.0
         path = os.path.join(folder, "panes") if folder else ""
         self.following = Following(lambda: connected_now(path), loop, self.hear, self.lose)
@@ -168,6 +168,10 @@ class PanesFollower:
         """Whether nothing is told yet, and something may be soon."""
         return self.places is None and not self.has_said and self.loop.clock() < self.awaited_until
 
+    def is_untold(self) -> bool:
+        """Whether nothing is told, and nothing will be soon."""
+        return self.places is None and (self.has_said or not self.was_told and not self.is_awaited())
+
     def is_full(self) -> bool:
         """Whether the server is known to have had as many starts as it ever has."""
         return self.places is not None and self.places.is_full()
@@ -177,6 +181,7 @@ class PanesFollower:
         if not any([self.told.take(line) for line in lines]) and not self.places:
             self.say(UNTOLD)
         before, self.places = self.places, self.told.places()
+        self.was_told = self.was_told or self.places is not None
         if self.places != before:
             self.changed()
 
