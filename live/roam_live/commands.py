@@ -241,6 +241,10 @@ class Commands:
         if "size" not in self.loop.due:
             self.showed_all = self.given is not None or self.display.shows_all()
 
+    def is_alone(self) -> bool:
+        """Whether it is known that nobody else types: who is there isn't told of another machine's session, nor without a folder."""
+        return self.session.folder is not None and self.session.served == "server" and not has_others(self.session.folder)
+
     def fit(self) -> None:
         """Has the session grow to this terminal's size, where nobody else types; a lone terminal that showed all of it is followed to any
         size, and a new session goes by each. Nothing else makes one smaller."""
@@ -251,7 +255,7 @@ class Commands:
         elif self.link.watches or size in (NO_SIZE, own) or not terminal.is_large_enough(own):
             return
         elif own[0] < size[0] or own[1] < size[1]:
-            if is_followed and not has_others(self.session.folder):
+            if is_followed and self.is_alone():
                 self.ask_size()
         elif has_others(self.session.folder):
             self.display.tell(f"{size[0]} by {size[1]}, as another terminal has it; {self.prefix} r fits this one", FITS_TOLD)

@@ -154,12 +154,7 @@ class Display:
     def ask_part(self, part: terminal.Size | None) -> None:
         """Asks for a part of the session, or for all of it: for that part with the cursor that is nearest to the first row and column."""
         self.asked, self.is_stale = part, True
-        if part is None:
-            self.says("whole")
-            return
-        if self.place != (0, 0):
-            self.says("part 0 0 {} {}".format(*part))
-        self.says("part {} {}".format(*part))
+        self.says("part {} {}".format(*part) if part else "whole")
 
     def repaint(self) -> None:
         """Has all painted anew."""

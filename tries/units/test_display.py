@@ -60,8 +60,10 @@ class StartLink:
 class AnySession:
     """A session's folder, and where its panes are."""
 
+    served = "server"
+
     def __init__(self, folder=None):
-        self.folder = folder
+        self.folder = folder or "/nowhere"
         self.told = None
 
     def busy(self):
@@ -303,6 +305,12 @@ class Sizes(unittest.TestCase):
         self.assertEqual(person.said(), [])
         person.resize(30, 90)
         self.assertEqual(person.sizes()[2:], ["size 30 90"])
+        # One of another machine isn't, and none without a folder: who is there isn't known.
+        for wrong in ({"served": "relay"}, {"folder": None}):
+            person = Person(24, 80, told=places(24, 80))
+            person.place.__dict__.update(wrong)
+            person.resize(20, 70)
+            self.assertEqual((person.sizes(), person.said()), ([], ["part 23 80", "part 19 70"]))
         small = Person(12, 40, told=places(24, 80))
         small.answers()
         small.resize(10, 30)
@@ -390,7 +398,7 @@ class Parts(unittest.TestCase):
         person.answers()
         person.display.take(Telling("part", (12, 50)))
         person.tell(places(14, 60))
-        self.assertEqual(person.said(), ["part 0 0 11 40", "part 11 40"])
+        self.assertEqual(person.said(), ["part 11 40"])
         person.display.take(Telling("part", (0, 0)))
         person.tell(places(13, 50))
         self.assertEqual(person.said(), [])

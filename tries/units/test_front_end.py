@@ -142,7 +142,7 @@ class Loop(Fronts):
         start = self.connect()
         self.turn()
         self.shown()
-        for cut in range(0, len(text) + 1, 7):
+        for cut in range(len(text) + 1):
             self.front.display.begin()
             self.front.commands.show_known()
             self.turn()
