@@ -189,8 +189,12 @@ class Outer:
         """Whether something was painted that isn't read, and nothing for a second."""
         return bool(self.moments) and self.moments[-1][1] > self.read_to and self.moments[-1][0] < time.monotonic() - 1
 
+    def stands(self, row, col, text, seconds=WAIT):
+        """Whether a text comes to stand at a row and a column, from 0."""
+        return comes(lambda: self.rows()[row][col:].startswith(text), seconds)
+
     def status(self, text, seconds=WAIT):
-        """Whether the last row comes to begin with a text."""
+        """Whether the last row comes to begin with a text. What is painted above it may come before or after that."""
         return comes(lambda: self.rows()[-1].startswith(text), seconds)
 
     def resize(self, rows, cols):

@@ -14,13 +14,13 @@ if TYPE_CHECKING:
     from roam_live.links import StartLink
     from roam_live.sessions import FolderSession
 
-# How long a screen is waited for.
+# So many seconds a screen is waited for, and so many pass until one is asked for again that the start hasn't heard of yet.
 SCREEN_WAIT = 5.0
+AGAIN = 0.02
 
 
-def screen_told(link: StartLink) -> bytes | None:
-    """The screen that was asked for, as its record has it; None where it isn't told in time."""
-    end = time.monotonic() + SCREEN_WAIT
+def screen_told(link: StartLink, end: float) -> bytes | None:
+    """The screen that was asked for, as its record has it; None where it isn't told until a moment."""
     while time.monotonic() < end:
         records = link.exchanged()
         if records is None:
@@ -31,15 +31,28 @@ def screen_told(link: StartLink) -> bytes | None:
     return None
 
 
+def is_heard(data: bytes) -> bool:
+    """Whether a screen is one of the session, which has a status row: until a start has heard of it all is blank there."""
+    return any(screen_of(data).text())
+
+
 def asked_screen(link: StartLink, asks: str) -> bytes:
     """The screen that a line asks for; Fault tells why it can't be had."""
-    link.say(asks)
-    data = screen_told(link)
-    why = link.loss() if link.has_ended else SILENT
-    link.close()
-    if data is None:
-        raise Fault(why)
-    return data
+    end, data = time.monotonic() + SCREEN_WAIT, None
+    try:
+        while True:
+            link.say(asks)
+            told = screen_told(link, end)
+            data = data if told is None else told
+            if data is None:
+                raise Fault(link.loss() if link.has_ended else SILENT)
+            if told is None or is_heard(data):
+                return data
+            time.sleep(AGAIN)
+    except NoRecord as fault:
+        raise Fault(f"the client start tells no screen: {fault}") from fault
+    finally:
+        link.close()
 
 
 def capture(session: FolderSession, is_drawn: bool) -> int:
@@ -47,9 +60,5 @@ def capture(session: FolderSession, is_drawn: bool) -> int:
     data = asked_screen(opened(session, True), "look sgr" if is_drawn else "look")
     if is_drawn:
         return subprocess.run([str(TOOLS / "picture")], input=data, check=False).returncode
-    try:
-        rows = screen_of(data).text()
-    except NoRecord as fault:
-        raise Fault(f"session {session.name} tells no screen: {fault}") from fault
-    sys.stdout.buffer.write("".join(f"{row}\n" for row in rows).encode("utf-8", "replace"))
+    sys.stdout.buffer.write("".join(f"{row}\n" for row in screen_of(data).text()).encode("utf-8", "replace"))
     return 0

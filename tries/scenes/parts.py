@@ -61,13 +61,17 @@ def two_sizes(folder):
     first.status(" 1 [2]")
     second.type(PAINTS.encode() + b"\r\x021")
     first.status("[1] 2 ")
-    for letter in b"echo typed at both":
-        (first if letter % 2 else second).type(bytes([letter]))
+    first.type(b"echo ")
+    for letter, digit in zip("typedhere", "123456789"):
+        first.type(letter.encode())
+        second.type(digit.encode())
         time.sleep(0.05)
     check("keys of both, beside a program that paints", are_right([first, second]), (first.rows(), second.rows()))
-    check("all of them came, in their order", first.shows("$ echo typed at both") and second.shows("$ echo typed at both"), first.rows)
+    row = first.rows()[0].partition("\u2502")[0]
+    found = ["".join(filter(kind, row.partition("echo ")[2].strip())) for kind in (str.isalpha, str.isdigit)]
+    check("all of them came, each terminal's in their order", found == ["typedhere", "123456789"], row)
     small = Outer(tool("mux", "attach", "other"), (12, 40), guesses)
-    check("a small one shows a part", small.shows("typed") and are_right([first, second, small]), small.rows)
+    check("a small one shows a part", small.shows("echo ") and are_right([first, second, small]), small.rows)
     small.type(b"\x022" + PAINTS.encode() + b"\r")
     for letter in b"more":
         small.type(bytes([letter]))

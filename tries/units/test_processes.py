@@ -601,8 +601,30 @@ class Captures(Based):
         self.assertEqual(read_now(self.start), b"look sgr\n")
 
     def test_none(self):
-        with self.assertRaisesRegex(Fault, "^session main tells no screen: "):
+        with self.assertRaisesRegex(Fault, "^the client start tells no screen: "):
             self.capture(record("screen", data=b"x"))
+
+    def test_early(self):
+        """A start that hasn't heard of the session tells a blank screen, and is asked again, for five seconds at most."""
+        blank = record("screen", data=b"1 4 1 1 visible\n \x1f \x1f \x1f \n")
+        told = [blank, blank, record("screen", data=self.SCREEN)]
+
+        def ready(link, events, seconds):
+            if events & WRITE:
+                self.start.send(told.pop(0))
+                return READ | WRITE
+            self.pass_time(seconds)
+            return 0
+
+        with mock.patch("sys.stdout") as printed, mock.patch("roam_live.links.ready", ready):
+            captures.capture(self.session(), False)
+            printed.buffer.write.assert_called_once_with("ab  c\n\n \u4e2dx\n".encode())
+            self.assertEqual((round(self.now, 3), read_now(self.start)), (100.04, b"look\n" * 3))
+            self.link.peer, self.start = self.pair()
+            told += [blank] * 1000
+            captures.capture(self.session(), False)
+            self.assertTrue(105 <= self.now < 105.1, self.now)
+            printed.buffer.write.assert_called_with(b"\n")
 
     def test_ended(self):
         """Why none comes is told, as that nothing comes in five seconds."""
