@@ -11,9 +11,9 @@ import termios
 import threading
 import time
 
-# What people run, and the package that it shares.
+# What people run, and the package that it shares; and the terminal that the unit tests have too.
 LIVE = pathlib.Path(__file__).resolve().parent.parent / "live"
-sys.path.insert(0, str(LIVE))
+sys.path[:0] = [str(LIVE), str(pathlib.Path(__file__).resolve().parent / "units")]
 
 from emulated import Emulated
 from roam_live import terminal

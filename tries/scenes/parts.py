@@ -1,8 +1,11 @@
 """Terminals of other sizes than the session, what a pane shows that looks like the front end's words, and what is captured of it."""
+import os
+import signal
 import subprocess
 import time
 
 from tried import Outer, check, comes, is_part_of, listed, said, scene, told_cells, tool
+from roam_live.program import program
 
 # What a program paints, row by row with pauses: wide characters stand at every place of a row in turn.
 PAINTS = ("i=0; while [ $i -lt 60 ]; do i=$((i+1)); "
@@ -132,3 +135,36 @@ def asked_small(folder):
     small.type(b"\r")
     check("and all of it came", small.shows("done 10"), small.rows)
     subprocess.run(tool("mux", "kill", "-f", "other"), check=True)
+
+
+@scene
+def whole_by_hand(folder):
+    """`attach` of a folder shows the whole with the session's own status row where it has room, and a part where it hasn't."""
+    own = folder / "own"
+    own.mkdir(mode=0o700)
+    server = subprocess.Popen([program(), "serve", "--dir", str(own)])
+    shells = subprocess.Popen(tool("pane_shells", "--server", str(server.pid), str(own)))
+    outer = Outer(tool("attach", str(own)))
+    check("the whole is shown", outer.shows("$ ") and outer.status("[1]"), outer.rows)
+    outer.type(b"seq 100\r\x02[\x1b[5~")
+    check("what is told stands over the status row", outer.status("12 rows back: "), outer.rows)
+    beside = Outer(tool("attach", str(own)))
+    check("which tells another terminal of the view", beside.status("[1] ^12"), beside.rows)
+    outer.type(b"q")
+    check("and comes back", outer.status("[1]     ") and beside.status("[1]     "), outer.rows)
+    os.kill(server.pid, signal.SIGSTOP)
+    check("a silence is told there", outer.status("roam: no answer for 1") and "C-b d leaves" in outer.rows()[-1], outer.rows)
+    os.kill(server.pid, signal.SIGCONT)
+    check("and goes", outer.status("[1]     ") and comes(lambda: outer.rows() == beside.rows()), outer.rows)
+    beside.resize(12, 40)
+    check("on a smaller terminal a part is shown, and the key", beside.status("[1]".ljust(30) + FITS) and beside.shows("100"), beside.rows)
+    outer.type(b"clear; stty size\r")
+    check("and the session has its size", outer.shows("23 80"), outer.rows)
+    beside.resize(24, 80)
+    check("at the size that it had it shows the whole", comes(lambda: beside.rows() == outer.rows()), beside.rows)
+    for one in (outer, beside):
+        one.type(b"\x02d")
+        check("it leaves", one.ends() and one.is_restored(), one.rows)
+    server.kill()
+    for process in (server, shells):
+        process.wait(20)

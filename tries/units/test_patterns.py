@@ -1,31 +1,20 @@
 """What live/ matches and searches: each use of `re` and of an escape is listed with what it reads, and no other is there."""
-import importlib.machinery
-import importlib.util
-import pathlib
-
+import patterns
 from aids import Case
-
-SCRIPT = pathlib.Path(__file__).resolve().parent.parent / "patterns"
 
 
 class Patterns(Case):
-    """`tries/patterns`."""
-
-    def setUp(self):
-        loader = importlib.machinery.SourceFileLoader("patterns", str(SCRIPT))
-        spec = importlib.util.spec_from_loader("patterns", loader)
-        self.script = importlib.util.module_from_spec(spec)
-        loader.exec_module(self.script)
+    """What `tries/patterns` lists."""
 
     def test_listed(self):
         printed = self.printed()
-        self.assertEqual(self.script.main(), 0, printed.getvalue())
-        self.assertFalse(any("painted" in reads or "painting" in reads for reads in self.script.KNOWN.values()))
+        self.assertEqual(patterns.main(), 0, printed.getvalue())
+        self.assertFalse(any("painted" in reads or "painting" in reads for reads in patterns.KNOWN.values()))
 
     def test_found(self):
         """What isn't listed is found, however it is written, and what isn't there any more."""
         folder = self.made_folder()
-        self.patch_of(self.script, "LIVE", folder)
+        self.patch_of(patterns, "LIVE", folder)
         texts = {
             "a.py": 'import re\nMARKS = re.compile("x")\n', "b.py": 'def f(a: re.Match) -> None:\n    return b"\\x1b[2J" in a\n',
             "c.py": "class C:\n    def f(self):\n        return re.sub(r'\\x1b', '', self.painted)\n", "d.py": "from re import sub\n",
@@ -35,11 +24,11 @@ class Patterns(Case):
         }
         for name, text in texts.items():
             (folder / name).write_text(text, encoding="utf-8")
-        self.assertEqual(self.script.found_uses(), {
+        self.assertEqual(patterns.found_uses(), {
             ("a.py", "MARKS", "re"), ("b.py", "f", "ESC"), ("c.py", "C.f", "re"), ("c.py", "C.f", "ESC"), ("d.py", "", "re"),
             ("e.py", "", "re"), ("f", "", "ESC"), ("g", "X", "ESC"), ("h.py", "f", "RESET"), ("i.py", "", "RESET"),
         })
         printed = self.printed()
-        self.assertEqual(self.script.main(), 1)
+        self.assertEqual(patterns.main(), 1)
         self.assertIn("NOT LISTED", printed.getvalue())
         self.assertIn("listed, and not there any more: roam_live/keys.py WHOLE ESC", printed.getvalue())
