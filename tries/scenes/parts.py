@@ -65,6 +65,7 @@ def two_sizes(folder):
     second.type(PAINTS.encode() + b"\r\x021")
     first.status("[1] 2 ")
     first.type(b"echo ")
+    second.shows("$ echo ")
     for letter, digit in zip("typedhere", "123456789"):
         first.type(letter.encode())
         second.type(digit.encode())
