@@ -394,14 +394,27 @@ class Parts(unittest.TestCase):
 
     def test_shrunk(self):
         """Of one that another made smaller, what is shown begins at the first row again, so that no row below its panes is shown."""
-        person = Person(12, 40, told=places(24, 100))
-        person.answers()
-        person.display.take(Telling("part", (12, 50)))
-        person.tell(places(14, 60))
-        self.assertEqual(person.said(), ["part 11 40"])
+        for place in ((12, 50), (12, 0), (0, 50), (1, 0), (0, 1)):
+            for size in ((14, 60), (14, 100), (24, 60), (23, 100), (24, 99), (14, 120), (30, 60)):
+                person = Person(12, 40, told=places(24, 100))
+                person.answers()
+                person.display.take(Telling("part", place))
+                person.tell(places(*size))
+                self.assertEqual(person.said(), ["part 11 40"], (place, size))
         person.display.take(Telling("part", (0, 0)))
         person.tell(places(13, 50))
         self.assertEqual(person.said(), [])
+        # One that is larger now, or has its size, goes on as it was.
+        for size in ((24, 100), (24, 101), (25, 100), (60, 200)):
+            person = Person(12, 40, told=places(24, 100))
+            person.answers()
+            person.display.take(Telling("part", (12, 50)))
+            person.tell(places(*size))
+            self.assertEqual(person.said(), [], size)
+        # A start that is connected to anew knows nothing of where it began.
+        person.display.begin()
+        person.commands.show_known()
+        self.assertEqual((person.said(), person.display.place, person.display.silent), (["part 11 40"], (0, 0), 0))
 
     def test_larger_terminal(self):
         """One that has more room than the session has no more of it than its panes, and blanks beside these."""
@@ -463,6 +476,12 @@ class Parts(unittest.TestCase):
         """While a terminal is drawn smaller by hand nothing is written that has no room, and a part is asked for once in 0.05 s."""
         person = Person(24, 80, told=places(24, 80))
         person.answers()
+        person.display.outer.cols = 90
+        person.display.resized()
+        person.display.take(Telling("paint", (1,), b"still"))
+        self.assertTrue(b"still" in person.display.outer.waiting and not person.display.is_stale)
+        person.loop.due.clear()
+        person.display.outer.cols = 80
         for rows in range(23, 10, -1):
             person.display.outer.rows = rows
             person.display.resized()

@@ -6,7 +6,7 @@ import socket
 from unittest import mock
 
 from aids import Case, read_now, record
-from roam_live.links import EARLIER, LET_GO, LOST, MOST_ACTS, NO_MORE, PAUSES, SILENT, Keeper, StartLink, opened
+from roam_live.links import EARLIER, FIRST_WAIT, LET_GO, LOST, MOST_ACTS, NO_MORE, PAUSES, SILENT, Keeper, StartLink, opened
 from roam_live.loops import READ, WRITE
 from roam_live.program import Fault
 
@@ -384,6 +384,7 @@ class Opened(Linked):
         return link
 
     def test_there(self):
+        self.assertEqual(FIRST_WAIT, 5.0)
         link = self.opened(b"\x1bc\ntold\n")
         self.assertEqual((link.records.begun, link.watches, self.place.earlier), (True, True, []))
 

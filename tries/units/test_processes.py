@@ -516,7 +516,7 @@ class Sends(Based):
     def test_slow(self):
         """Ten seconds may pass between two that are taken."""
         self.link.lines, self.answers = 2, [b""] * 90 + [record("taken", 1)] + [b""] * 90 + [record("taken", 3)]
-        self.assertEqual(sending.send(self.session(), ["char 61"]), 0)
+        self.assertEqual((sending.send(self.session(), ["char 61"]), sending.SEND_WAIT), (0, 10.0))
 
     def test_no_act(self):
         """What is no act is named, and none is typed."""
