@@ -130,13 +130,15 @@ class Display:
         return self.told_size if self.told_size != NO_SIZE else self.whole_size
 
     def wanted(self) -> terminal.Size | None:
-        """The part of the session that is to be shown; None where that is the whole."""
-        rows, cols = self.outer.size()
+        """The part of the session that is to be shown; None where that is the whole. The session's size may be told from another machine:
+        whatever it is, what is asked for is a part that can be."""
+        rows, cols = terminal.largest(self.outer.size())
         size = self.size()
         if self.may_be_whole and size[0] <= rows and size[1] <= cols:
             return None
+        least = terminal.LEAST_SHOWN
         most = size if size != NO_SIZE else terminal.MOST
-        return min(rows, most[0]) - 1, min(cols, most[1])
+        return max(min(rows, most[0]), least[0]) - 1, max(min(cols, most[1]), least[1])
 
     def choose(self, is_anew: bool = False, is_painted: bool = False) -> None:
         """Asks for what is to be shown, where that isn't what was asked for; else, where it has to be asked for anew, or be painted."""

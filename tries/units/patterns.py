@@ -57,8 +57,9 @@ KNOWN = {
     ("show_client", "", "ESC"): WRITES,
 }
 
-# How a shell script spells an escape.
+# How a shell script spells an escape; and what a module has in which there may be a use at all.
 SPELLED = re.compile(r"\\033|\\x1b|\\e\[|\$'\\E", re.IGNORECASE)
+MAY_USE = re.compile(r"\b(import|from) re\b|, re\b|RESET|\\(0?33|x1b|u001b|U0000001b|N\{)|\x1b", re.IGNORECASE)
 
 
 class Uses(ast.NodeVisitor):
@@ -127,7 +128,8 @@ def uses_in(path):
     file, text = str(path.relative_to(LIVE)), path.read_text(encoding="utf-8")
     if path.suffix == ".py" or text.startswith("#!/usr/bin/env python3"):
         uses = Uses(file)
-        uses.visit(ast.parse(text))
+        if MAY_USE.search(text):
+            uses.visit(ast.parse(text))
         return uses.found
     return {(file, "", "ESC")} if SPELLED.search(text) else set()
 

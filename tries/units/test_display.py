@@ -423,6 +423,13 @@ class Parts(unittest.TestCase):
         person.paints(23, 80, "here")
         self.assertEqual(person.shown(), ["here"] * 23 + [""] * 26 + ["[1]"])
 
+    def test_any_told(self):
+        """Whatever is told of a session's size, what is asked for is a part that can be."""
+        for told, part in ((Rect(0, 0, 0, 0), (2, 4)), (Rect(1, 1, 1, 1), (2, 4)), (Rect(9999, 9999, 9999, 9999), (199, 500)),
+                           (Rect(1, 1, 9999, 3), (199, 4)), (Rect(1, 1, 2, 9999), (2, 500))):
+            person = Person(300, 600, watches=True, told=Places({1: told}, 1, 1))
+            self.assertEqual(person.said(), ["part {} {}".format(*part)], told)
+
     def test_whole(self):
         """By hand the whole is shown, with its own status row, where there is room for it, and else a part; so is one that isn't told."""
         for person in (Person(24, 80, True, told=places(24, 80), is_whole=True), Person(24, 80, True)):
