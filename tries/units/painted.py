@@ -1,5 +1,6 @@
-"""The cells that a text shows: a painter's, which has CUP, SGR, ED 2, EL, DECTCEM, a reset and characters, and LF and RI at margins, or the
-rows that tmux captures. It knows widths by a table of its own, so it is for what is tried and no part of the tools."""
+"""The cells that a text shows: a painter's, which has CUP, SGR, ED 2, EL, DECTCEM, a reset and characters, and LF and RI at margins, with
+DECSC and DECRC round a front end's own line, or the rows that tmux captures. It knows widths by a table of its own, so it is for what is
+tried and no part of the tools."""
 from __future__ import annotations
 
 import re
@@ -9,7 +10,7 @@ from collections.abc import Iterable
 from roam_live.cells import Style, styled
 
 MARKS = re.compile(r"\x1b\[(\d+)(?:;(\d+))?H|\x1b\[([\d;]*)m|(\x1b\[2J|\x1bc)|\x1b\[\?25([hl])|\x1b\[(?:(\d+);(\d+))?r|(\x1b\[K|\x1bM|\n)"
-                   r"|\x1b\[[0-?]*[@-~]|\x1b[=>]|([^\x1b])")
+                   r"|\x1b([78])|\x1b\[[0-?]*[@-~]|\x1b[=>]|([^\x1b])")
 # What erases the rest of a row; what scrolls up at the lower margin, and down at the upper one.
 EL, LF, RI = "\x1b[K", "\n", "\x1bM"
 
@@ -29,11 +30,13 @@ class PaintedCells:
         self.band: tuple[int, int] | None = None
         self.has_cursor = True
         self.has_boxes = False
+        # What DECSC kept: a place and a style.
+        self.saved = 1, 1, self.style
 
     def fed(self, text: str) -> None:
         """Goes on with a painter's text."""
         for mark in MARKS.finditer(text):
-            row, col, style, erased, cursor, top, bottom, other, letter = mark.groups()
+            row, col, style, erased, cursor, top, bottom, other, saves, letter = mark.groups()
             if row:
                 self.row, self.col = int(row), int(col or 1)
             elif style is not None:
@@ -46,6 +49,10 @@ class PaintedCells:
                 self.row, self.col, self.band = 1, 1, (int(top), int(bottom)) if top else None
             elif other:
                 self.acts(other)
+            elif saves == "7":
+                self.saved = self.row, self.col, self.style
+            elif saves:
+                self.row, self.col, self.style = self.saved
             elif letter in (SHIFT_OUT, SHIFT_IN):
                 self.has_boxes = letter == SHIFT_OUT
             elif letter:

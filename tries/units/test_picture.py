@@ -80,6 +80,12 @@ class Shown(Case):
             self.assertEqual(cells.cells, {})
             cells.fed("x")
 
+    def test_saved(self):
+        """A front end's own line, between DECSC and DECRC, leaves the cursor and the style where they were."""
+        cells = cells_of("\x1b[2;3H\x1b[1mab\x1b7\x1b[?7l\x1b[5;1H\x1b[0;7m[1]\x1b[0m\x1b[?7h\x1b8c")
+        self.assertEqual("".join(letter for letter, _ in cells.cells.values()), "ab[1]c")
+        self.assertEqual(cells.cells[2, 5], ("c", Style(frozenset({"bold"}))))
+
     def test_widths(self):
         """A wide character takes two columns, and what has no width joins the one before."""
         self.assertEqual([width_of(letter) for letter in "a\u4e2d\uff21\u0301\u200d\u20dd\u00e9"], [1, 2, 2, 0, 0, 0, 1])
