@@ -36,7 +36,7 @@ FITS_TOLD = 3.0
 # So many seconds later it is looked again whether the panes are told, before the session is fitted to the terminal.
 FITS_AGAIN = 0.3
 
-# A session that hasn't a size that it was given so many seconds ago has no room for its panes in that.
+# A session that hasn't a size that it was given so many seconds ago, and took, has no room for its panes in that.
 REFUSES = 2.5
 
 # For so many seconds a session is new, and goes by its terminal's size, whatever that is: a window may get its size once it is there.
@@ -206,7 +206,10 @@ class Commands:
         self.loop.drop("given")
 
     def refused(self) -> None:
-        """Tells where the session hasn't got the size that it was given."""
+        """Tells where the session hasn't got the size that it was given, and has taken all that was typed."""
+        if not self.link.is_done():
+            self.loop.later("given", REFUSES, self.refused)
+            return
         given, size = self.given, self.session_size()
         self.forget_given()
         self.show_known()

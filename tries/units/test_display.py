@@ -45,8 +45,12 @@ class StartLink:
     """What is said and typed."""
 
     def __init__(self, watches=False):
-        self.watches = watches
+        self.watches, self.has_taken = watches, True
         self.acts, self.lines = [], []
+
+    def is_done(self):
+        """Whether the session has taken all."""
+        return self.has_taken
 
     def type(self, *acts, is_pasted=False):
         """Keeps acts."""
@@ -340,6 +344,11 @@ class Sizes(unittest.TestCase):
         person = Person(5, 8, told=places(24, 80))
         person.types(b"\x02r")
         self.assertEqual((person.sizes(), person.commands.given), (["size 5 8"], (5, 8)))
+        # A session that hasn't taken it yet may still have it.
+        person.link.has_taken = False
+        person.commands.refused()
+        self.assertEqual((person.display.told, person.commands.given, "given" in person.loop.due), ("", (5, 8), True))
+        person.link.has_taken = True
         person.commands.refused()
         self.assertEqual((person.display.told, person.commands.given), ("its panes have no room in 5 by 8", None))
         person.display.end_told()
