@@ -202,6 +202,9 @@ class Display:
     def take_painting(self, record: Telling) -> None:
         """Takes a painting: one that has no room, or comes before all is painted anew, doesn't reach the terminal, and no reset does."""
         is_anew = record.word == "anew"
+        if self.asked is None:
+            # A size that was told before isn't told again.
+            self.whole_size = self.painted_size
         if self.cover or not self.fits() or self.is_stale and not is_anew:
             self.is_stale = True
             return

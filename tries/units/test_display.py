@@ -455,6 +455,17 @@ class Parts(unittest.TestCase):
             person.paints(24, 80, "all")
             self.assertEqual(person.shown(), ["all"] * 24)
 
+    def test_whole_of_a_parts_size(self):
+        """A session that has come to have the size of the part that was shown is known to have it, though that isn't told again."""
+        person = Person(12, 40, watches=True)
+        person.paints(24, 80)
+        self.assertEqual(person.said(), ["part 11 40"])
+        person.paints(11, 40)
+        person.resize(30, 100)
+        self.assertEqual(person.said(), ["whole"])
+        person.display.take(Telling("anew", (1,), painting(11, 40, "all")))
+        self.assertEqual((person.display.whole_size, person.shown()[:11]), ((11, 40), ["all"] * 11))
+
     def test_told_later(self):
         """Where it comes to be told where the panes are a part is shown from then on, and where it is told no more the whole."""
         person = Person(24, 80)
