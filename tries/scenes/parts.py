@@ -5,7 +5,7 @@ import subprocess
 import time
 
 from tried import Outer, check, comes, is_part_of, listed, said, scene, told_cells, tool
-from roam_live.program import program
+from roam_live.program import is_listened, program
 
 # What a program paints, row by row with pauses: wide characters stand at every place of a row in turn.
 PAINTS = ("i=0; while [ $i -lt 60 ]; do i=$((i+1)); "
@@ -145,6 +145,7 @@ def whole_by_hand(folder):
     own.mkdir(mode=0o700)
     server = subprocess.Popen([program(), "serve", "--dir", str(own)])
     shells = subprocess.Popen(tool("pane_shells", "--server", str(server.pid), str(own)))
+    comes(lambda: is_listened(own / "clients"))
     outer = Outer(tool("attach", str(own)))
     check("the whole is shown", outer.shows("$ ") and outer.status("[1]"), outer.rows)
     outer.type(b"seq 100\r\x02[\x1b[5~")
