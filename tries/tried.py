@@ -11,12 +11,15 @@ import termios
 import threading
 import time
 
-# What people run, and the package that it shares.
+# What people run, and the package that it shares; and the terminal that the unit tests have too.
 LIVE = pathlib.Path(__file__).resolve().parent.parent / "live"
-sys.path.insert(0, str(LIVE))
+sys.path[:0] = [str(LIVE), str(pathlib.Path(__file__).resolve().parent / "units")]
 
 from emulated import Emulated
 from roam_live import terminal
+from roam_live.captures import asked_screen
+from roam_live.cells import ShownCells, Style, cells_of
+from roam_live.links import StartLink
 from roam_live.program import TOOLS, program
 
 # So many seconds something has for coming.
@@ -80,6 +83,13 @@ def listed():
 def noted(name):
     """What mux noted of a session."""
     return json.loads(pathlib.Path(os.environ["XDG_RUNTIME_DIR"], "roam", name, "state.json").read_text(encoding="utf-8"))
+
+
+def told_cells(name):
+    """The cells that a session shows, as its client start tells them to who watches."""
+    link = StartLink(pathlib.Path(os.environ["XDG_RUNTIME_DIR"], "roam", name, "terminals"), True)
+    link.connect()
+    return cells_of(asked_screen(link, "look sgr"))
 
 
 def said(*words):
@@ -179,8 +189,12 @@ class Outer:
         """Whether something was painted that isn't read, and nothing for a second."""
         return bool(self.moments) and self.moments[-1][1] > self.read_to and self.moments[-1][0] < time.monotonic() - 1
 
+    def stands(self, row, col, text, seconds=WAIT):
+        """Whether a text comes to stand at a row and a column, from 0."""
+        return comes(lambda: self.rows()[row][col:].startswith(text), seconds)
+
     def status(self, text, seconds=WAIT):
-        """Whether the last row comes to begin with a text."""
+        """Whether the last row comes to begin with a text. What is painted above it may come before or after that."""
         return comes(lambda: self.rows()[-1].startswith(text), seconds)
 
     def resize(self, rows, cols):
@@ -202,6 +216,48 @@ class Outer:
         """Whether the terminal is as it was: the modes, and what stood there."""
         is_kept = comes(lambda: self.rows()[0].startswith("before"), 2)
         return is_kept and termios.tcgetattr(self.slave) == self.modes and b"\x1b[?1049l" in self.written[-200:]
+
+
+def part_at(cells, row, col, size):
+    """What a part of a session's cells shows that begins at a row and a column, from 1: a wide character that is cut is a space in its
+    style, and what is outside is blank. Of the cursor its place there is told, or nothing where it is hidden or outside."""
+    rows, cols = size
+    blank = (" ", Style())
+    found = {}
+    for down in range(rows):
+        for right in range(cols):
+            letters, style = cells.cells.get((row + down, col + right), blank)
+            is_wide = cells.cells.get((row + down, col + right + 1), blank)[0] == ""
+            is_cut = not letters and right == 0 or is_wide and right == cols - 1
+            found[down + 1, right + 1] = (" " if is_cut else letters, style)
+    place = cells.row - row + 1, cells.col - col + 1
+    return found, place if cells.has_cursor and 1 <= place[0] <= rows and 1 <= place[1] <= cols else None
+
+
+def shown_above(outer):
+    """What a terminal shows above its last row, cell by cell, and its cursor, where it is shown."""
+    seen = outer.emulation()
+    cells = {(row, col): cell for row, line in enumerate(seen.screen[:-1], 1) for col, cell in enumerate(line, 1)}
+    return cells, (seen.row + 1, seen.col + 1) if seen.has_cursor else None
+
+
+def is_part_of(outer, cells):
+    """Whether a terminal shows above its last row a part of a session's area, or all of it and blanks, cell by cell."""
+    rows, cols = outer.size
+    shown = shown_above(outer)
+    starts = [(row, col) for row in range(1, max(1, cells.rows - rows + 1) + 1) for col in range(1, max(1, cells.cols - cols + 1) + 1)]
+    below = {place: (" ", Style()) if place[0] >= cells.rows else cell for place, cell in cells.cells.items()}
+    area = ShownCells(cells.rows - 1, cells.cols)
+    area.cells, area.row, area.col, area.has_cursor = below, cells.row, cells.col, cells.has_cursor
+    return any(part_at(area, *start, (rows - 1, cols)) == shown for start in starts)
+
+
+def is_part(small, large):
+    """Whether a terminal shows a part of what another one shows, row by row."""
+    rows = [row.rstrip() for row in small.rows()[:-1]]
+    others = large.rows()[:-1]
+    return any(rows == [other[col : col + small.size[1]].rstrip() for other in others[row : row + len(rows)]]
+               for row in range(len(others) - len(rows) + 1) for col in range(large.size[1] - small.size[1] + 1))
 
 
 def own_terminal():

@@ -42,8 +42,8 @@ C-b and then:
   [ PgUp   scroll: PgUp PgDn up down g G; q, Escape, C-c or Return ends it
   d        detach: the session goes on
   C-z      suspend: the shell that this came from is there again, until `fg`
-  r        size the session to this terminal, which cuts what is wider, and
-           paint all anew
+  r        size the session to this terminal, which cuts what is wider where
+           that is smaller, and paint all anew
   ?        these keys, until the next key
   C-b      C-b itself"""
 

@@ -1,73 +1,64 @@
-"""The rows that a session shows, as a terminal is shown them that only watches."""
+"""The rows that a session shows, as the client start of this machine's terminals tells them, cell by cell."""
 from __future__ import annotations
 
 import subprocess
 import sys
 import time
 
-from roam_live.cells import PaintedCells, width_of
-from roam_live.links import NO_MORE, StartLink
-from roam_live.loops import comes
-from roam_live.program import TOOLS, Fault, read
+from roam_live.links import SILENT, opened
+from roam_live.program import TOOLS, Fault
+from roam_live.told import NoRecord, screen_of
 
 TYPE_CHECKING = False
 if TYPE_CHECKING:
+    from roam_live.links import StartLink
     from roam_live.sessions import FolderSession
 
-# How long a screen is waited for, and once it is there: how long nothing may come until it is taken, and how long at most.
-FIRST_WAIT = 5.0
-QUIET = 0.2
-LONGEST = 1.0
-
-# What each paint begins with: the cursor is hidden.
-PAINT = b"\x1b[?25l"
+# So many seconds a screen is waited for, and so many pass until one is asked for again that the start hasn't heard of yet.
+SCREEN_WAIT = 5.0
+AGAIN = 0.02
 
 
-def shown_by(text: bytes) -> PaintedCells:
-    """The cells that a painter's text shows."""
-    cells = PaintedCells()
-    cells.fed(text.decode("utf-8", "replace"))
-    return cells
-
-
-def paints(source: int) -> bytes:
-    """Whole paints that come from a client start, until there is a screen and nothing follows it for a moment."""
-    text, has_screen = b"", False
-    end = time.monotonic() + FIRST_WAIT
+def screen_told(link: StartLink, end: float) -> bytes | None:
+    """The screen that was asked for, as its record has it; None where it isn't told until a moment."""
     while time.monotonic() < end:
-        left = max(0.0, end - time.monotonic())
-        if not comes(source, min(left, QUIET) if has_screen else left):
-            return text
-        piece = read(source)
-        if not piece:
-            return text
-        text += piece
-        if not has_screen and shown_by(text).cells:
-            has_screen, end = True, time.monotonic() + LONGEST
-    return text[: text.rfind(PAINT)]
+        records = link.exchanged()
+        if records is None:
+            break
+        for record in records:
+            if record.word == "screen":
+                return record.data
+    return None
 
 
-def rows_of(cells: PaintedCells) -> list[str]:
-    """The rows that cells show, without the spaces at their ends."""
-    rows = [""] * max(row for row, _ in cells.cells)
-    ends = [1] * len(rows)
-    for (row, col), (letter, _) in sorted(cells.cells.items(), key=lambda item: item[0]):
-        rows[row - 1] += " " * (col - ends[row - 1]) + letter
-        ends[row - 1] = col + width_of(letter[0])
-    return [row.rstrip(" ") for row in rows]
+def is_heard(data: bytes) -> bool:
+    """Whether a screen is one of the session, which has a status row: until a start has heard of it all is blank there."""
+    return any(screen_of(data).text())
+
+
+def asked_screen(link: StartLink, asks: str) -> bytes:
+    """The screen that a line asks for; Fault tells why it can't be had."""
+    end, data = time.monotonic() + SCREEN_WAIT, None
+    try:
+        while True:
+            link.say(asks)
+            told = screen_told(link, end)
+            data = data if told is None else told
+            if data is None:
+                raise Fault(link.loss() if link.has_ended else SILENT)
+            if told is None or is_heard(data):
+                return data
+            time.sleep(AGAIN)
+    except NoRecord as fault:
+        raise Fault(f"the client start tells no screen: {fault}") from fault
+    finally:
+        link.close()
 
 
 def capture(session: FolderSession, is_drawn: bool) -> int:
     """Prints what a session shows, or a picture of it, and tells the status."""
-    link = StartLink(session.terminals, True)
-    link.connect()
-    link.send()
-    text = paints(link.fileno())
-    link.close()
-    cells = shown_by(text)
-    if not cells.cells:
-        raise Fault(NO_MORE if not text else f"session {session.name} showed nothing: it is busy")
+    data = asked_screen(opened(session, True), "look sgr" if is_drawn else "look")
     if is_drawn:
-        return subprocess.run([str(TOOLS / "picture")], input=text, check=False).returncode
-    sys.stdout.buffer.write("".join(f"{row}\n" for row in rows_of(cells)).encode("utf-8", "replace"))
+        return subprocess.run([str(TOOLS / "picture")], input=data, check=False).returncode
+    sys.stdout.buffer.write("".join(f"{row}\n" for row in screen_of(data).text()).encode("utf-8", "replace"))
     return 0

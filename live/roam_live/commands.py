@@ -8,7 +8,7 @@ from collections.abc import Callable
 
 from roam_live import terminal
 from roam_live.bindings import NEWEST, Typing, help_with, spelled
-from roam_live.display import Display
+from roam_live.display import NO_SIZE, Display
 from roam_live.keys import Key, Keys
 from roam_live.links import StartLink
 from roam_live.loops import Loop
@@ -30,11 +30,14 @@ MOVES = ("focus", "next", "split", "close")
 # The wishes that are granted while something stands in the session's place. Nothing is typed then, since nobody would see where it goes.
 UNDER_COVER = ("detach", "suspend", "repaint", "help", "no", "scrolled")
 
-# So many seconds a line stands that tells how the session is made as large as the terminal.
+# So many seconds a line stands that tells how the session is made as large as the terminal, or why it isn't.
 FITS_TOLD = 3.0
 
 # So many seconds later it is looked again whether the panes are told, before the session is fitted to the terminal.
 FITS_AGAIN = 0.3
+
+# A session that hasn't a size that it was given so many seconds ago, and took, has no room for its panes in that.
+REFUSES = 2.5
 
 # For so many seconds a session is new, and goes by its terminal's size, whatever that is: a window may get its size once it is there.
 NEW = 2.0
@@ -44,8 +47,11 @@ class Commands:
     """The keys of one person, and what they ask for."""
 
     def __init__(self, session: AnySession, panes: PanesFollower, link: StartLink, display: Display, loop: Loop,
-                 leave: Callable[[str | None], None], is_new: Callable[[Places | None], bool] = lambda places: False) -> None:
+                 leave: Callable[[str | None], None], is_new: Callable[[Places | None], bool] = lambda places: False,
+                 is_whole: bool = False) -> None:
         self.session, self.panes, self.link, self.display, self.loop, self.leave = session, panes, link, display, loop, leave
+        # Whether the session is shown whole where it has room, with its own status row.
+        self.is_whole = is_whole
         self.keys = Keys()
         self.prefix = "C-b"
         self.typing = Typing()
@@ -53,6 +59,12 @@ class Commands:
         self.paused = False
         # Whether the session is new, and whether it and this terminal were fitted to each other once, as far as that may be.
         self.is_new, self.is_fitted, self.new_until = is_new, False, 0.0
+        # The size that the session was given last, while it may still get it; and whether this terminal showed all of it before it had
+        # another size itself.
+        self.given: terminal.Size | None = None
+        self.showed_all = False
+        # The session's size and the labels of its panes, as they were told last.
+        self.known: tuple[terminal.Size, str] = (NO_SIZE, "")
         # Where a command of this person moved the focus, since it was told: to a pane, or to one that isn't known, 0; and what was told
         # then.
         self.moved_to: int | None = None
@@ -61,7 +73,7 @@ class Commands:
     def choose(self, prefix: str) -> None:
         """Makes the key of a name the prefix."""
         self.prefix, self.typing, self.help = prefix, Typing(prefix), help_with(prefix)
-        self.display.fits_line = "" if self.link.watches else f"{prefix} r fits this terminal, and cuts what is wider"
+        self.display.fits_line = "" if self.link.watches else f"{prefix} r fits"
         self.display.leaves_line = f"{prefix} d leaves"
 
     def fed(self, piece: bytes) -> None:
@@ -118,7 +130,18 @@ class Commands:
         now, before = self.panes.places, self.moved_from
         if now is None or before is None or now.focus == self.moved_to or (now.focus, now.rects) != (before.focus, before.rects):
             self.moved_to = None
+        if self.given == self.session_size():
+            self.forget_given()
         self.fit_first()
+        self.show_known()
+
+    def show_known(self) -> None:
+        """Has the display go by what is known of the session: while it may get a size that it was given that is its size."""
+        places, is_untold = self.panes.places, self.panes.is_untold()
+        if places or is_untold:
+            self.known = (places.size(), places.labels()) if places else (NO_SIZE, "")
+        size, labels = self.known
+        self.display.know(self.given or size, labels, self.is_whole or is_untold)
 
     def places(self) -> Places | None:
         """Where the panes are, with the focus where this person put it: 0 where that isn't told yet."""
@@ -162,20 +185,41 @@ class Commands:
             self.act(*(["close"] if wish == "yes" else []))
             self.display.end_told()
 
+    # ---- sizes
+
     def ask_size(self) -> None:
         """Gives the session this terminal's size, where it may have it: what is wider than that is cut for good."""
         size = self.display.outer.size()
+        if self.link.watches:
+            return
         if not terminal.is_large_enough(size):
-            self.display.hide()
-        elif not self.link.watches:
-            self.display.size_asked(terminal.largest(size))
-            self.act(terminal.size_act(size))
+            self.display.tell("a session has {} rows and {} columns at least".format(*terminal.LEAST))
+            return
+        self.given = terminal.largest(size)
+        self.loop.later("given", REFUSES, self.refused)
+        self.act(terminal.size_act(size))
+        self.show_known()
 
-    def session_size(self) -> tuple[int, int]:
-        """The rows and columns that the session has at most, by what was painted and what is told; 0 where nothing is known."""
-        places, painted = self.panes.places, self.display.extent.size
-        told = places.size() if places else (0, 0)
-        return max(told[0], painted[0]), max(told[1], painted[1])
+    def forget_given(self) -> None:
+        """Waits no more for a size that was given."""
+        self.given = None
+        self.loop.drop("given")
+
+    def refused(self) -> None:
+        """Tells where the session hasn't got the size that it was given, and has taken all that was typed."""
+        if not self.link.is_done():
+            self.loop.later("given", REFUSES, self.refused)
+            return
+        given, size = self.given, self.session_size()
+        self.forget_given()
+        self.show_known()
+        if given and size not in (given, NO_SIZE):
+            self.display.tell("its panes have no room in {} by {}".format(*given), FITS_TOLD)
+
+    def session_size(self) -> terminal.Size:
+        """The session's rows and columns, as they are told or were painted; nothing where they aren't known."""
+        places = self.panes.places
+        return places.size() if places else self.display.whole_size
 
     def fit_first(self) -> None:
         """Fits the session to this terminal, once something is known of it: a new one has nothing yet that could be cut."""
@@ -184,30 +228,44 @@ class Commands:
         if self.is_new(self.panes.places):
             self.is_fitted, self.new_until = True, time.monotonic() + NEW
         elif self.panes.is_awaited():
-            # What is told soon may be larger than what was painted so far.
+            # What is told soon may be another size than what was painted so far.
             self.loop.later("fit", FITS_AGAIN, self.fit_first)
             return
         else:
-            self.is_fitted = self.session_size() != (0, 0) or not terminal.is_large_enough(self.display.outer.size())
+            self.is_fitted = self.session_size() != NO_SIZE or not terminal.is_large_enough(self.display.outer.size())
         self.fit()
 
     def is_fresh(self) -> bool:
         """Whether the session is so new that it goes by this terminal's size."""
         return time.monotonic() < self.new_until
 
+    def resized(self) -> None:
+        """Takes note of what was shown before the terminal had another size, the first of many where it is drawn by hand."""
+        if "size" not in self.loop.due:
+            self.showed_all = self.given is not None or self.display.shows_all()
+
+    def is_alone(self) -> bool:
+        """Whether it is known that nobody else types: who is there isn't told of another machine's session, nor without a folder."""
+        return self.session.folder is not None and self.session.served == "server" and not has_others(self.session.folder)
+
     def fit(self) -> None:
-        """Has the session grow to this terminal's size, where that cuts nothing and covers nobody else's terminal; a new one has it."""
-        size, own = self.session_size(), terminal.largest(self.display.outer.size())
+        """Has the session grow to this terminal's size, where nobody else types; a lone terminal that showed all of it is followed to any
+        size, and a new session goes by each. Nothing else makes one smaller."""
+        size, own = self.given or self.session_size(), terminal.largest(self.display.outer.size())
+        is_followed, self.showed_all = self.showed_all, False
         if self.is_fresh():
             self.ask_size()
-        elif not self.display.fits():
-            self.display.hide()
-        elif self.link.watches or size == (0, 0) or own == size or own[0] < size[0] or own[1] < size[1]:
+        elif self.link.watches or size in (NO_SIZE, own) or not terminal.is_large_enough(own):
             return
+        elif own[0] < size[0] or own[1] < size[1]:
+            if is_followed and self.is_alone():
+                self.ask_size()
         elif has_others(self.session.folder):
             self.display.tell(f"{size[0]} by {size[1]}, as another terminal has it; {self.prefix} r fits this one", FITS_TOLD)
         else:
             self.ask_size()
+
+    # ---- panes
 
     def ring(self, pane: int) -> None:
         """Rings, and tells of a pane that isn't in focus."""

@@ -1,10 +1,9 @@
-"""What a person's terminal shows: a session as it is painted, lines in place of it, or a line over its last row."""
+"""What a person's terminal shows: a part of a session as it is painted, or lines in place of it, and a line in the last row."""
 from __future__ import annotations
 
 import contextlib
 import os
 import signal
-import time
 from collections.abc import Callable
 
 from roam_live import terminal
@@ -12,15 +11,20 @@ from roam_live.loops import Loop
 from roam_live.program import Fault, write
 from roam_live.words import printable
 
-# So many seconds a session has for a size that it was given; then a line tells of one that is larger than the terminal. Where it hasn't
-# that size after so many more, its panes have no room in it.
-SETTLES = 0.5
-REFUSES = 2.0
+TYPE_CHECKING = False
+if TYPE_CHECKING:
+    from roam_live.told import Telling
 
-# So many seconds a line stands over the last row.
+# So many seconds a line stands in the last row.
 TOLD = 1.0
 
+# A terminal that is drawn larger or smaller by hand is painted anew once in so many seconds at most.
+DRAWN = 0.05
+
 TOO_SMALL = "too small"
+
+# A size that isn't known.
+NO_SIZE = (0, 0)
 
 
 class OuterTerminal:
@@ -78,179 +82,237 @@ class OuterTerminal:
 
 
 class Display:
-    """What is shown on a terminal. What has to be painted anew is asked for by a call, and what is painted before that comes is dropped."""
+    """What is shown on a terminal: a part of a session, as it is painted, and in the last row a line of the front end's own. Where the
+    session may be shown whole, with its status row, a line that is told stands over that.
 
-    def __init__(self, loop: Loop, repaint: Callable[[], None]) -> None:
-        self.outer, self.loop = OuterTerminal(), loop
-        self.ask = repaint
-        self.extent = terminal.PaintedSize()
-        self.held = b""
+    What a start tells comes in whole records, so nothing is ever written into the middle of a painting, and none is read.
+    """
+
+    def __init__(self, loop: Loop, says: Callable[[str], object]) -> None:
+        self.outer, self.loop, self.says = OuterTerminal(), loop, says
+        # The session's size, as it is told where its panes are, and as it was painted whole; nothing where that isn't known.
+        self.told_size = self.whole_size = NO_SIZE
+        # Whether the whole is shown where there is room for it; what was asked for, where that is a part; the size of what is painted next,
+        # and where the part that is painted begins.
+        self.may_be_whole = False
+        self.asked: terminal.Size | None = None
+        self.painted_size, self.place = NO_SIZE, (0, 0)
+        # Whether nothing that is painted may reach the terminal before all is painted anew.
         self.is_stale = True
+        # What stands in place of the session; what is told in the last row; for how many seconds nothing was heard of the server; and the
+        # panes.
         self.cover = self.told = ""
-        # Whether a session is hidden that is larger than the terminal; the size that it was given last, until when it may get that, and
-        # whether it was refused it.
-        self.is_hidden, self.given, self.settled_at, self.is_refused = False, (0, 0), 0.0, False
+        self.silent = 0
+        self.labels = ""
         # What tells which key fits the session to this terminal, where that may be, and which leaves.
         self.fits_line = self.leaves_line = ""
+        # The line that stands in the last row, and where; and whether what is painted next may erase it.
+        self.line_put: tuple[str, int, int] | None = None
+        self.is_line_lost = False
+
+    # ---- what is asked for
 
     def begin(self) -> None:
-        """What is painted next is a start's first painting."""
-        self.extent = terminal.PaintedSize()
-        self.is_stale, self.held = True, b""
+        """Knows nothing of what a start paints that was just connected to: it paints the whole where it isn't asked for a part."""
+        self.asked, self.painted_size, self.place = None, NO_SIZE, (0, 0)
+        self.is_stale, self.silent, self.line_put = True, 0, None
 
-    def painted(self, piece: bytes) -> None:
-        """Takes what was painted."""
-        if self.extent.fed(piece):
-            self.loop.drop("repaint")
-        text = self.fresh(piece)
-        if self.extent.size == self.given:
-            self.loop.drop("refused")
-        if not self.fits():
-            self.hide()
-        elif self.is_hidden and self.is_only_small():
-            self.uncover()
-        elif not self.cover:
-            self.outer.waiting += text
-            self.put_told()
+    def know(self, size: terminal.Size, labels: str, may_be_whole: bool) -> None:
+        """Goes by what is known of the session: its size, the labels of its panes, and whether it may be shown whole."""
+        is_smaller = size[0] < self.told_size[0] or size[1] < self.told_size[1]
+        self.told_size, self.labels, self.may_be_whole = size, labels, may_be_whole
+        # What is shown of one that is smaller now may begin too far below, or to the right.
+        self.choose(is_anew=is_smaller and self.place != (0, 0))
+        self.put_line()
 
-    def fresh(self, piece: bytes) -> bytes:
-        """What of a piece may reach the terminal: nothing before the reset that begins what is painted anew, and no reset."""
-        text = self.held + piece
-        if self.is_stale:
-            begin = text.find(terminal.RESET)
-            if begin < 0:
-                self.held = text[-1:] if text.endswith(b"\x1b") else b""
-                return b""
-            text, self.is_stale = text[begin:], False
-        text, self.held = terminal.without_reset(b"", text)
-        return text
+    def size(self) -> terminal.Size:
+        """The session's size, as far as it is known."""
+        return self.told_size if self.told_size != NO_SIZE else self.whole_size
 
-    def enter_again(self) -> None:
-        """Takes the terminal again, where nothing stands of what was painted."""
-        self.outer.enter_again()
-        self.resettle()
+    def wanted(self) -> terminal.Size | None:
+        """The part of the session that is to be shown; None where that is the whole. The session's size may be told from another machine:
+        whatever it is, what is asked for is a part that can be."""
+        rows, cols = terminal.largest(self.outer.size())
+        size = self.size()
+        if self.may_be_whole and size[0] <= rows and size[1] <= cols:
+            return None
+        least = terminal.LEAST_SHOWN
+        most = size if size != NO_SIZE else terminal.MOST
+        return max(min(rows, most[0]), least[0]) - 1, max(min(cols, most[1]), least[1])
+
+    def choose(self, is_anew: bool = False, is_painted: bool = False) -> None:
+        """Asks for what is to be shown, where that isn't what was asked for; else, where it has to be asked for anew, or be painted."""
+        rows, cols = self.outer.size()
+        if rows < terminal.LEAST_SHOWN[0] or cols < terminal.LEAST_SHOWN[1]:
+            self.show("\n".join(filter(None, (too_small(rows, cols), self.leaves_line))))
+            return
+        if self.cover.startswith(TOO_SMALL):
+            self.cover, is_painted = "", True
+        if self.wanted() != self.asked or is_anew:
+            self.ask_part(self.wanted())
+        elif is_painted and not self.cover:
+            self.repaint()
+
+    def ask_part(self, part: terminal.Size | None) -> None:
+        """Asks for a part of the session, or for all of it: for that part with the cursor that is nearest to the first row and column."""
+        self.asked, self.is_stale = part, True
+        self.says("part {} {}".format(*part) if part else "whole")
+
+    def repaint(self) -> None:
+        """Has all painted anew."""
+        self.is_stale = True
+        self.says("repaint")
+
+    def resettle(self) -> None:
+        """Paints all anew, where nothing stands in its place."""
+        if not self.cover:
+            self.choose(is_painted=True)
+
+    def shows_all(self) -> bool:
+        """Whether all of the session is shown, as far as its size is known: its status row may be left out."""
+        size = self.size()
+        return self.asked is None or size == NO_SIZE or self.asked == (size[0] - 1, size[1])
+
+    # ---- what is told
+
+    def take(self, record: Telling) -> None:
+        """Takes a record of what is shown here."""
+        if record.word == "size":
+            self.take_size((record.numbers[0], record.numbers[1]))
+        elif record.word == "part":
+            self.place = record.numbers[0], record.numbers[1]
+        elif record.word in ("paint", "anew"):
+            self.take_painting(record)
+        elif record.word in ("silent", "heard"):
+            self.silent = record.numbers[0] if record.numbers else 0
+            self.change_line()
+
+    def take_size(self, size: terminal.Size) -> None:
+        """Takes the size of what is painted from here on."""
+        self.painted_size, self.is_line_lost = size, True
+        if self.asked is None:
+            self.whole_size = size
+            self.choose()
+
+    def fits(self) -> bool:
+        """Whether there is room for what is painted, above the last row or there too."""
+        rows, cols = self.outer.size()
+        return self.painted_size[0] <= rows - (self.asked is not None) and self.painted_size[1] <= cols
+
+    def take_painting(self, record: Telling) -> None:
+        """Takes a painting: one that has no room, or comes before all is painted anew, doesn't reach the terminal, and no reset does."""
+        is_anew = record.word == "anew"
+        if self.asked is None:
+            # A size that was told before isn't told again.
+            self.whole_size = self.painted_size
+        if self.cover or not self.fits() or self.is_stale and not is_anew:
+            self.is_stale = True
+            return
+        self.outer.waiting += terminal.CLEARED + record.data.removeprefix(terminal.RESET) if is_anew else record.data
+        is_over = is_anew or self.is_line_lost or self.asked is None
+        self.is_stale = self.is_line_lost = False
+        self.put_line(is_over)
 
     # ---- lines in place of the session
 
     def show(self, text: str) -> None:
         """Shows lines in place of the session."""
-        self.cover = text
+        self.cover, self.is_stale, self.line_put = text, True, None
         rows, cols = self.outer.size()
         lines = [part for line in text.split("\n") for part in wrapped(printable(line), max(1, cols - 1))][: max(1, rows)]
         self.outer.waiting += terminal.CLEARED + terminal.unwrapped("\r\n".join(lines))
 
     def uncover(self) -> None:
-        """Shows the session again, where it fits."""
-        self.cover, self.is_refused = "", False
+        """Shows the session again."""
+        self.cover = ""
         self.outer.waiting += terminal.CLEARED
-        self.loop.drop("hide")
-        self.is_hidden = not self.fits()
-        if self.is_hidden:
-            self.tell_small()
-        else:
-            self.repaint()
+        self.choose(is_painted=True)
 
-    def repaint(self) -> None:
-        """Has all painted anew."""
-        self.is_stale, self.held = True, b""
-        self.ask()
-
-    def fits(self) -> bool:
-        """Whether the terminal is large enough for the session, as far as that is known, and for any."""
-        size = self.outer.size()
-        return terminal.is_large_enough(size) and self.extent.fits(size)
-
-    def hide(self) -> None:
-        """Shows nothing of a session that is larger than the terminal; a line tells so, unless it may still get another size."""
-        self.is_hidden = True
-        left = self.settled_at - time.monotonic()
-        if left > 0 and terminal.is_large_enough(self.outer.size()):
-            self.loop.later("hide", left, self.tell_small)
-        else:
-            self.tell_small()
-
-    def tell_small(self) -> None:
-        """Tells that the terminal is too small, and the keys for it, where nothing else is told in the session's place."""
-        text = self.small_text()
-        if self.is_hidden and not self.fits() and self.cover != text and self.is_only_small():
-            self.show(text)
-
-    def is_only_small(self) -> bool:
-        """Whether nothing but a terminal that is too small is told in the session's place."""
-        return not self.cover or self.cover.startswith(TOO_SMALL)
-
-    def small_text(self) -> str:
-        """What is told of a terminal that is too small."""
-        rows, cols = self.outer.size()
-        is_possible = terminal.is_large_enough((rows, cols))
-        need = self.extent.size if is_possible else terminal.LEAST
-        way = "its panes have no room here" if self.is_refused else self.fits_line
-        lines = [f"{TOO_SMALL}: {rows} by {cols} of {need[0]} by {need[1]}", way if is_possible else "", self.leaves_line]
-        return "\n".join(filter(None, lines))
-
-    def size_asked(self, size: terminal.Size) -> None:
-        """Waits for a size that the session was given."""
-        self.given, self.settled_at, self.is_refused = size, time.monotonic() + SETTLES, False
-        self.loop.later("refused", SETTLES + REFUSES, self.refused)
-
-    def refused(self) -> None:
-        """Tells where the session hasn't got the size that it was given."""
-        self.is_refused = not self.fits()
-        self.tell_small()
+    def enter_again(self) -> None:
+        """Takes the terminal again, where nothing stands of what was painted."""
+        self.outer.enter_again()
+        self.is_stale, self.line_put = True, None
 
     def resized(self) -> None:
-        """Goes by a new size of the terminal."""
-        self.is_refused = False
-        self.loop.drop("refused")
-        if not self.fits():
-            self.hide()
-        elif self.is_hidden and self.is_only_small():
-            self.uncover()
-        elif self.cover:
+        """Goes by a new size of the terminal: at once where there is no room for what is shown, and for all of it a moment later, since
+        many sizes come where it is drawn by hand."""
+        self.line_put = None
+        if self.cover:
             self.show(self.cover)
-        self.loop.later("repaint", SETTLES, self.resettle)
-
-    def resettle(self) -> None:
-        """Paints all anew, where the session's new size hasn't had that done."""
-        if not self.cover and not self.is_hidden:
-            self.repaint()
+        self.is_stale = self.is_stale or not self.fits()
+        if "paint" not in self.loop.due:
+            self.loop.later("paint", DRAWN, lambda: self.choose(is_painted=True))
 
     def set_keypad(self, is_application: bool) -> None:
-        """Has the keypad send the codes of applications, or numbers, where the terminal isn't in the middle of something."""
-        if is_application != self.outer.is_application and (self.cover or self.extent.is_between()):
+        """Has the keypad send the codes of applications, or numbers."""
+        if is_application != self.outer.is_application:
             self.outer.waiting += terminal.KEYPAD[is_application]
             self.outer.is_application = is_application
 
     def ring(self) -> None:
-        """Rings the terminal's bell, where the terminal isn't in the middle of something."""
-        if self.cover or self.extent.is_between():
-            self.outer.waiting += b"\x07"
+        """Rings the terminal's bell."""
+        self.outer.waiting += b"\x07"
 
-    # ---- a line over the last row
+    # ---- the line in the last row
+
+    def line(self) -> str:
+        """The line that stands in the last row: what is told, that the server is silent, or the panes; nothing where the session's own
+        status row stands there."""
+        if self.told:
+            return self.told
+        if self.silent:
+            return "; ".join(filter(None, (f"roam: no answer for {self.silent} s", self.leaves_line)))
+        return "" if self.asked is None else self.labels_line(self.outer.size()[1])
+
+    def labels_line(self, width: int) -> str:
+        """The labels of the panes, and at the end of the row which key fits the session to this terminal, where it isn't all shown."""
+        hint = "" if self.shows_all() else self.fits_line
+        if len(hint) > width:
+            hint = ""
+        labels = self.labels if len(self.labels) + len(hint) < width or not hint else ""
+        return labels + hint.rjust(width - len(labels))
+
+    def put_line(self, is_over: bool = False) -> None:
+        """Writes that line, behind what was painted, where it is another than stands there; over a painting it is written in any case."""
+        text = self.line()
+        if self.cover or not text:
+            return
+        rows, width = self.outer.size()
+        row = rows
+        if self.asked is None and self.painted_size != NO_SIZE:
+            row, width = min(self.painted_size[0], rows), min(self.painted_size[1], width)
+        if is_over or self.line_put != (text, row, width):
+            self.line_put = text, row, width
+            line = printable(text)[:width].ljust(width)
+            self.outer.waiting += b"\x1b7" + terminal.unwrapped(f"\x1b[{row};1H\x1b[0;7m{line}\x1b[0m") + b"\x1b8"
+
+    def change_line(self) -> None:
+        """Goes by another line; where the session's own status row stands there all is painted anew."""
+        if self.line() or self.cover:
+            self.put_line()
+        else:
+            self.repaint()
 
     def tell(self, text: str, seconds: float | None = TOLD) -> None:
-        """Shows a line over the session's last row: for some seconds, or until it is ended."""
+        """Shows a line in the last row: for some seconds, or until it is ended."""
         self.told = text
-        self.put_told()
+        self.put_line()
         if seconds:
             self.loop.later("told", seconds, self.end_told)
         else:
             self.loop.drop("told")
 
-    def put_told(self) -> None:
-        """Writes that line, where the terminal isn't in the middle of something."""
-        if self.told and not self.cover and not self.is_hidden and self.extent.is_between():
-            rows, cols = self.outer.size()
-            row, width = min(self.extent.size[0] or rows, rows), min(self.extent.size[1] or cols, cols)
-            line = printable(self.told)[:width].ljust(width)
-            self.outer.waiting += b"\x1b7" + terminal.unwrapped(f"\x1b[{row};1H\x1b[0;7m{line}\x1b[0m") + b"\x1b8"
-
     def end_told(self) -> None:
-        """Shows the session's last row again."""
+        """Shows in the last row what stands there else."""
         self.loop.drop("told")
         if self.told:
             self.told = ""
-            self.resettle()
+            self.change_line()
+
+
+def too_small(rows: int, cols: int) -> str:
+    """What is told of a terminal on which no part of a session has room."""
+    return "{}: {} by {} of {} by {}".format(TOO_SMALL, rows, cols, *terminal.LEAST_SHOWN)
 
 
 def wrapped(line: str, width: int) -> list[str]:

@@ -36,6 +36,10 @@ UNTOLD = "where panes are isn't told, as by an earlier roam; an arrow goes to th
 NOR_BELLS = "panes and bells aren't told, as by an earlier roam; an arrow goes to the next"
 NO_PLACE = "no more may follow where panes are; an arrow goes to the next pane"
 
+# A server tells one for whom it has no place too where the panes are, and lets it go then: who met that goes by what is told once the
+# connection has stood for so many seconds.
+STANDS = 1.0
+
 
 class Following:
     """Follows a socket `panes`, which a call connects to: a call for the lines that came, and one where the connection is lost. It is had
@@ -157,7 +161,7 @@ class PanesFollower:
         self.folder, self.loop, self.changed, self.tells = folder, loop, changed, tells
         self.told = ToldPanes()
         self.places: Places | None = None
-        self.has_said = False
+        self.has_said = self.was_told = self.has_no_place = False
         self.awaited_until = loop.clock() + AWAITED if folder else 0.0
         path = os.path.join(folder, "panes") if folder else ""
         self.following = Following(lambda: connected_now(path), loop, self.hear, self.lose)
@@ -168,6 +172,10 @@ class PanesFollower:
         """Whether nothing is told yet, and something may be soon."""
         return self.places is None and not self.has_said and self.loop.clock() < self.awaited_until
 
+    def is_untold(self) -> bool:
+        """Whether nothing is told, and nothing will be soon."""
+        return self.places is None and (self.has_said or not self.was_told and not self.is_awaited())
+
     def is_full(self) -> bool:
         """Whether the server is known to have had as many starts as it ever has."""
         return self.places is not None and self.places.is_full()
@@ -176,7 +184,16 @@ class PanesFollower:
         """Takes what was told."""
         if not any([self.told.take(line) for line in lines]) and not self.places:
             self.say(UNTOLD)
+        if self.has_no_place and self.loop.clock() < self.following.since + STANDS:
+            self.loop.later("panes stand", STANDS, self.know)
+        else:
+            self.know()
+
+    def know(self) -> None:
+        """Goes by what was told."""
+        self.has_no_place = False
         before, self.places = self.places, self.told.places()
+        self.was_told = self.was_told or self.places is not None
         if self.places != before:
             self.changed()
 
@@ -184,11 +201,13 @@ class PanesFollower:
         """Goes on without, until it is told anew; where it stays so from the beginning that is said."""
         following, was_told = self.following, self.places is not None
         self.told, self.places = ToldPanes(), None
+        self.loop.drop("panes stand")
         if was_told:
             self.changed()
         if following.faults >= TRIES and following.is_gone and self.folder:
             self.say(UNTOLD if os.path.exists(os.path.join(self.folder, "bells")) else NOR_BELLS)
-        elif following.faults >= TRIES and following.why == LET_GO:
+        elif max(following.faults, following.soon) >= TRIES and following.why == LET_GO:
+            self.has_no_place = True
             self.say(NO_PLACE)
 
     def say(self, words: str) -> None:

@@ -2,7 +2,6 @@
 from __future__ import annotations
 
 import contextlib
-import re
 import signal
 from collections.abc import Callable
 
@@ -10,7 +9,7 @@ from roam_live.bells import BellFollower
 from roam_live.bindings import NEWEST
 from roam_live.commands import Commands
 from roam_live.display import Display
-from roam_live.following import PanesFollower
+from roam_live.following import AWAITED, PanesFollower
 from roam_live.links import Keeper, StartLink
 from roam_live.loops import Loop
 from roam_live.program import noted_front_end, opened_process, read, woken, write
@@ -20,6 +19,7 @@ TYPE_CHECKING = False
 if TYPE_CHECKING:
     from roam_live.any_session import AnySession
     from roam_live.places import Places
+    from roam_live.told import Telling
 
 # So many bytes may wait for the terminal, and so many for the session, before what brings more is left alone.
 PAINTED_LIMIT = 1 << 16
@@ -37,16 +37,11 @@ LOSS_TOLD = 3.0
 
 LEAVING = (signal.SIGTERM, signal.SIGHUP, signal.SIGINT)
 
-# What the start tells of a silent server, with what follows it: the key that leaves is told there. By its beginning it is nothing that a
-# pane shows: a painting saves no cursor.
-SILENCE = re.compile(rb"(\x1b7\x1b\[\?7l\x1b\[999;1H\x1b\[0;7mroam: no answer for \d+ s)(\x1b\[0m)")
-
-
 class FrontEnd:
     """A person at a terminal, and the session there."""
 
     def __init__(self, session: AnySession, watches: bool, prefix: str, guessing: str, is_new: Callable[[Places | None], bool],
-                 loop: Loop | None = None) -> None:
+                 loop: Loop | None = None, is_whole: bool = False) -> None:
         self.session, self.loop = session, loop or Loop()
         self.left: str | None = None
         self.status = 0
@@ -55,11 +50,12 @@ class FrontEnd:
         self.server = opened_process(served) if served else None
         self.shells = ShellsWatch(session, self.loop, lambda line: self.display.tell(line, LOSS_TOLD))
         self.link = StartLink(session.terminals, watches, guessing)
-        self.display = Display(self.loop, lambda: self.link.say("repaint"))
-        self.panes = PanesFollower(session.folder, self.loop, lambda: self.commands.told(), lambda line: self.display.tell(line, LOSS_TOLD))
+        self.display = Display(self.loop, self.say)
+        self.panes = PanesFollower(session.folder, self.loop, lambda: self.commands.told(), self.untold)
         self.keeper = Keeper(session, self.link, self.panes.is_full)
-        self.commands = Commands(session, self.panes, self.link, self.display, self.loop, self.leave, is_new)
+        self.commands = Commands(session, self.panes, self.link, self.display, self.loop, self.leave, is_new, is_whole)
         self.commands.choose(prefix)
+        self.loop.later("untold", AWAITED, self.commands.show_known)
         self.bells = BellFollower(session.folder, self.loop, self.commands.ring, lambda words: self.display.tell(words, LOSS_TOLD))
         self.join()
 
@@ -89,16 +85,27 @@ class FrontEnd:
             if said:
                 self.pause(said, wait)
             return
-        self.loop.add(self.link, self.paint, self.send, hears=lambda: len(self.display.outer.waiting) < PAINTED_LIMIT,
+        self.loop.add(self.link, self.hear, self.send, hears=lambda: len(self.display.outer.waiting) < PAINTED_LIMIT,
                       has_more=lambda: self.link.waiting)
         loss = self.keeper.connected()
         self.commands.paused = False
         self.display.cover = ""
         self.display.begin()
+        self.commands.show_known()
         self.commands.fit_first()
         self.commands.act(*([] if self.commands.typing.left() else [NEWEST]))
         if loss:
             self.display.tell(loss, LOSS_TOLD)
+
+    def say(self, line: str) -> None:
+        """Says a line about what is shown here, where there is a start: each that is connected to is told anew."""
+        if self.link.peer:
+            self.link.say(line)
+
+    def untold(self, line: str) -> None:
+        """Goes on where it isn't told where the panes are, which a line says."""
+        self.display.tell(line, LOSS_TOLD)
+        self.commands.show_known()
 
     def pause(self, said: str, wait: float) -> None:
         """Says what is in the way for so long."""
@@ -122,6 +129,7 @@ class FrontEnd:
 
     def resized(self) -> None:
         """Goes by a new size of the terminal."""
+        self.commands.resized()
         self.display.resized()
         self.loop.later("size", 0.0 if self.commands.is_fresh() else SIZES, self.commands.fit)
 
@@ -173,19 +181,25 @@ class FrontEnd:
             self.leave("", 1)
         self.commands.fed(piece or b"")
 
-    def paint(self) -> None:
-        """Takes what the start painted."""
-        piece = self.link.painted()
-        if piece == b"":
+    def hear(self) -> None:
+        """Takes what the start told."""
+        records = self.link.told()
+        if records is None:
             self.lost()
-        elif piece:
-            self.display.painted(SILENCE.sub(rb"\1; %s d leaves\2" % self.commands.prefix.encode(), piece))
-            if not self.commands.is_fitted and "size" not in self.loop.due:
-                self.loop.later("size", SIZES, self.commands.fit_first)
+            return
+        for record in records:
+            self.take(record)
+
+    def take(self, record: Telling) -> None:
+        """Takes a record: by the size of what is painted that of the session may be known, where nothing else tells it."""
+        self.display.take(record)
+        if record.word == "size" and not self.commands.is_fitted and "size" not in self.loop.due:
+            self.loop.later("size", SIZES, self.commands.fit_first)
 
     def send(self) -> None:
         """Sends what the start takes."""
         if not self.link.send():
+            self.link.hear_last()
             self.lost()
 
     def show(self) -> None:
@@ -213,13 +227,14 @@ class FrontEnd:
 
 
 def follow(session: AnySession, watches: bool, prefix: str, guessing: str,
-           is_new: Callable[[Places | None], bool] = lambda places: False) -> int:
+           is_new: Callable[[Places | None], bool] = lambda places: False, is_whole: bool = False) -> int:
     """Has a person follow a session at this terminal, and tells the status; guesses are shown always, where that helps, or never. Where the
-    session is new, which may be known a moment later, it gets this terminal's size, whatever that is."""
+    session is new, which may be known a moment later, it gets this terminal's size, whatever that is. It may be shown whole, where there is
+    room for its own status row."""
     note = None
     try:
         note = noted_front_end(session.folder, "watches" if watches else "edits")
-        return FrontEnd(session, watches, prefix, guessing, is_new).run()
+        return FrontEnd(session, watches, prefix, guessing, is_new, is_whole=is_whole).run()
     finally:
         session.close()
         if note:

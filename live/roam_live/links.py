@@ -1,4 +1,4 @@
-"""A connection to a session's client start: the lines that wait for it, what is painted there, and how it is had again where it is lost."""
+"""A connection to a session's client start: the lines that wait for it, what is told over it, and how it is had again where it is lost."""
 from __future__ import annotations
 
 import os
@@ -6,12 +6,15 @@ import socket
 import time
 from collections.abc import Callable
 
-from roam_live.loops import READ, WRITE, comes, ready
-from roam_live.program import Fault, connected_now, read, reason, runs_program
+from roam_live.loops import READ, WRITE, ready
+from roam_live.program import Fault, SocketPeer, connected_now, read, reason
+from roam_live.told import NoRecord, Records
 
 TYPE_CHECKING = False
 if TYPE_CHECKING:
     from roam_live.any_session import AnySession
+    from roam_live.sessions import FolderSession
+    from roam_live.told import Telling
 
 # The pauses before a start is spawned anew; a connection that lasted so long had no fault at its start.
 PAUSES = (0.1, 1, 2, 4, 8, 15)
@@ -21,8 +24,12 @@ SOUND = 5.0
 READY_WAIT = 10.0
 STEP = 0.02
 
-# So many seconds what was typed before a person left may take.
+# So many seconds what was typed before a person left may take, and a start has for its first record.
 LAST_WAIT = 1.5
+FIRST_WAIT = 5.0
+
+# What a start tells before it ends is read so many times at most, 65,536 bytes each.
+LAST_READS = 64
 
 # So many acts stand in one line at most, where they come at once, as what is pasted: they are typed in one turn. A start has 64 on their
 # way, so that one line waits while another is answered, and another terminal's key finds room between.
@@ -32,23 +39,38 @@ MOST_ACTS = 32
 LOST = "the client start has ended; what was typed last may be lost"
 NO_MORE = "no more terminals are taken: 16 are there"
 LET_GO = "this terminal was let go; what was typed last may be lost"
+EARLIER = "the client start is an earlier roam's"
+REFUSED = "the client start refused a line"
+SILENT = "the client start tells nothing"
 
 
 class StartLink:
-    """A terminal's connection to the start. Each line goes whole to one connection: what of a line came to one that is lost is nothing."""
+    """A terminal's connection to the start, over which it is told records. Each line goes whole to one connection: what of a line came to
+    one that is lost is nothing."""
 
     def __init__(self, path: str | os.PathLike[str], watches: bool, guessing: str = "never") -> None:
         self.path, self.watches = path, watches
-        self.guessing = b"" if guessing == "never" else f"guess {guessing}\n".encode()
+        more = b"watch\n" if watches else b"" if guessing == "never" else f"guess {guessing}\n".encode()
+        self.greeting = b"told\n" + more
         self.peer: socket.socket | None = None
+        # The process at the other end, where it is known.
+        self.process = 0
         self.waiting = bytearray()
         self.given = 0
         # How many acts the last line has, where more may join them, and whether they were pasted.
         self.acts = 0
         self.is_pasted = False
-        self.knows_pastes = False
         self.since = 0.0
-        self.has_painted = False
+        self.forget()
+
+    def forget(self) -> None:
+        """Knows nothing yet of what a connection tells."""
+        self.records = Records()
+        # Whether anything came, and whether the end; how many lines it was given, and how many of them are done; that it is full, and which
+        # line it refused.
+        self.has_come = self.has_ended = False
+        self.lines = self.taken = 0
+        self.is_full, self.refusal = False, ""
 
     def fileno(self) -> int:
         """Its descriptor."""
@@ -63,28 +85,30 @@ class StartLink:
     def connect(self) -> None:
         """Connects to the start."""
         self.peer = connected_now(self.path)
-        self.knows_pastes = runs_program(self.peer)
-        self.since, self.given, self.has_painted = time.monotonic(), 0, False
+        self.process = SocketPeer.of(self.peer).process
+        self.since, self.given = time.monotonic(), 0
         self.acts = 0
+        self.forget()
         if self.watches:
-            self.waiting[:] = b"watch\n"
-        elif not self.waiting.startswith(self.guessing):
-            self.waiting[:0] = self.guessing
+            self.waiting[:] = self.greeting
+        elif not self.waiting.startswith(self.greeting):
+            self.waiting[:0] = self.greeting
+        self.lines = self.waiting.count(b"\n")
 
     def say(self, line: str) -> None:
         """Adds a line at the end."""
         self.waiting += f"{line}\n".encode()
         self.acts = 0
+        self.lines += 1
 
     def type(self, *acts: str, is_pasted: bool = False) -> None:
-        """Adds acts at the end; those that were pasted have lines of their own, which say so where the start knows the word."""
+        """Adds acts at the end; those that were pasted have lines of their own, which say so."""
         for act in acts:
             if 0 < self.acts < MOST_ACTS and is_pasted == self.is_pasted:
                 self.waiting[-1:] = f" ; {act}\n".encode()
                 self.acts += 1
             else:
-                lead = "paste ; " if is_pasted and self.knows_pastes else ""
-                self.waiting += f"{lead}{act}\n".encode()
+                self.say(f"paste ; {act}" if is_pasted else act)
                 self.acts = 1
             self.is_pasted = is_pasted
 
@@ -102,15 +126,63 @@ class StartLink:
         self.given -= whole
         return True
 
-    def comes(self, seconds: float) -> bool:
-        """Whether something comes in so many seconds."""
-        return comes(self.end(), seconds)
-
-    def painted(self) -> bytes | None:
-        """What was painted; None where nothing came, and nothing where the connection has ended."""
+    def told(self) -> list[Telling] | None:
+        """The records that came; None where the connection has ended, or tells what is no record."""
         piece = read(self.end().fileno())
-        self.has_painted = self.has_painted or bool(piece)
-        return piece
+        self.has_come = self.has_come or bool(piece)
+        try:
+            records = self.records.came(piece or b"")
+        except NoRecord:
+            piece = b""
+        if piece == b"":
+            self.has_ended = True
+            return None
+        for record in records:
+            self.note(record)
+        return records
+
+    def note(self, record: Telling) -> None:
+        """Takes note of what a record tells of the connection."""
+        if record.word == "taken":
+            self.taken = record.numbers[0]
+        elif record.word == "full":
+            self.is_full = True
+        elif record.word == "refused":
+            self.refusal = record.words
+
+    def exchanged(self, seconds: float = 0.1) -> list[Telling] | None:
+        """Waits so many seconds at most, gives what is taken, and tells the records that came; None where the connection has ended: what
+        was told before that is read first."""
+        events = ready(self.end(), READ | WRITE if self.waiting else READ, seconds)
+        if events & WRITE:
+            self.send()
+        return self.told() if events & READ else []
+
+    def hear_last(self) -> None:
+        """Takes note of what a start told that takes nothing more, as that it refused a line."""
+        for _ in range(LAST_READS):
+            if self.told() is None:
+                return
+
+    def begins(self, seconds: float) -> bool:
+        """Gives what waits, and tells whether records begin to come in so many seconds."""
+        end = time.monotonic() + seconds
+        while not self.records.begun and time.monotonic() < end:
+            if self.exchanged() is None:
+                break
+        return self.records.begun
+
+    def is_done(self) -> bool:
+        """Whether all lines that were given are taken, with all their acts."""
+        return self.taken >= self.lines
+
+    def loss(self) -> str:
+        """Why a connection has ended, where its start is still there."""
+        if self.is_full or not self.has_come:
+            return NO_MORE
+        if not self.records.begun:
+            return EARLIER
+        return f"{REFUSED}: {self.refusal}" if self.refusal else LET_GO
 
     def close(self) -> None:
         """Closes it."""
@@ -126,30 +198,48 @@ class StartLink:
             if not has_said and not self.waiting:
                 has_said = True
                 self.end().shutdown(socket.SHUT_WR)
-            events = ready(self.end(), READ | WRITE if self.waiting else READ, 0.1)
-            has_ended = bool(events & WRITE and not self.send() or events & READ and self.painted() == b"")
+            has_ended = self.exchanged() is None
         self.close()
         return has_ended and not self.waiting
 
 
+def opened(session: FolderSession, watches: bool) -> StartLink:
+    """A connection over which records come; where an earlier roam's start is there it is to another, which is launched in its place."""
+    link = StartLink(session.terminals, watches)
+    for _ in range(2):
+        link.connect()
+        if link.begins(FIRST_WAIT):
+            return link
+        why = link.loss() if link.has_ended else SILENT
+        link.close()
+        if why != EARLIER:
+            break
+        with session.locked():
+            session.demand_terminals(link.process)
+    raise Fault(why)
+
+
 class Keeper:
-    """Has a link connected: to the start that is there, or to another, which is spawned after pauses that grow."""
+    """Has a link connected: to the start that is there, or to another, which is spawned after pauses that grow, and in place of one that
+    is an earlier roam's."""
 
     def __init__(self, session: AnySession, link: StartLink, is_full: Callable[[], bool] = lambda: False) -> None:
         self.session, self.link, self.is_full = session, link, is_full
         self.faults = 0
         self.begun_at = 0.0
         self.start: int | None = None
+        # The process of a start that is an earlier roam's.
+        self.earlier: int | None = None
 
     def lost(self) -> str:
         """Takes note of a link that has ended, and tells why, as far as that is known yet."""
         self.session.read()
-        is_there, was_painted = self.session.runs("terminals"), self.link.has_painted
+        why = self.link.loss() if self.session.runs("terminals") else LOST
         self.faults = 1 if time.monotonic() - self.link.since > SOUND else self.faults + 1
+        if why == EARLIER:
+            self.earlier, self.start = self.link.process, None
         self.link.close()
-        if not is_there:
-            return LOST
-        return LET_GO if was_painted else NO_MORE
+        return why
 
     def pause(self) -> float:
         """The seconds until it is tried anew."""
@@ -164,6 +254,8 @@ class Keeper:
 
     def connect(self) -> tuple[float, str] | None:
         """Connects where that can be done now; else the seconds until it is tried again, and why, where a person is to know."""
+        if self.earlier is not None:
+            return self.begin(time.monotonic())
         try:
             self.link.connect()
             return None
@@ -184,8 +276,9 @@ class Keeper:
 
     def begin(self, now: float) -> tuple[float, str]:
         """Starts a start, which has its socket soon."""
+        earlier, self.earlier = self.earlier, None
         try:
-            self.session.revive()
+            self.session.revive(earlier)
         except (Fault, OSError) as fault:
             return self.failed(reason(fault).removeprefix(f"session {self.session.name}: "))
         self.begun_at = now

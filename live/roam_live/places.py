@@ -50,6 +50,10 @@ class Places(namedtuple("Places", "rects focus starts watchers", defaults=(0, 0,
         rects = self.rects.values()
         return max(rect.row + rect.rows for rect in rects), max(rect.col + rect.cols - 1 for rect in rects)
 
+    def labels(self) -> str:
+        """The panes' numbers as a session's status row has them: that in focus in brackets, each other between spaces."""
+        return "".join(f"[{pane}]" if pane == self.focus else f" {pane} " for pane in in_order(self.rects))
+
     def is_full(self) -> bool:
         """Whether the server knows as many starts as it ever does."""
         return self.starts >= MOST_STARTS
@@ -73,6 +77,19 @@ class Places(namedtuple("Places", "rects focus starts watchers", defaults=(0, 0,
         if here and (here.rows < ROOM[way][0] or here.cols < ROOM[way][1]):
             return f"pane {self.focus} is too small to be split: {here.rows} by {here.cols}"
         return ""
+
+
+def in_order(rects: dict[int, Rect]) -> list[int]:
+    """Panes in the order of the layout's tree, as far as their rectangles tell it: those on the left, or above, of a cut through all of
+    them come first. Where four meet in a cross either cut may have been the first."""
+    for begin, extent in (("col", "cols"), ("row", "rows")):
+        ordered = sorted(rects.items(), key=lambda item: int(getattr(item[1], begin)))
+        end = 0
+        for count, (_, rect) in enumerate(ordered):
+            if count and end <= getattr(rect, begin):
+                return in_order(dict(ordered[:count])) + in_order(dict(ordered[count:]))
+            end = max(end, getattr(rect, begin) + getattr(rect, extent))
+    return sorted(rects)
 
 
 def covers(rect: Rect, row: float, col: float, is_beside: bool) -> bool:

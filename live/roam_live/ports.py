@@ -51,7 +51,7 @@ class PortSession:
         """What keeps its shells isn't known here, and nothing is spawned."""
         return False
 
-    def revive(self) -> None:
+    def revive(self, earlier: int | None = None) -> None:
         """Starts the start, where it doesn't run."""
         if not self.runs("terminals"):
             self.terminals.unlink(missing_ok=True)

@@ -6,7 +6,7 @@ import re
 import subprocess
 import time
 
-from roam_live.links import NO_MORE, StartLink
+from roam_live.links import opened
 from roam_live.program import Fault, Home
 from roam_live.places import MOST_PANES, Places
 from roam_live.terminal import LEAST, MOST
@@ -15,11 +15,11 @@ TYPE_CHECKING = False
 if TYPE_CHECKING:
     from collections.abc import Callable
 
+    from roam_live.links import StartLink
     from roam_live.sessions import FolderSession
 
-# How long a session's client start has for the acts that it is given, and for its first painting.
+# So many seconds a session may take none of the acts that its client start was given.
 SEND_WAIT = 10.0
-FIRST_WAIT = 5.0
 
 # What was asked for before may not be told yet: for so many seconds it is looked again whether something can be done, this often.
 TOLD_WAIT = 1.0
@@ -125,16 +125,30 @@ def demand_doable(session: FolderSession, acts: list[str]) -> None:
         time.sleep(TOLD_STEP)
 
 
+def are_taken(link: StartLink) -> bool:
+    """Gives a start what waits, and tells whether the session takes all of it: some within each ten seconds."""
+    end, before = time.monotonic() + SEND_WAIT, link.taken
+    while not link.is_done() and time.monotonic() < end:
+        if link.exchanged() is None:
+            break
+        if link.taken != before:
+            end, before = time.monotonic() + SEND_WAIT, link.taken
+    return link.is_done()
+
+
 def send(session: FolderSession, acts: list[str]) -> int:
-    """Types acts into a session, and ends once all were given to its client start."""
+    """Types acts into a session, and ends once it has taken all of them."""
     acts = [act.replace("\n", "\\n") for act in acts]
     demand_acts(session, acts)
     demand_doable(session, acts)
-    link = StartLink(session.terminals, False)
-    link.connect()
-    if link.comes(FIRST_WAIT) and link.painted() == b"":
-        raise Fault(NO_MORE)
+    link = opened(session, False)
     link.type(*acts)
-    if not link.part(SEND_WAIT):
-        raise Fault(f"session {session.name} takes no more acts; some may have been typed")
-    return 0
+    is_taken = are_taken(link)
+    was_given, has_ended, why = not link.waiting, link.has_ended, link.loss()
+    link.close()
+    # An act may have ended the session, before that it was taken came back.
+    if is_taken or has_ended and was_given and not session.runs():
+        return 0
+    if has_ended:
+        raise Fault(f"session {session.name}: {why}")
+    raise Fault(f"session {session.name} takes no more acts; some may have been typed")

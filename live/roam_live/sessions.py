@@ -242,22 +242,26 @@ class FolderSession(Processes):
             raise Fault(f"session {self.name} has had the {MOST_STARTS} client starts of its life, and hears no other; what runs in it "
                         f"goes on, and `mux kill {self.name}` ends it")
 
-    def demand_terminals(self) -> None:
-        """Sees that the start of this machine's terminals runs, and is ready."""
+    def demand_terminals(self, earlier: int | None = None) -> None:
+        """Sees that the start of this machine's terminals runs, and is ready: another than that of an earlier roam, where one is named."""
         before = self.logged()
-        if not self.has_terminals():
+        if not self.has_terminals(earlier):
             self.demand_room()
             self.spawn_terminals()
             self.wait_for("terminals", before, lambda: is_listened(self.terminals))
 
-    def has_terminals(self) -> bool:
-        """Whether a client start for this machine's terminals is there, as is noted or as its socket tells."""
+    def has_terminals(self, earlier: int | None = None) -> bool:
+        """Whether a client start for this machine's terminals is there, as is noted or as its socket tells: another than that of an earlier
+        roam, which goes on with the terminals that it has."""
+        if earlier is not None:
+            with contextlib.suppress(Fault):
+                return self.listener(self.sockets["terminals"]) not in (None, earlier)
         return self.runs("terminals") or is_listened(self.terminals)
 
-    def revive(self) -> None:
-        """Starts the start of the terminals anew, where it has ended and nobody else does."""
+    def revive(self, earlier: int | None = None) -> None:
+        """Starts the start of the terminals anew, where it has ended, or is that of an earlier roam, and nobody else does."""
         with contextlib.suppress(BlockingIOError), self.locked(may_wait=False):
-            if not self.has_terminals():
+            if not self.has_terminals(earlier):
                 self.spawn_terminals()
 
     def revive_shells(self) -> bool:

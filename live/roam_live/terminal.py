@@ -1,12 +1,10 @@
-"""The outer terminal: raw mode, its size, the other screen, and what of the painter's text may reach it."""
+"""The outer terminal: raw mode, its size, the other screen, and what is written there beside the painter's text."""
 from __future__ import annotations
 
-import codecs
 import contextlib
 import errno
 import fcntl
 import os
-import re
 import signal
 import struct
 import termios
@@ -26,6 +24,10 @@ if TYPE_CHECKING:
 LEAST = (4, 8)
 MOST = (200, 500)
 
+# The least terminal on which something of a session is shown: two rows of it and four columns, above a row of the front end's own.
+LEAST_SHOWN = (3, 4)
+
+# What a painting begins with that clears the terminal.
 RESET = b"\x1bc"
 
 # What a reset does that a person's terminal may be asked for: the modes that change what the painter's functions do, the margins, the
@@ -61,13 +63,6 @@ def has_entry(name: str) -> bool:
 def names() -> dict[str, str]:
     """What tells a program which terminal a pane is: the first entry that this machine has."""
     return {"TERM": next((name for name in ENTRIES if has_entry(name)), ENTRIES[-1]), "COLORTERM": "truecolor"}
-
-
-def without_reset(held: bytes, piece: bytes) -> tuple[bytes, bytes]:
-    """The painter's text with each reset replaced, and what is held back: an escape at the end, which may begin one."""
-    text = held + piece
-    held = b"\x1b" if text.endswith(b"\x1b") else b""
-    return text[: len(text) - len(held)].replace(RESET, CLEARED), held
 
 
 def unwrapped(text: str) -> bytes:
@@ -195,69 +190,3 @@ def opened_for_writing(terminal: int) -> int:
         return os.open(os.ttyname(terminal), os.O_WRONLY | os.O_NOCTTY | os.O_NONBLOCK)
     except OSError:
         return os.dup(terminal)
-
-
-class PaintedSize:
-    """How many rows and columns the painter has reached since all was erased.
-
-    The last row of a session is painted over all of its columns in printable ASCII, so this is the session's size. Of the rows above it
-    nothing is looked at, since a large screen in many colours is a lot of text.
-    """
-
-    MARKS = re.compile(rb"\x1b\[(\d+)(?:;(\d+))?H|\x1b\[2J|\x1bc")
-    ESCAPES = re.compile(rb"\x1b[^\[]|\x1b\[[0-?]*[@-~]")
-
-    def __init__(self) -> None:
-        self.rest = b""
-        self.row, self.col = 0, 1
-        self.size = (0, 0)
-        self.decoder = codecs.getincrementaldecoder("utf-8")("replace")
-
-    def is_between(self) -> bool:
-        """Whether what was painted so far ends with a whole sequence and a whole character."""
-        return not self.rest and not self.decoder.getstate()[0]
-
-    def fed(self, piece: bytes) -> bool:
-        """Goes on with a piece of the painter's text, and tells whether all was erased in it."""
-        text = self.rest + piece
-        self.decoder.decode(piece[-4:])
-        cut = text.rfind(b"\x1b")
-        is_whole = cut < 0 or self.ESCAPES.match(text, cut)
-        text, self.rest = (text, b"") if is_whole else (text[:cut], text[cut:])
-        begin, is_erased = 0, False
-        lowest: list[tuple[int, bytes]] = []
-        for mark in self.MARKS.finditer(text):
-            lowest += self._lowest(text[begin : mark.start()])
-            begin = mark.end()
-            if self._moves(mark):
-                lowest.clear()
-            is_erased = is_erased or mark[1] is None
-        for col, part in lowest + self._lowest(text[begin:]):
-            self._reach(col, part)
-        return is_erased
-
-    def _moves(self, mark: re.Match[bytes]) -> bool:
-        """Goes on with a place of the cursor, or with nothing where all is erased; tells whether no row is as low as this one."""
-        if mark[1] is None:
-            self.row, self.size = 0, (0, 0)
-            return True
-        self.row, self.col = int(mark[1]), int(mark[2] or 1)
-        # What tells of a silent server is written to the last row of any terminal.
-        if not self.size[0] < self.row <= MOST[0]:
-            return False
-        self.size = (self.row, 0)
-        return True
-
-    def _lowest(self, part: bytes) -> list[tuple[int, bytes]]:
-        """What is written to the lowest row, with the column where that begins."""
-        return [(self.col, part)] if part and self.row and self.row == self.size[0] else []
-
-    def _reach(self, col: int, part: bytes) -> None:
-        """Goes on with what is written to the lowest row; behind other characters than ASCII the column isn't known."""
-        letters = self.ESCAPES.sub(b"", part)
-        self.col = col + len(letters) if letters.isascii() else -sum(MOST)
-        self.size = (self.size[0], max(self.size[1], self.col - 1))
-
-    def fits(self, size: Size) -> bool:
-        """Whether what was painted fits into a terminal of this size."""
-        return self.size[0] <= size[0] and self.size[1] <= size[1]

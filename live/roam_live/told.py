@@ -1,6 +1,8 @@
 """What a client start tells over the stream of a terminal that asked for it by the line `told`: records, a line each, and for some so many
 bytes behind it (docs/PROTOCOL.md, "What a front end is told")."""
-import dataclasses
+from __future__ import annotations
+
+from collections import namedtuple
 
 # What came before this was painted, and isn't known to the terminal any more.
 BEGIN = b"\ntold\n"
@@ -18,14 +20,13 @@ class NoRecord(Exception):
     """What came is no record: whoever is at the other end isn't a start of this version."""
 
 
-@dataclasses.dataclass(frozen=True)
-class Telling:
+class Telling(namedtuple("Telling", "word numbers data words", defaults=((), b"", ""))):
     """A record: its word, its numbers, and the bytes behind it or the words in its line."""
 
     word: str
-    numbers: tuple[int, ...] = ()
-    data: bytes = b""
-    words: str = ""
+    numbers: tuple[int, ...]
+    data: bytes
+    words: str
 
 
 def number_of(text: str) -> int:
@@ -96,7 +97,7 @@ class Records:
         self.waiting = None
         data = bytes(self.kept[:count])
         del self.kept[:count]
-        return dataclasses.replace(record, data=data)
+        return record._replace(data=data)
 
     def _line(self) -> Telling | None:
         """The record of the line that stands first, where one does whole."""
@@ -110,8 +111,7 @@ class Records:
         return line_of(line)
 
 
-@dataclasses.dataclass(frozen=True)
-class Screen:
+class Screen(namedtuple("Screen", "rows cols cursor visible cells")):
     """A screen as it is told, cell by cell: a right half of a wide character is empty."""
 
     rows: int

@@ -8,11 +8,12 @@ import resource
 import shutil
 import signal
 import subprocess
+import sys
 import time
 
 from tried import Outer, PROGRAM, check, children, comes, listed, noted, own_terminal, said, scene, tool
 from roam_live import terminal
-from roam_live.program import TOOLS
+from roam_live.program import TOOLS, begun
 
 LISTED = 50
 
@@ -215,6 +216,54 @@ def earlier(folder):
     check("so does mux", outer.shows("was begun by an earlier roam") and outer.ends(), outer.rows)
     os.kill(state["terminals"][0], signal.SIGTERM)
     check("mux kill ends it", said("kill", "other") == (0, "", "") and "other" not in listed(), listed())
+
+
+# A client start as one of an earlier roam is: it knows no records, and says so to whoever asks for them. It says when it listens.
+EARLIER_START = """\
+import contextlib, os, socket, sys
+listener = socket.socket(socket.AF_UNIX)
+listener.bind(sys.argv[1] + ".new")
+listener.listen()
+os.replace(sys.argv[1] + ".new", sys.argv[1])
+while True:
+    with listener.accept()[0] as peer, contextlib.suppress(OSError):
+        peer.send(b"\\x1bc\\x1b[2J\\x1b[1;1Hraw")
+        if peer.recv(100):
+            peer.send(b"\\r\\nroam: line 1: bad act\\r\\n")
+"""
+
+
+@scene
+def earlier_start(folder):
+    """In place of a client start of an earlier roam another is launched, once, by whatever needs one; the earlier one goes on."""
+    subprocess.run(tool("mux", "new", "-d", "other"), check=True)
+    served = pathlib.Path(os.environ["XDG_RUNTIME_DIR"], "roam", "other")
+
+    def comes_earlier():
+        """An earlier start at the session's socket, as it is noted."""
+        os.kill(noted("other")["terminals"][0], signal.SIGKILL)
+        process = subprocess.Popen([sys.executable, "-c", EARLIER_START, str(served / "terminals")])
+        comes(lambda: processes_of(str(served / "terminals")) and not (served / "terminals.new").exists())
+        state = {**noted("other"), "terminals": [process.pid, begun(process.pid)]}
+        (served / "state.json").write_text(json.dumps(state), encoding="utf-8")
+        return process
+
+    for does in (["send", "other", "char 65"], ["capture", "other"]):
+        process = comes_earlier()
+        told = said(*does)
+        check(f"mux {does[0]} launches another", told[0] == 0 and noted("other")["terminals"][0] != process.pid, told)
+        check("once", said(*does)[0] == 0 and process.poll() is None, process.returncode)
+        process.kill()
+        process.wait()
+    process = comes_earlier()
+    outer = Outer(tool("mux", "other"))
+    check("so does a front end", outer.shows("$ e") and outer.status("[1]") and not outer.shows("raw", 0.1), outer.rows)
+    check("and the earlier one goes on", process.poll() is None and noted("other")["terminals"][0] != process.pid, noted("other"))
+    outer.type(b"\x15echo ty''ped\r")
+    check("keys come", outer.shows("typed"), outer.rows)
+    process.kill()
+    process.wait()
+    subprocess.run(tool("mux", "kill", "other"), check=True)
 
 
 @scene

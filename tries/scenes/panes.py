@@ -8,7 +8,7 @@ import subprocess
 import termios
 import time
 
-from tried import SESSION, Outer, check, comes, listed, noted, said, scene, three_panes, tool
+from tried import SESSION, Outer, check, comes, is_part, listed, noted, said, scene, three_panes, tool
 from roam_live import terminal
 from roam_live.commands import NEW
 from roam_live.front_end import SIZES
@@ -17,8 +17,8 @@ from roam_live.programs import busy_panes
 
 PASTED = 100_000
 
-# What a terminal is told that is smaller than the session.
-FITS = "C-b r fits this terminal, and cuts what is wider"
+# What a terminal is told that doesn't show all of the session.
+FITS = "C-b r fits"
 
 # A program that gives itself the name that it is handed in hexadecimal digits, and waits.
 NAMED = "import ctypes, sys, time; ctypes.CDLL(None).prctl(15, bytes.fromhex(sys.argv[1]), 0, 0, 0); time.sleep(100)"
@@ -46,9 +46,9 @@ def panes(folder):
     """Splits, focus by place, growth."""
     outer = started()
     outer.type(b"\x02%")
-    check("C-b % splits to the right", outer.status(" 1 [2]") and outer.rows()[5][39] == "\u2502", outer.rows)
+    check("C-b % splits to the right", outer.status(" 1 [2]") and outer.stands(5, 39, "\u2502"), outer.rows)
     outer.type(b'\x02"')
-    check('C-b " splits down', outer.status(" 1  2 [3]") and "\u2500" * 40 in outer.rows()[11], outer.rows)
+    check('C-b " splits down', outer.status(" 1  2 [3]") and outer.stands(11, 40, "\u2500" * 40), outer.rows)
     outer.type(b"stty size\r")
     check("the new shell has its pane's size", outer.shows("11 40"), outer.rows)
     for way, label in (("D", "[1] 2  3 "), ("C", " 1 [2] 3 "), ("B", " 1  2 [3]"), ("A", " 1 [2] 3 ")):
@@ -120,25 +120,25 @@ def keeper(folder):
 
 @scene
 def sizes(folder):
-    """A new size of the terminal reaches the programs; a small one shows a line."""
+    """A new size of a lone terminal reaches the programs; a very small one shows a line."""
     outer = three_panes()
     # A session that was just begun goes by its terminal's size, whatever that is.
     time.sleep(NEW + 0.5)
     outer.resize(40, 120)
-    check("a larger terminal is filled", outer.status("[1] 2  3") and outer.rows()[3][59] == "\u2502", outer.rows)
+    check("a larger terminal is filled", outer.status("[1] 2  3") and outer.stands(3, 59, "\u2502"), outer.rows)
     outer.type(b"\x021clear; stty size\r")
     check("the programs are told", outer.shows("39 59"), outer.rows)
-    outer.resize(3, 30)
-    check("a small one shows a line", comes(lambda: outer.rows()[0].startswith("too small: 3 by 30 of 4 by 8")), outer.rows)
+    outer.resize(2, 30)
+    check("a very small one shows a line", comes(lambda: outer.rows()[0].startswith("too small: 2 by 30 of 3 by 4")), outer.rows)
+    outer.type(b"echo un''seen\r")
     outer.resize(40, 120)
-    check("then all is as it was", outer.status("[1] 2  3") and outer.rows()[3][59] == "\u2502", outer.rows)
-    outer.resize(24, 80)
-    check("one that is drawn smaller is told the key", outer.shows(FITS) and listed()[1:4] == ["40", "by", "120"], outer.rows)
-    outer.type(b"echo un''seen\r\x02r")
-    check("which fits the session to it", outer.status("[1] 2  3") and outer.rows()[5][39] == "\u2502", outer.rows)
+    check("then all is as it was", outer.status("[1] 2  3") and outer.stands(3, 59, "\u2502"), outer.rows)
     check("and what was typed before that wasn't typed", not outer.shows("seen", 0.5), outer.rows)
+    outer.resize(24, 80)
+    is_followed = comes(lambda: listed()[1:4] == ["24", "by", "80"]) and outer.stands(5, 39, "\u2502")
+    check("a lone one that showed all is followed to a smaller size", is_followed and outer.status("[1] 2  3"), outer.rows)
     drawn_smaller(outer)
-    check("of many sizes the last is had", outer.status("[1] 2  3", 5) and outer.rows()[5][39] == "\u2502", outer.rows)
+    check("of many sizes the last is had", outer.status("[1] 2  3", 5) and outer.stands(5, 39, "\u2502", 5), outer.rows)
     check("and none before it", listed()[1:4] == ["24", "by", "80"], listed)
     outer.process.send_signal(signal.SIGSTOP)
     termios.tcsetattr(outer.slave, termios.TCSANOW, outer.modes)
@@ -289,7 +289,7 @@ def ends(folder):
 
 @scene
 def told(folder):
-    """What a person asks for that can't be had is told for a second, in the status row's place."""
+    """What a person asks for that can't be had is told for a second, in the last row."""
     outer = Outer(tool("mux", "other"))
     outer.shows("$ ")
     means = "means nothing; C-b ? shows the keys"
@@ -299,10 +299,8 @@ def told(folder):
         check(f"{keys!r} is told of", outer.status(text), outer.rows)
         check("and the status comes back", outer.status("[1]", 5), outer.rows)
     outer.resize(5, 80)
-    outer.shows(FITS)
-    outer.type(b"\x02r")
-    outer.shows("$ ")
     comes(lambda: listed()[1:4] == ["5", "by", "80"])
+    outer.shows("$ ")
     outer.type(b'\x02"')
     check("a split that is too small is told of", outer.status("pane 1 is too small to be split: 4 by 80"), outer.rows)
     outer.resize(24, 80)
@@ -310,7 +308,7 @@ def told(folder):
     outer.type(b"seq 100\r\x02[\x1b[5~")
     check("the status of the scroll mode tells how far back", outer.status("12 rows back: "), outer.rows)
     outer.type(b"\x02%")
-    check("a command ends it first", outer.status(" 1 [2]") and outer.rows()[21].startswith("100"), outer.rows)
+    check("a command ends it first", outer.status(" 1 [2]") and outer.stands(21, 0, "100"), outer.rows)
     outer.type(b"\x021sleep 1; printf '\\033]0;title\\007'; sleep 1; printf '\\a'\r\x022")
     outer.status(" 1 [2]")
     before = len(outer.written)
@@ -368,7 +366,7 @@ def names(folder):
 
 @scene
 def smaller(folder):
-    """A terminal that comes makes no session smaller, and covers nobody's."""
+    """A terminal that comes makes no session smaller, and changes nobody's."""
     outer = Outer(tool("mux", "other"), size=(24, 100))
     outer.shows("$ ")
     check("a session that is launched has its terminal's size", comes(lambda: listed()[1:4] == ["24", "by", "100"]), listed)
@@ -376,23 +374,26 @@ def smaller(folder):
     outer.shows("right-9")
     before = outer.rows()
     small = Outer(tool("mux", "attach", "other"), size=(12, 40))
-    wanted = ["too small: 12 by 40 of 24 by 100", "C-b r fits this terminal, and cuts what", "is wider", "C-b d leaves"]
-    check("a smaller one is told the key", comes(lambda: [row.rstrip() for row in small.rows()[:4]] == wanted), small.rows)
-    small.type(b"echo un''seen\r\x1b[200~echo pas''ted\r\x1b[201~")
-    check("what is typed there comes nowhere", not outer.shows("unseen", 0.5) and not outer.shows("pasted", 0.2), outer.rows)
-    small.type(b"\x02d")
-    check("it leaves", small.ends() and small.is_restored() and small.shows("[detached]"), small.rows)
+    check("a smaller one shows the part with the cursor, and is told the key", small.status("[1]".ljust(30) + FITS) and small.shows("$ "),
+          small.rows)
+    check("which is a part of what the other shows", comes(lambda: is_part(small, outer)), (small.rows(), outer.rows()))
     check("and nothing is cut", listed()[1:4] == ["24", "by", "100"] and outer.rows() == before, outer.rows)
+    small.type(b"echo se''en")
+    check("what is typed there is shown at both", small.shows("se''en") and outer.shows("se''en"), outer.rows)
+    small.type(b"\x15\x02d")
+    check("it leaves", small.ends() and small.is_restored() and small.shows("[detached]"), small.rows)
+    check("and nothing is cut", listed()[1:4] == ["24", "by", "100"] and comes(lambda: outer.rows() == before), outer.rows)
     large = Outer(tool("mux", "attach", "other"), size=(40, 120))
-    is_told = comes(lambda: large.rows()[23].startswith("24 by 100, as another terminal has it; C-b r fits this one"))
+    is_told = comes(lambda: large.rows()[39].startswith("24 by 100, as another terminal has it; C-b r fits this one"))
     check("a larger one beside it shows the session as it is, and is told the key", is_told and large.shows("right-9"), large.rows)
     check("which disturbs nobody", outer.rows() == before, outer.rows)
     large.type(b"\x02r")
     check("C-b r has the session be as large", large.status("[1]") and comes(lambda: listed()[1:4] == ["40", "by", "120"]), large.rows)
-    check("and the other is covered", outer.shows("too small: 24 by 100 of 40 by 120") and outer.shows(FITS), outer.rows)
+    check("and the other shows a part of it", outer.status("[1]".ljust(90) + FITS) and comes(lambda: is_part(outer, large)), outer.rows)
     large.type(b"\x02d")
     outer.type(b"\x02r")
-    check("until the key is typed there", large.ends() and outer.shows("right-9") and outer.status("[1]"), outer.rows)
+    is_fitted = large.ends() and comes(lambda: listed()[1:4] == ["24", "by", "100"])
+    check("until the key is typed there", is_fitted and outer.shows("right-9") and outer.status("[1]".ljust(100)), outer.rows)
     outer.type(b"\x02?")
     is_narrow = outer.shows("these keys, until the next key") and not any(row[80:].strip() for row in outer.rows())
     check("the keys fit 80 columns", is_narrow, outer.rows)
@@ -407,7 +408,7 @@ def full(folder):
     links = [StartLink(os.path.join(os.environ["XDG_RUNTIME_DIR"], "roam", "other", "terminals"), False) for _ in range(15)]
     for link in links:
         link.connect()
-    check("fifteen more are taken", all(link.comes(5) for link in links), listed())
+    check("fifteen more are taken", all(link.begins(5) for link in links), listed())
     late = Outer(tool("mux", "other"))
     full = "no more terminals are taken: 16 are there"
     check("a seventeenth is told so", late.shows(f"{full}; tried anew in 1 s; C-c or q leaves"), late.rows)

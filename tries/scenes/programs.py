@@ -5,7 +5,8 @@ import subprocess
 
 from tried import SESSION, check, comes, scene, three_panes
 from roam_live import terminal
-from roam_live.cells import Style, cells_of_rows
+from painted import cells_of_rows
+from roam_live.cells import Style
 from roam_live.program import TOOLS
 
 # What keeps htop and mc from showing what differs from one run to the next.

@@ -147,6 +147,13 @@ class Case(unittest.TestCase):
         self.patch_of(sys, "argv", [*words])
 
 
+def record(word: str, *numbers: int, data: "bytes | None" = None, words: str = "") -> bytes:
+    """A record as a client start writes it: with bytes behind it their number is told."""
+    counts = [*numbers, *([len(data)] if data is not None else [])]
+    line = " ".join([word, *map(str, counts), *([words] if words else [])])
+    return f"{line}\n".encode() + (data or b"")
+
+
 def closed(end: int) -> None:
     """Closes a descriptor, which may be closed already."""
     with contextlib.suppress(OSError):

@@ -1,22 +1,25 @@
-"""What a person's terminal shows: the session, or lines in its place; and what is typed meanwhile."""
+"""What a person's terminal shows: a part of the session, or lines in its place, and a line of its own; and what is typed meanwhile."""
 import os
 import pathlib
 import pty
+import signal
 import tempfile
 import unittest
 from unittest import mock
 
-from roam_live import display, front_end, terminal
+from aids import Case
+from emulated import Emulated
+from roam_live import display, terminal
 from roam_live.bindings import HELP, help_with
-from roam_live.cells import PaintedCells
 from roam_live.choices import PREFIXES
 from roam_live.commands import Commands
 from roam_live.display import Display, wrapped
 from roam_live.loops import Loop
 from roam_live.program import noted_front_end
 from roam_live.places import Places, Rect
+from roam_live.told import Telling
 
-FITS = "C-b r fits this terminal, and cuts what is wider"
+FITS = "C-b r fits"
 
 
 class OuterTerminal:
@@ -25,37 +28,29 @@ class OuterTerminal:
     def __init__(self, rows, cols):
         self.rows, self.cols = rows, cols
         self.waiting = bytearray()
+        self.is_application = False
 
     def size(self):
         """Its rows and columns."""
         return self.rows, self.cols
 
     def shown(self):
-        """The rows that it shows, by what was written since all was erased."""
-        text = bytes(self.waiting)
-        cells = PaintedCells()
-        begin = text.rfind(b"\x1b[2J\x1b[H")
-        lines = text[begin:].decode() if begin >= 0 else ""
-        row, col = 1, 1
-        for letter in terminal.PaintedSize.ESCAPES.sub(b"", lines.encode()).decode():
-            if letter == "\n":
-                row += 1
-            elif letter == "\r":
-                col = 1
-            else:
-                cells.cells[row, col] = (letter, None)
-                col += 1
-        last = max((place[0] for place in cells.cells), default=0)
-        width = max((place[1] for place in cells.cells), default=0)
-        return ["".join(cells.cells.get((row, col), " ")[0] for col in range(1, width + 1)).rstrip() for row in range(1, last + 1)]
+        """The rows that it shows, without spaces at their ends."""
+        emulated = Emulated(self.rows, self.cols)
+        emulated.fed(bytes(self.waiting))
+        return [line.rstrip() for line in emulated.lines()]
 
 
 class StartLink:
     """What is said and typed."""
 
     def __init__(self, watches=False):
-        self.watches = watches
+        self.watches, self.has_taken = watches, True
         self.acts, self.lines = [], []
+
+    def is_done(self):
+        """Whether the session has taken all."""
+        return self.has_taken
 
     def type(self, *acts, is_pasted=False):
         """Keeps acts."""
@@ -69,8 +64,10 @@ class StartLink:
 class AnySession:
     """A session's folder, and where its panes are."""
 
+    served = "server"
+
     def __init__(self, folder=None):
-        self.folder = folder
+        self.folder = folder or "/nowhere"
         self.told = None
 
     def busy(self):
@@ -95,30 +92,34 @@ class PlayedPanes:
         """Whether that may be told soon."""
         return self.awaited and self.places is None
 
+    def is_untold(self):
+        """Whether nothing tells it."""
+        return self.places is None and not self.awaited
+
     def is_full(self):
         """Whether the server hears no other start."""
         return self.full
 
 
 def painting(rows, cols, text="x"):
-    """A painting of a session of a size, from a reset on."""
-    body = "".join(f"\x1b[{row};1H{text}" for row in range(1, rows))
-    return f"\x1bc\x1b[?25l\x1b[2J{body}\x1b[{rows};1H\x1b[0;7m{'[1]'.ljust(cols)}\x1b[0m\x1b[1;1H\x1b[?25h".encode()
+    """A painting of so many rows and columns, from a reset on: a text in each row."""
+    return b"\x1bc\x1b[?25l\x1b[2J" + b"".join(f"\x1b[{row};1H{text[:cols]}".encode() for row in range(1, rows + 1)) + b"\x1b[1;1H\x1b[?25h"
 
 
 class Person:
-    """A person at a terminal, without the processes."""
+    """A person at a terminal, without the processes. The session shows a text, by the size that it has, where the front end asks for it."""
 
-    def __init__(self, rows, cols, watches=False, is_new=False, told=None, folder=None):
+    def __init__(self, rows, cols, watches=False, is_new=False, told=None, folder=None, is_whole=False):
         self.loop, self.link, self.place = Loop(), StartLink(watches), AnySession(folder)
         self.place.told = told
-        self.left = None
+        self.left, self.heard = None, 0
         with mock.patch.object(display, "OuterTerminal", lambda: OuterTerminal(rows, cols)):
-            self.display = Display(self.loop, lambda: self.link.say("repaint"))
+            self.display = Display(self.loop, self.link.say)
         self.panes = PlayedPanes(self.place)
-        self.commands = Commands(self.place, self.panes, self.link, self.display, self.loop, self.leave, lambda places: is_new)
+        self.commands = Commands(self.place, self.panes, self.link, self.display, self.loop, self.leave, lambda places: is_new, is_whole)
         self.commands.choose("C-b")
         self.display.begin()
+        self.commands.show_known()
         self.commands.fit_first()
 
     def leave(self, line):
@@ -135,16 +136,45 @@ class Person:
         """The sizes that the session was given."""
         return [act for act in self.link.acts if act.startswith("size")]
 
+    def said(self):
+        """The lines about what is shown here that weren't looked at yet."""
+        lines = self.link.lines[self.heard :]
+        self.heard = len(self.link.lines)
+        return lines
+
+    def paints(self, rows, cols, text="x", word="anew"):
+        """Has so many rows and columns be painted."""
+        data = painting(rows, cols, text)
+        self.display.take(Telling("size", (rows, cols)))
+        self.display.take(Telling(word, (len(data),), data))
+
+    def answers(self, text="x"):
+        """Has the session paint what the front end asked for since it was looked at last."""
+        for line in self.said():
+            word, *numbers = line.split()
+            size = self.display.painted_size if word == "repaint" else tuple(map(int, numbers[-2:]))
+            self.paints(*(size if word != "whole" else self.session()), text)
+
+    def session(self):
+        """The session's size."""
+        return self.place.told.size() if self.place.told else (24, 80)
+
+    def tell(self, told):
+        """Has it be told where the panes are."""
+        self.place.told = told
+        self.commands.told()
+
     def resize(self, rows, cols):
         """Gives the terminal another size, which stands."""
+        self.commands.resized()
         self.display.outer.rows, self.display.outer.cols = rows, cols
         self.display.resized()
+        self.display.choose(is_painted=True)
         self.commands.fit()
 
-    def passes(self):
-        """Lets the time pass in which the session may get another size."""
-        self.display.settled_at = 0.0
-        self.display.tell_small()
+    def shown(self):
+        """The rows that the terminal shows."""
+        return self.display.outer.shown()
 
 
 def places(rows, cols):
@@ -160,33 +190,30 @@ class Sizes(unittest.TestCase):
             self.assertEqual(Person(*size, is_new=True).sizes(), ["size {} {}".format(*size)])
 
     def test_new_for_a_moment(self):
-        """A window that gets its size once it is there has the session go by it; later it is covered."""
-        person = Person(24, 80, is_new=True)
-        person.display.painted(painting(24, 80))
+        """A window that gets its size once it is there has the session go by it; what isn't told yet isn't asked for."""
+        person = Person(24, 80, is_new=True, told=places(24, 80))
+        self.assertEqual(person.said(), ["part 23 80"])
         person.resize(15, 120)
         self.assertEqual(person.sizes(), ["size 24 80", "size 15 120"])
-        person.display.painted(painting(15, 120))
-        person.commands.new_until = 0.0
-        person.resize(15, 100)
-        person.passes()
-        self.assertEqual(person.sizes()[2:], [])
-        self.assertTrue(person.display.cover.startswith("too small: 15 by 100 of 15 by 120"))
+        person.said()
+        person.tell(places(15, 120))
+        self.assertEqual(person.said(), [])
+        person.paints(14, 120)
+        self.assertEqual(person.shown(), ["x"] * 14 + ["[1]"])
 
     def test_awaited(self):
-        """While it may be told soon where panes are a session isn't fitted by what was painted so far, which may be a part."""
+        """While it may be told soon where panes are a session isn't fitted by what was painted so far, which may be another size."""
         with mock.patch.object(PlayedPanes, "awaited", True):
             person = Person(30, 100)
-            person.display.painted(painting(10, 40))
+            person.paints(10, 40)
             person.commands.fit_first()
             self.assertEqual((person.sizes(), person.commands.is_fitted, "fit" in person.loop.due), ([], False, True))
-            person.place.told = places(40, 80)
-            person.commands.told()
+            person.tell(places(40, 80))
             self.assertEqual((person.sizes(), person.commands.is_fitted), ([], True))
         with mock.patch.object(PlayedPanes, "awaited", True):
             person = Person(30, 100)
-            person.display.painted(painting(10, 40))
-            person.place.told = places(24, 80)
-            person.commands.told()
+            person.paints(10, 40)
+            person.tell(places(24, 80))
             self.assertEqual(person.sizes(), ["size 30 100"])
         self.assertEqual(Person(30, 100, told=places(24, 80)).sizes(), ["size 30 100"])
 
@@ -199,41 +226,49 @@ class Sizes(unittest.TestCase):
         self.assertEqual(Person(24, 80, told=places(24, 80)).sizes(), [])
 
     def test_unknown_at_first(self):
+        """Where nothing tells its panes its size is that of what is painted whole."""
         person = Person(50, 132)
         self.assertEqual((person.sizes(), person.commands.is_fitted), ([], False))
-        person.display.painted(painting(24, 80))
+        person.paints(24, 80)
         person.commands.fit_first()
         self.assertEqual((person.sizes(), person.commands.is_fitted), (["size 50 132"], True))
 
-    def test_smaller_is_covered(self):
-        for told in (places(24, 100), None):
-            person = Person(12, 40, told=told)
-            person.display.painted(painting(24, 100, "secret"))
-            person.commands.fit_first()
-            self.assertEqual(person.sizes(), [])
-            shown = person.display.outer.shown()
-            self.assertEqual(shown[0], "too small: 12 by 40 of 24 by 100")
-            self.assertEqual(" ".join(shown[1:3]), FITS)
-            self.assertEqual(shown[3:], ["C-b d leaves"])
-            self.assertNotIn(b"secret", person.display.outer.waiting[person.display.outer.waiting.rfind(b"\x1b[2J") :])
+    def test_smaller_shows_a_part(self):
+        """A smaller terminal shows the part with the cursor, and is told the key; the session's size stays."""
+        person = Person(12, 40, told=places(24, 100))
+        self.assertEqual((person.said(), person.sizes()), (["part 11 40"], []))
+        person.paints(11, 40, "part")
+        self.assertEqual(person.shown(), ["part"] * 11 + ["[1]" + " " * 27 + FITS])
+        self.assertEqual(person.types(b"ls"), ["char 6c", "char 73"])
+
+    def test_smaller_unknown(self):
+        """So does one where nothing tells the panes, once the whole was painted, which has no room and isn't shown."""
+        person = Person(12, 40)
+        self.assertEqual(person.said(), [])
+        person.paints(24, 100, "secret")
+        self.assertEqual(person.said(), ["part 11 40"])
+        person.commands.fit_first()
+        self.assertEqual(person.sizes(), [])
+        self.assertNotIn(b"secret", person.display.outer.waiting)
+        person.paints(11, 40, "part")
+        self.assertEqual(person.shown()[10:], ["part", " " * 30 + FITS])
 
     def test_wider_and_lower(self):
         """Neither side may be cut."""
-        for size in ((20, 200), (60, 70)):
+        for size, part in (((20, 200), "part 19 80"), ((60, 70), "part 23 70")):
             person = Person(*size, told=places(24, 80))
-            person.display.painted(painting(24, 80))
-            self.assertEqual(person.sizes(), [])
-            self.assertTrue(person.display.cover.startswith("too small"))
+            self.assertEqual((person.sizes(), person.said()), ([], [part]))
+            self.assertTrue(person.display.line().endswith(FITS))
 
     def test_key_fits(self):
         person = Person(12, 40, told=places(24, 100))
-        person.display.painted(painting(24, 100))
+        person.answers()
         self.assertEqual(person.types(b"\x02r"), ["size 12 40"])
-        person.display.painted(painting(12, 40))
-        self.assertEqual(person.display.cover, "")
-        self.assertEqual(person.link.lines, ["repaint"])
-        person.display.painted(painting(12, 40, "here"))
-        self.assertIn(b"here", person.display.outer.waiting)
+        self.assertEqual(person.display.line().rstrip(), "[1]")
+        self.assertEqual(person.said(), ["repaint"])
+        person.tell(places(12, 40))
+        person.paints(11, 40, "here")
+        self.assertEqual(person.shown(), ["here"] * 11 + ["[1]"])
 
     def test_beside_another(self):
         """A larger terminal leaves the size to another that is there, and is told the key."""
@@ -247,9 +282,13 @@ class Sizes(unittest.TestCase):
                 while not note.exists():
                     pass
                 person = Person(50, 132, told=places(24, 80), folder=folder)
-                self.assertEqual(person.sizes(), [])
+                self.assertEqual((person.sizes(), person.said()), ([], ["part 23 80"]))
                 self.assertEqual(person.display.told, "24 by 80, as another terminal has it; C-b r fits this one")
                 self.assertEqual(person.types(b"\x02r"), ["size 50 132"])
+                # No resize of one that isn't alone makes the session smaller.
+                other_one = Person(24, 80, told=places(24, 80), folder=folder)
+                other_one.resize(20, 70)
+                self.assertEqual((other_one.sizes(), other_one.display.line().endswith(FITS)), ([], True))
                 note.write_text(note.read_text(encoding="utf-8").replace("edits", "watches"), encoding="utf-8")
                 self.assertEqual(Person(50, 132, told=places(24, 80), folder=folder).sizes(), ["size 50 132"])
             finally:
@@ -257,72 +296,227 @@ class Sizes(unittest.TestCase):
                 os.waitpid(other, 0)
 
     def test_resized(self):
+        """A lone terminal that showed all of it is followed to a smaller size, and back; one that showed a part isn't."""
         person = Person(24, 80, told=places(24, 80))
-        person.display.painted(painting(24, 80))
+        person.answers()
         person.resize(20, 70)
-        self.assertEqual((person.sizes(), person.display.cover.split("\n")[0]), ([], "too small: 20 by 70 of 24 by 80"))
-        person.resize(24, 80)
-        self.assertEqual((person.sizes(), person.display.cover, person.link.lines), ([], "", ["repaint"]))
+        self.assertEqual((person.sizes(), person.said()), (["size 20 70"], ["part 19 70"]))
+        # One that comes before that is told is followed too.
+        person.resize(18, 60)
+        self.assertEqual((person.sizes()[1:], person.said()), (["size 18 60"], ["part 17 60"]))
+        person.tell(places(18, 60))
+        person.answers()
+        self.assertEqual(person.said(), [])
         person.resize(30, 90)
-        self.assertEqual(person.sizes(), ["size 30 90"])
+        self.assertEqual(person.sizes()[2:], ["size 30 90"])
+        # One of another machine isn't, and none without a folder: who is there isn't known.
+        for wrong in ({"served": "relay"}, {"folder": None}):
+            person = Person(24, 80, told=places(24, 80))
+            person.place.__dict__.update(wrong)
+            person.resize(20, 70)
+            self.assertEqual((person.sizes(), person.said()), ([], ["part 23 80", "part 19 70"]))
+        small = Person(12, 40, told=places(24, 80))
+        small.answers()
+        small.resize(10, 30)
+        self.assertEqual((small.sizes(), small.said()), ([], ["part 9 30"]))
+        small.resize(30, 90)
+        self.assertEqual(small.sizes(), ["size 30 90"])
+
+    def test_left_and_shown_small(self):
+        """A session of 24 by 100 that is left, shown by 12 by 40 alone and then by 24 by 100 keeps its size."""
+        for size in ((12, 40), (24, 100)):
+            self.assertEqual(Person(*size, told=places(24, 100)).sizes(), [])
 
     def test_less_than_any(self):
-        person = Person(3, 30, told=places(24, 80))
-        person.display.painted(painting(24, 80))
-        self.assertEqual(person.display.outer.shown(), ["too small: 3 by 30 of 4 by 8", "C-b d leaves"])
+        """A terminal on which no part has room is told so; one that has it shows a part, and gives the session no size that can't be."""
+        person = Person(2, 30, told=places(24, 80))
+        self.assertEqual((person.shown(), person.said()), (["too small: 2 by 30 of 3 by 4", "C-b d leaves"], []))
         self.assertEqual(person.types(b"\x02r"), [])
+        self.assertEqual(Person(24, 3, told=places(24, 80)).said(), [])
+        person = Person(3, 30, told=places(24, 80))
+        self.assertEqual((person.types(b"\x02r"), person.said()), ([], ["part 2 30", "repaint"]))
+        self.assertEqual(person.display.told, "a session has 4 rows and 8 columns at least")
+        person.resize(24, 80)
+        self.assertEqual((person.said(), person.sizes()), (["part 23 80"], []))
 
     def test_refused(self):
+        """A session that has no room for its panes in a size goes on with the one that it has, and that is told."""
         person = Person(5, 8, told=places(24, 80))
-        person.display.painted(painting(24, 80))
         person.types(b"\x02r")
-        person.display.refused()
-        self.assertIn("its panes have no room here", person.display.cover)
-        person.display.painted(painting(4, 8))
-        self.assertEqual(person.display.cover, "")
-        person.display.painted(painting(24, 80))
-        person.passes()
-        self.assertIn("cuts", person.display.cover)
+        self.assertEqual((person.sizes(), person.commands.given), (["size 5 8"], (5, 8)))
+        # A session that hasn't taken it yet may still have it.
+        person.link.has_taken = False
+        person.commands.refused()
+        self.assertEqual((person.display.told, person.commands.given, "given" in person.loop.due), ("", (5, 8), True))
+        person.link.has_taken = True
+        person.commands.refused()
+        self.assertEqual((person.display.told, person.commands.given), ("its panes have no room in 5 by 8", None))
+        person.display.end_told()
+        self.assertTrue(person.display.shows_all() is False)
 
     def test_given_and_had(self):
         """A size that was had isn't told as refused, when another makes the session larger later."""
-        person = Person(24, 100, is_new=True)
-        self.assertIn("refused", person.loop.due)
-        person.display.painted(painting(24, 100))
-        self.assertNotIn("refused", person.loop.due)
-        person.passes()
-        person.display.painted(painting(40, 120))
-        self.assertEqual(person.display.cover, f"too small: 24 by 100 of 40 by 120\n{FITS}\nC-b d leaves")
+        person = Person(24, 100, is_new=True, told=places(24, 80))
+        self.assertIn("given", person.loop.due)
+        person.tell(places(24, 100))
+        self.assertNotIn("given", person.loop.due)
+        person.answers()
+        person.tell(places(40, 120))
+        self.assertEqual((person.display.told, person.display.line()), ("", "[1]" + " " * 87 + FITS))
 
     def test_watcher(self):
         person = Person(12, 40, watches=True, told=places(24, 100))
-        person.display.painted(painting(24, 100))
-        self.assertEqual(person.display.cover, "too small: 12 by 40 of 24 by 100\nC-b d leaves")
+        self.assertEqual((person.said(), person.display.line().rstrip()), (["part 11 40"], "[1]"))
         person.types(b"\x02r")
         self.assertEqual(person.link.acts, [])
+        person.resize(30, 120)
+        self.assertEqual((person.link.acts, person.said()), ([], ["repaint", "part 23 100"]))
 
     def test_given_size_comes(self):
-        """What is larger for a moment isn't shown, and isn't told either, while a size that was given is on its way."""
-        person = Person(20, 60, is_new=True)
-        person.display.painted(painting(24, 80, "early"))
+        """What is larger for a moment isn't shown, while a size that was given is on its way."""
+        person = Person(20, 60, is_new=True, told=places(24, 80))
+        person.paints(24, 80, "early")
         self.assertEqual(person.display.cover, "")
         self.assertNotIn(b"early", person.display.outer.waiting)
         self.assertEqual(person.types(b"ls"), ["char 6c", "char 73"])
-        person.display.painted(painting(20, 60))
-        person.display.painted(painting(20, 60, "now"))
-        self.assertIn(b"now", person.display.outer.waiting)
-        late = Person(20, 60, is_new=True)
-        late.display.painted(painting(24, 80))
-        late.passes()
-        self.assertTrue(late.display.cover.startswith("too small"))
+        person.tell(places(20, 60))
+        person.paints(19, 60, "now")
+        self.assertEqual(person.shown(), ["now"] * 19 + ["[1]"])
 
 
 def signal_pause():
     """Waits for the end."""
-    import signal
-
     while True:
         signal.pause()
+
+
+class Parts(unittest.TestCase):
+    """Which part of a session is asked for, and when it is asked for anew."""
+
+    def test_grown(self):
+        """A session that another made larger is shown in part from then on, and its beginning stays where it has room."""
+        person = Person(24, 80, told=places(24, 80))
+        person.answers()
+        person.tell(places(24, 100))
+        self.assertEqual((person.said(), person.display.shows_all()), ([], False))
+        self.assertEqual(person.shown()[23], "[1]" + " " * 67 + FITS)
+
+    def test_shrunk(self):
+        """Of one that another made smaller, what is shown begins at the first row again, so that no row below its panes is shown."""
+        for place in ((12, 50), (12, 0), (0, 50), (1, 0), (0, 1)):
+            for size in ((14, 60), (14, 100), (24, 60), (23, 100), (24, 99), (14, 120), (30, 60)):
+                person = Person(12, 40, told=places(24, 100))
+                person.answers()
+                person.display.take(Telling("part", place))
+                person.tell(places(*size))
+                self.assertEqual(person.said(), ["part 11 40"], (place, size))
+        person.display.take(Telling("part", (0, 0)))
+        person.tell(places(13, 50))
+        self.assertEqual(person.said(), [])
+        # One that is larger now, or has its size, goes on as it was.
+        for size in ((24, 100), (24, 101), (25, 100), (60, 200)):
+            person = Person(12, 40, told=places(24, 100))
+            person.answers()
+            person.display.take(Telling("part", (12, 50)))
+            person.tell(places(*size))
+            self.assertEqual(person.said(), [], size)
+        # A start that is connected to anew knows nothing of where it began.
+        person.display.begin()
+        person.commands.show_known()
+        self.assertEqual((person.said(), person.display.place, person.display.silent), (["part 11 40"], (0, 0), 0))
+
+    def test_larger_terminal(self):
+        """One that has more room than the session has no more of it than its panes, and blanks beside these."""
+        person = Person(50, 200, watches=True, told=places(24, 80))
+        self.assertEqual(person.said(), ["part 23 80"])
+        person.paints(23, 80, "here")
+        self.assertEqual(person.shown(), ["here"] * 23 + [""] * 26 + ["[1]"])
+
+    def test_any_told(self):
+        """Whatever is told of a session's size, what is asked for is a part that can be."""
+        for told, part in ((Rect(0, 0, 0, 0), (2, 4)), (Rect(1, 1, 1, 1), (2, 4)), (Rect(9999, 9999, 9999, 9999), (199, 500)),
+                           (Rect(1, 1, 9999, 3), (199, 4)), (Rect(1, 1, 2, 9999), (2, 500))):
+            person = Person(300, 600, watches=True, told=Places({1: told}, 1, 1))
+            self.assertEqual(person.said(), ["part {} {}".format(*part)], told)
+
+    def test_whole(self):
+        """By hand the whole is shown, with its own status row, where there is room for it, and else a part; so is one that isn't told."""
+        for person in (Person(24, 80, True, told=places(24, 80), is_whole=True), Person(24, 80, True)):
+            self.assertEqual(person.said(), [])
+            person.paints(24, 80, "all")
+            self.assertEqual(person.shown(), ["all"] * 24)
+            person.resize(12, 40)
+            self.assertEqual(person.said(), ["part 11 40"])
+            person.paints(11, 40, "part")
+            self.assertEqual(person.shown()[:11], ["part"] * 11)
+            person.display.take(Telling("part", (3, 0)))
+            person.resize(24, 80)
+            self.assertEqual(person.said(), ["whole"])
+            person.paints(24, 80, "all")
+            self.assertEqual(person.shown(), ["all"] * 24)
+
+    def test_whole_of_a_parts_size(self):
+        """A session that has come to have the size of the part that was shown is known to have it, though that isn't told again."""
+        person = Person(12, 40, watches=True)
+        person.paints(24, 80)
+        self.assertEqual(person.said(), ["part 11 40"])
+        person.paints(11, 40)
+        person.resize(30, 100)
+        self.assertEqual(person.said(), ["whole"])
+        person.display.take(Telling("anew", (1,), painting(11, 40, "all")))
+        self.assertEqual((person.display.whole_size, person.shown()[:11]), ((11, 40), ["all"] * 11))
+
+    def test_told_later(self):
+        """Where it comes to be told where the panes are a part is shown from then on, and where it is told no more the whole."""
+        person = Person(24, 80)
+        person.paints(24, 80, "all")
+        person.tell(places(24, 80))
+        self.assertEqual(person.said(), ["part 23 80"])
+        person.paints(23, 80, "part")
+        self.assertEqual(person.shown(), ["part"] * 23 + ["[1]"])
+        with mock.patch.object(PlayedPanes, "awaited", True):
+            person.tell(None)
+            self.assertEqual((person.said(), person.display.line().rstrip()), ([], "[1]"))
+        person.tell(None)
+        self.assertEqual(person.said(), ["whole"])
+
+    def test_stale(self):
+        """What was painted before the part that was asked for is dropped, and so are changes until all is painted anew."""
+        person = Person(24, 80, told=places(24, 80))
+        person.paints(24, 80, "whole")
+        person.display.take(Telling("size", (23, 80)))
+        person.display.take(Telling("paint", (1,), b"change"))
+        self.assertEqual(person.shown()[:23], [""] * 23)
+        person.paints(23, 80, "anew")
+        person.display.take(Telling("paint", (1,), b"\x1b[2;1Hmore"))
+        self.assertEqual(person.shown(), ["anew", "more", *["anew"] * 21, "[1]"])
+
+    def test_size_within(self):
+        """A painting of another size that isn't anew may erase the last row, whose line is written behind it."""
+        person = Person(24, 80, told=places(24, 80))
+        person.answers()
+        person.display.take(Telling("size", (20, 60)))
+        person.display.take(Telling("paint", (1,), b"\x1b[2J"))
+        self.assertEqual(person.shown(), [""] * 23 + ["[1]"])
+
+    def test_drawn(self):
+        """While a terminal is drawn smaller by hand nothing is written that has no room, and a part is asked for once in 0.05 s."""
+        person = Person(24, 80, told=places(24, 80))
+        person.answers()
+        person.display.outer.cols = 90
+        person.display.resized()
+        person.display.take(Telling("paint", (1,), b"still"))
+        self.assertTrue(b"still" in person.display.outer.waiting and not person.display.is_stale)
+        person.loop.due.clear()
+        person.display.outer.cols = 80
+        for rows in range(23, 10, -1):
+            person.display.outer.rows = rows
+            person.display.resized()
+        before = len(person.display.outer.waiting)
+        person.display.take(Telling("paint", (1,), b"x"))
+        self.assertEqual((person.said(), len(person.display.outer.waiting), "paint" in person.loop.due), ([], before, True))
+        person.loop.due.pop("paint")[1]()
+        self.assertEqual(person.said(), ["part 10 80"])
 
 
 class UnderCover(unittest.TestCase):
@@ -330,8 +524,8 @@ class UnderCover(unittest.TestCase):
 
     def covered(self):
         """A person whose terminal is too small."""
-        person = Person(12, 40, told=places(24, 100))
-        person.display.painted(painting(24, 100))
+        person = Person(2, 40, told=places(24, 100))
+        self.assertTrue(person.display.cover.startswith("too small"))
         return person
 
     def test_nothing_is_typed(self):
@@ -350,22 +544,25 @@ class UnderCover(unittest.TestCase):
         self.assertTrue(person.display.cover.startswith("too small"))
 
     def test_help_stays(self):
-        """The help that is shown in place of a session that is too large stays while that gets another size."""
-        person = self.covered()
+        """The help stays while the session gets another size."""
+        person = Person(12, 40, told=places(24, 100))
         person.types(b"\x02?")
-        person.display.painted(painting(12, 40))
+        person.tell(places(12, 40))
+        person.answers("behind")
         self.assertEqual(person.display.cover, HELP)
+        self.assertNotIn(b"behind", person.display.outer.waiting)
         person.types(b"q")
-        person.display.painted(painting(12, 40, "here"))
+        self.assertEqual(person.said(), ["repaint"])
+        person.paints(11, 40, "here")
         self.assertEqual(person.display.cover, "")
-        self.assertIn(b"here", person.display.outer.waiting)
+        self.assertEqual(person.shown(), ["here"] * 11 + ["[1]"])
 
     def test_scrolled(self):
         """The scroll mode that was begun before is ended as ever."""
         person = Person(24, 80, told=places(24, 80))
-        person.display.painted(painting(24, 80))
+        person.answers()
         person.types(b"\x02[")
-        person.resize(20, 80)
+        person.resize(2, 80)
         self.assertEqual(person.types(b"k"), [])
         self.assertEqual(person.types(b"q"), ["view -500"])
 
@@ -374,12 +571,12 @@ class UnderCover(unittest.TestCase):
         person = self.covered()
         person.types(b"\x1b[200~pas")
         person.resize(24, 100)
-        person.display.painted(painting(24, 100))
-        self.assertEqual(person.types(b"\x1b[201~x"), ["char 78"])
+        person.answers()
+        self.assertEqual((person.display.cover, person.types(b"\x1b[201~x")), ("", ["char 78"]))
 
     def test_help(self):
         person = Person(24, 80, told=places(24, 80))
-        person.display.painted(painting(24, 80))
+        person.answers()
         person.types(b"\x02?")
         self.assertEqual(person.types(b"x"), [])
         self.assertEqual(person.display.cover, "")
@@ -416,7 +613,7 @@ class Words(unittest.TestCase):
 
     def test_printable(self):
         person = Person(24, 80)
-        person.display.painted(painting(24, 80))
+        person.paints(24, 80)
         before = len(person.display.outer.waiting)
         person.display.tell("close \x1b]0;pwned\x07\u202e\n in pane 1? y closes it", None)
         person.display.show("no \x1b[c\x9b6n\u2066 end\nnext")
@@ -429,7 +626,7 @@ class Words(unittest.TestCase):
     def test_wide_words(self):
         """A line of wide characters doesn't go on into another row."""
         person = Person(24, 80)
-        person.display.painted(painting(24, 80))
+        person.paints(24, 80)
         before = len(person.display.outer.waiting)
         person.display.tell("\u4e2d" * 200)
         written = bytes(person.display.outer.waiting[before:])
@@ -450,24 +647,74 @@ class Words(unittest.TestCase):
         self.assertTrue(written.endswith(b"[the relay has ended; ?[c/log tells why]\r\n"), written)
 
 
-class Silence(unittest.TestCase):
-    """The notice of a silent server."""
+class Lines(Case):
+    """The line in the last row."""
 
-    NOTICE = b"\x1b7\x1b[?7l\x1b[999;1H\x1b[0;7mroam: no answer for 10 s\x1b[0m\x1b[K\x1b[?7h\x1b8"
+    def setUp(self):
+        self.stop_clock()
 
-    def changed(self, text):
-        """The text with the key that leaves."""
-        return front_end.SILENCE.sub(rb"\1; %s d leaves\2" % b"C-b", text)
+    def test_labels(self):
+        """The panes in the layout's order, that in focus in brackets, and at the end which key fits, where not all is shown."""
+        two = Places({1: Rect(1, 1, 23, 50), 2: Rect(1, 52, 23, 49)}, 2, 1)
+        for size, line in (((24, 100), " 1 [2]".ljust(100)), ((24, 80), " 1 [2]".ljust(70) + FITS), ((24, 17), f" 1 [2] {FITS}"),
+                           ((24, 16), f"      {FITS}"), ((24, 10), FITS), ((24, 9), " 1 [2]   ")):
+            self.assertEqual(Person(*size, told=two).display.line(), line, size)
 
-    def test_notice(self):
-        self.assertEqual(self.changed(self.NOTICE), self.NOTICE.replace(b"10 s", b"10 s; C-b d leaves"))
+    def test_same(self):
+        """What stands there isn't written again."""
+        person = Person(24, 80, told=places(24, 80))
+        person.answers()
+        before = len(person.display.outer.waiting)
+        person.tell(places(24, 80)._replace(starts=2))
+        person.display.take(Telling("paint", (1,), b"x"))
+        self.assertEqual(len(person.display.outer.waiting), before + 1)
+
+    def test_silent(self):
+        """How long a server is silent is told there with the key that leaves, and when it is heard the panes are again."""
+        person = Person(24, 80, told=places(24, 80))
+        person.answers("here")
+        for seconds in (10, 11):
+            person.display.take(Telling("silent", (seconds,)))
+            self.assertEqual(person.shown(), ["here"] * 23 + [f"roam: no answer for {seconds} s; C-b d leaves"])
+        person.display.take(Telling("heard"))
+        self.assertEqual((person.shown(), person.said()), (["here"] * 23 + ["[1]"], []))
+
+    def test_silent_whole(self):
+        """Over a session's own status row it is written behind each painting, and all is painted anew then."""
+        person = Person(24, 80)
+        person.paints(24, 80, "here")
+        person.display.take(Telling("silent", (10,)))
+        person.display.take(Telling("paint", (1,), b"\x1b[24;1Hrow"))
+        self.assertEqual(person.shown()[22:], ["here", "roam: no answer for 10 s; C-b d leaves"])
+        person.display.take(Telling("heard"))
+        self.assertEqual(person.said(), ["repaint"])
+
+    def test_silent_and_told(self):
+        """What is told or asked stands there first, and a silence under a cover is told once that goes."""
+        person = Person(24, 80, told=places(24, 80))
+        person.answers()
+        person.display.tell("told", 1.0)
+        person.display.take(Telling("silent", (10,)))
+        self.assertEqual(person.shown()[23], "told")
+        person.display.end_told()
+        self.assertTrue(person.shown()[23].startswith("roam: no answer for 10 s"))
+        person.display.show("help")
+        person.display.take(Telling("silent", (12,)))
+        self.assertEqual(person.shown()[:1], ["help"])
+        person.display.uncover()
+        person.answers()
+        self.assertTrue(person.shown()[23].startswith("roam: no answer for 12 s"))
 
     def test_shown_by_a_pane(self):
-        """What a pane shows is never changed: a painting of the same words, in any style and at any place."""
+        """What a pane shows is never changed: a painting of the words of a silence, in any style and at any place."""
         for style in (b"0;7", b"0", b"0;1", b"7"):
             for row in (1, 24, 999):
-                text = b"\x1b[%d;1H\x1b[%smroam: no answer for 12 s\x1b[0mthe rest of the row|" % (row, style)
-                self.assertEqual(self.changed(text), text)
+                text = b"\x1b7\x1b[?7l\x1b[%d;1H\x1b[%smroam: no answer for 12 s\x1b[0mthe rest of the row|" % (row, style)
+                person = Person(24, 80, told=places(24, 80))
+                person.answers()
+                before = len(person.display.outer.waiting)
+                person.display.take(Telling("paint", (len(text),), text))
+                self.assertEqual(person.display.outer.waiting[before:], text)
 
 
 if __name__ == "__main__":

@@ -246,7 +246,30 @@ class FrontEnds(Played):
             self.loop.turns(2)
             self.server = self.taken()
         self.assertFalse(self.panes.is_awaited())
-        self.assertIsNotNone(self.told(b"1 1 1 23 80 1\nfocus 1\n"))
+        self.assertIsNone(self.told(b"1 1 1 23 80 1\nfocus 1\n"))
+        self.now += 1.0
+        self.loop.turns(2)
+        self.assertIsNotNone(self.panes.places)
+
+    def test_told_and_let_go(self):
+        """A server without a place tells all and lets go then: who met that goes by it once the connection has stood for a second."""
+        for number in range(5):
+            self.server.send(b"1 1 1 23 80 1\nfocus 1\n")
+            self.loop.turns(1)
+            self.assertEqual((self.panes.places is not None, self.panes.is_untold()), (number < 3, number >= 3))
+            self.server.close()
+            self.loop.turns(2)
+            self.assertEqual(self.words, [NO_PLACE] * (number >= 2))
+            self.wait_again()
+            self.loop.turns(2)
+            self.server = self.taken()
+        self.told(b"1 1 1 23 80 1\nfocus 1\n")
+        changes = self.changes
+        self.now += 1.0
+        self.loop.turns(2)
+        self.assertEqual((self.panes.places is not None, self.changes), (True, changes + 1))
+        self.assertIsNotNone(self.told(b"2 1 41 23 40 1\n"))
+        self.assertEqual(len(self.panes.places.rects), 2)
 
     def test_gone(self):
         """Where nobody tells the panes that is said once, as of an earlier roam; also where what is told can't be read."""

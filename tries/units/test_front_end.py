@@ -5,11 +5,12 @@ import signal
 import termios
 from unittest import mock
 
-from aids import Case, StillLoop, closed, read_now
+from aids import Case, StillLoop, closed, read_now, record
 from roam_live import display, front_end, terminal
 from roam_live.front_end import FrontEnd
 from roam_live.program import Fault, begun
 from roam_live.places import Places, Rect
+from roam_live.told import Telling
 from test_display import Person, PlayedPanes, painting, places
 
 PANES = Places({1: Rect(1, 1, 23, 39), 2: Rect(1, 41, 11, 40), 3: Rect(13, 41, 11, 40)}, 1, 1)
@@ -96,12 +97,18 @@ class Fronts(Case):
             self.front.turn()
 
     def connect(self):
-        """Takes the terminal and connects; the start's end."""
+        """Takes the terminal and connects; the start's end, which has begun to tell records."""
         self.front.display.outer.enter()
         self.front.connect()
         self.start = self.taken(self.listener)
         self.turn()
+        self.start.send(b"painted before\ntold\n")
         return self.start
+
+    def paints(self, rows=23, cols=80, text="x"):
+        """Has the start paint so many rows and columns anew."""
+        self.start.send(record("size", rows, cols) + record("anew", data=painting(rows, cols, text)))
+        self.turn()
 
     def type(self, text):
         """Types."""
@@ -117,15 +124,35 @@ class Loop(Fronts):
     """Its turns."""
 
     def test_connected(self):
-        """It says how guesses are shown, goes to the newest rows, and shows a painting from its reset on."""
+        """It asks for records, says how guesses are shown, asks for all but the last row, goes to the newest rows, and shows a painting
+        without its reset."""
         start = self.connect()
-        self.assertEqual(read_now(start), b"guess adaptive\nview -500\n")
-        start.send(b"junk" + painting(24, 80, "hello"))
-        self.turn()
+        self.assertEqual(read_now(start), b"told\nguess adaptive\npart 23 80\nview -500\n")
+        self.paints(text="hello")
         shown = self.shown()
         self.assertTrue(shown.startswith(terminal.ENTERED) and b"hello" in shown)
-        self.assertNotIn(b"junk", shown)
+        self.assertNotIn(b"painted before", shown)
         self.assertNotIn(b"\x1bc", shown)
+
+    def test_cut(self):
+        """Wherever the stream is cut the terminal is written the same."""
+        text = b"".join((record("size", 23, 80), record("anew", data=painting(23, 80, "\u00e9")), record("part", 0, 0), record("taken", 4),
+                         record("silent", 10), record("paint", data=b"\x1b[2;2Hz"), record("heard"), record("screen", data=b"1")))
+        shown = []
+        start = self.connect()
+        self.turn()
+        self.shown()
+        for cut in range(len(text) + 1):
+            self.front.display.begin()
+            self.front.commands.show_known()
+            self.turn()
+            self.shown()
+            for piece in (text[:cut], text[cut:]):
+                start.send(piece)
+                self.turn()
+            shown.append(self.shown())
+        self.assertEqual(set(shown), {shown[0]})
+        self.assertTrue(b"roam: no answer for 10 s; C-b d leaves" in shown[0] and b"\x1b[2;2Hz" in shown[0])
 
     def test_typed(self):
         """What is typed goes, and an escape that nothing follows in 25 ms."""
@@ -148,11 +175,52 @@ class Loop(Fronts):
         self.assertEqual(read_now(start), b"key up\n")
 
     def test_silence(self):
-        """To what tells of a silent server the key that leaves is added."""
+        """A silent server is told of in the last row, with the key that leaves, until it is heard."""
         start = self.connect()
-        start.send(painting(24, 80) + b"\x1b7\x1b[?7l\x1b[999;1H\x1b[0;7mroam: no answer for 10 s\x1b[0m\x1b[?7h\x1b8")
+        self.paints()
+        start.send(record("silent", 10))
         self.turn()
-        self.assertIn(b"roam: no answer for 10 s; C-b d leaves\x1b[0m", self.shown())
+        self.assertIn(b"roam: no answer for 10 s; C-b d leaves", self.shown())
+        start.send(record("heard"))
+        self.turn()
+        self.assertIn(b"\x1b[24;1H\x1b[0;7m[1]   ", self.shown())
+
+    def test_refused(self):
+        """What a start refuses is told once the pause before another connection is one; a full one is told as such."""
+        self.place.processes["terminals"] = 5
+        self.front.keeper.faults = 1
+        for text, told in ((record("refused", 3, words="bad act"), b"the client start refused a line: bad act"),
+                           (b"full\n", b"no more terminals are taken: 16 are there")):
+            start = self.connect()
+            start.send(text)
+            start.close()
+            self.turn()
+            self.assertIn(told + b"; tried anew in ", self.shown())
+
+    def test_no_record(self):
+        """What is no record ends the connection, as its end does."""
+        start = self.connect()
+        start.send(b"\x1b]0;title\x07\n")
+        self.turn()
+        self.assertIsNone(self.front.link.peer)
+        self.assertNotIn(b"title", self.shown())
+
+    def test_untold(self):
+        """Where it isn't told where the panes are, which a line says, all of the session is shown; so it is ten seconds later where nothing
+        says so."""
+        start = self.connect()
+        read_now(start)
+        self.place.told = None
+        self.front.untold("where panes are isn't told")
+        self.turn()
+        self.assertEqual((read_now(start), self.front.display.told), (b"whole\n", "where panes are isn't told"))
+        self.assertEqual(self.front.loop.due["untold"][0], 110.0)
+
+    def test_nobody_there(self):
+        """What is shown is asked of a start that is there, and of each anew."""
+        self.front.commands.show_known()
+        self.assertEqual(self.front.link.waiting, b"")
+        self.assertEqual(read_now(self.connect()), b"told\nguess adaptive\npart 23 80\nview -500\n")
 
     def test_left(self):
         """Who detaches is told so, and the terminal is as before."""
@@ -243,8 +311,7 @@ class Loop(Fronts):
     def test_lost(self):
         """A start that ends is connected to again after 0.1 s; in a longer pause that is told, and q leaves."""
         start = self.connect()
-        start.send(painting(24, 80))
-        self.turn()
+        self.paints()
         self.front.session.processes["terminals"] = None
         start.close()
         self.turn()
@@ -262,8 +329,7 @@ class Loop(Fronts):
         """Once it is there again what was lost is told, and all is painted anew."""
         self.place.processes["terminals"] = 5
         start = self.connect()
-        start.send(painting(24, 80))
-        self.turn()
+        self.paints()
         self.place.processes["terminals"] = 6
         start.close()
         self.turn()
@@ -273,8 +339,9 @@ class Loop(Fronts):
         self.assertEqual(self.front.display.told, "the client start has ended; what was typed last may be lost")
         self.assertEqual(self.front.loop.due["told"][0], self.now + 3.0)
         self.shown()
-        start.send(b"old" + painting(24, 80, "new"))
-        self.turn()
+        start.send(b"old\ntold\n")
+        self.start = start
+        self.paints(text="new")
         shown = self.shown()
         self.assertTrue(b"new" in shown and b"old" not in shown)
 
@@ -328,12 +395,11 @@ class Loop(Fronts):
         """The keypad goes by the pane in focus, as soon as that is told."""
         bells = self.listening(self.place.folder / "bells")
         start = self.connect()
-        start.send(painting(24, 80))
-        self.turn()
+        self.paints()
         self.taken(bells).send(b"keypad 2 application\n")
         self.place.told = Places({1: Rect(1, 1, 23, 39), 2: Rect(1, 41, 23, 40)}, 1)
         self.turn()
-        start.send(b"\x1b[1;1Hx")
+        start.send(record("paint", data=b"\x1b[1;1Hx"))
         self.turn()
         self.assertNotIn(b"\x1b=", self.shown())
         self.place.told = self.place.told._replace(focus=2)
@@ -348,13 +414,13 @@ class Loop(Fronts):
         start.send(b"x")
         self.front.display.outer.waiting[:] = bytes(65536)
         with mock.patch.object(front_end, "write", return_value=True):
-            with mock.patch.object(self.front.link, "painted") as paints:
+            with mock.patch.object(self.front.link, "told") as tells:
                 self.turn(1)
-                paints.assert_not_called()
+                tells.assert_not_called()
             del self.front.display.outer.waiting[0]
-            with mock.patch.object(self.front.link, "painted", return_value=None) as paints:
+            with mock.patch.object(self.front.link, "told", return_value=[]) as tells:
                 self.turn(1)
-                paints.assert_called_once_with()
+                tells.assert_called_once_with()
         self.front.display.outer.waiting.clear()
         os.write(self.master, b"x")
         self.front.link.waiting[:] = bytes(1 << 24)
@@ -367,31 +433,32 @@ class Loop(Fronts):
         self.front.link.waiting.clear()
 
     def test_sizes(self):
-        """A size that has stood for 0.3 s is the session's; of a new session each."""
+        """What is shown goes by a new size soon, and the session by one that has stood for 0.3 s; a new session by each."""
         start = self.connect()
-        start.send(painting(24, 80))
-        self.turn()
+        self.paints()
         read_now(start)
         terminal.set_size(self.slave, 30, 90)
         self.front.resized()
         self.turn()
         self.assertEqual(read_now(start), b"")
-        self.now += 0.3
+        self.now += 0.05
         self.turn()
-        self.assertEqual(read_now(start), b"size 30 90\n")
+        self.assertEqual(read_now(start), b"repaint\n")
+        self.now += 0.25
+        self.turn()
+        self.assertEqual(read_now(start), b"size 30 90\npart 29 90\n")
         self.front.commands.new_until = self.now + 1
         terminal.set_size(self.slave, 20, 70)
         self.front.resized()
         self.turn()
-        self.assertEqual(read_now(start), b"size 20 70\n")
+        self.assertEqual(read_now(start), b"size 20 70\npart 19 70\n")
 
     def test_unknown_size(self):
         """A session of which nothing is known is fitted once something was painted, 0.3 s later."""
         self.place.told = None
         start = self.connect()
-        start.send(painting(20, 70))
-        self.turn()
-        self.assertEqual(read_now(start), b"guess adaptive\nview -500\n")
+        self.paints(20, 70)
+        self.assertEqual(read_now(start), b"told\nguess adaptive\nview -500\n")
         self.now += 0.3
         self.turn()
         self.assertEqual(read_now(start), b"size 24 80\n")
@@ -451,7 +518,7 @@ class Wishes(Case):
     def person(self, told=PANES, **more):
         """A person at a terminal of 24 by 80, with panes that are known."""
         person = Person(24, 80, told=told, **more)
-        person.display.painted(painting(24, 80))
+        person.answers()
         person.busy = {}
         person.place.busy = lambda: person.busy
         return person
@@ -583,7 +650,7 @@ class Wishes(Case):
         person.commands.fit()
         self.assertEqual(person.link.acts, [])
         self.assertEqual(person.types(b"\x02r"), ["size 24 80"])
-        self.assertEqual(person.link.lines, ["repaint"])
+        self.assertEqual(person.said(), ["repaint"])
 
     def test_new(self):
         """A new session goes by its terminal's size for two seconds."""
@@ -595,7 +662,7 @@ class Wishes(Case):
 
 
 class Painted(Case):
-    """Paintings, cut at each place, and the lines over them."""
+    """Paintings, and the lines beside them."""
 
     def setUp(self):
         self.stop_clock()
@@ -603,120 +670,120 @@ class Painted(Case):
     def person(self):
         """A person at a terminal of 5 by 20, to whom nothing was painted yet."""
         person = Person(5, 20, told=places(5, 20))
+        person.said()
         person.display.outer.waiting.clear()
         return person
 
-    def test_cut(self):
-        """What a terminal is written is the same wherever a painting is cut; nothing before the reset, and no reset."""
-        text = b"old\x1b[1m" + painting(5, 20, "\u00e9") + painting(5, 20, "z")
-        wanted = (painting(5, 20, "\u00e9") + painting(5, 20, "z")).replace(b"\x1bc", terminal.CLEARED)
-        for cut in range(len(text) + 1):
-            person = self.person()
-            person.display.painted(text[:cut])
-            person.display.painted(text[cut:])
-            self.assertEqual(person.display.outer.waiting, wanted, cut)
-
-    def test_told_cut(self):
-        """A line over the last row is never written into the middle of a sequence or a character."""
-        text = painting(5, 20, "\u00e9")
-        line = b"\x1b7\x1b[?7l\x1b[5;1H\x1b[0;7m" + b"hello".ljust(20) + b"\x1b[0m\x1b[?7h\x1b8"
-        for cut in range(2, len(text) + 1):
-            person = self.person()
-            person.display.painted(text[:cut])
-            person.display.tell("hello")
-            person.display.painted(text[cut:])
-            written = bytes(person.display.outer.waiting)
-            self.assertIn(line, written, cut)
-            rest = written
-            while b"\x1b7" in rest:
-                before, _, after = rest.partition(b"\x1b7")
-                extent = terminal.PaintedSize()
-                extent.fed(before)
-                self.assertTrue(extent.is_between(), cut)
-                rest = before + after.partition(b"\x1b8")[2]
-            self.assertEqual(rest, text.replace(b"\x1bc", terminal.CLEARED), cut)
-
-    def test_bell_cut(self):
-        """Nor is a bell, which rings under a cover at any time."""
+    def test_written(self):
+        """What a terminal is written of a painting is all of it, but for its reset."""
         person = self.person()
-        person.display.painted(painting(5, 20) + b"\x1b[1")
+        text = painting(4, 20, "\u00e9")
+        person.display.take(Telling("size", (4, 20)))
+        person.display.take(Telling("anew", (len(text),), text))
+        written = bytes(person.display.outer.waiting)
+        self.assertTrue(written.startswith(text.replace(b"\x1bc", terminal.CLEARED)))
+        self.assertEqual(written[len(text) - 2 + len(terminal.CLEARED) :],
+                         b"\x1b7\x1b[?7l\x1b[5;1H\x1b[0;7m" + b"[1]".ljust(20) + b"\x1b[0m\x1b[?7h\x1b8")
+        person.display.outer.waiting.clear()
+        for text in (painting(4, 20, "z"), b"\x1b", b"\x1b[", b"\xc3"):
+            person.display.take(Telling("paint", (len(text),), text))
+            self.assertEqual(person.display.outer.waiting, text)
+            person.display.outer.waiting.clear()
+
+    def test_told_beside(self):
+        """A line in the last row, a bell and the keypad's codes stand between whole paintings."""
+        person = self.person()
+        person.paints(4, 20)
+        person.display.outer.waiting.clear()
+        person.display.tell("hello")
         person.display.ring()
-        self.assertNotIn(b"\x07", person.display.outer.waiting)
+        person.display.set_keypad(True)
+        person.display.set_keypad(True)
+        line = b"\x1b7\x1b[?7l\x1b[5;1H\x1b[0;7m" + b"hello".ljust(20) + b"\x1b[0m\x1b[?7h\x1b8"
+        self.assertEqual(person.display.outer.waiting, line + b"\x07\x1b=")
         person.display.show("help")
         person.display.ring()
         self.assertTrue(person.display.outer.waiting.endswith(b"\x07"))
 
     def test_told(self):
-        """A line stands a second, then the last row is painted anew; one without a time stands until it is ended."""
+        """A line stands a second, then the panes' labels; one without a time stands until it is ended."""
         person = self.person()
-        person.display.painted(painting(5, 20))
+        person.paints(4, 20)
         person.display.tell("one")
         self.assertEqual(person.loop.due["told"][0], 101.0)
         person.display.tell("two", None)
         self.assertNotIn("told", person.loop.due)
+        self.assertEqual(person.shown()[4], "two")
         person.display.end_told()
         person.display.end_told()
-        self.assertEqual((person.display.told, person.link.lines), ("", ["repaint"]))
+        self.assertEqual((person.display.told, person.said(), person.shown()[4]), ("", [], "[1]"))
 
-    def test_told_small(self):
-        """It is as wide as the session, and stands in the terminal's last row where nothing is known."""
+    def test_told_whole(self):
+        """Over a session that is shown whole it is as wide as that, and stands in the terminal's last row where nothing is known; behind
+        it all is painted anew."""
         person = Person(10, 30)
         person.display.outer.waiting.clear()
         person.display.tell("x" * 40)
         self.assertIn(b"\x1b[10;1H\x1b[0;7m" + b"x" * 30 + b"\x1b[0m", person.display.outer.waiting)
-        person.display.painted(painting(6, 20))
+        person.paints(6, 20)
         person.display.outer.waiting.clear()
         person.display.tell("ab")
         self.assertIn(b"\x1b[6;1H\x1b[0;7m" + b"ab".ljust(20) + b"\x1b[0m", person.display.outer.waiting)
+        person.display.end_told()
+        self.assertEqual(person.said(), ["repaint"])
 
     def test_shown(self):
         """Lines in place of the session are cut to the terminal, a column free at the right."""
         person = self.person()
         person.display.show("one two three four five six\n" * 4)
-        self.assertEqual(person.display.outer.shown(), ["one two three four", "five six"] * 2 + ["one two three four"])
+        self.assertEqual(person.shown(), ["one two three four", "five six"] * 2 + ["one two three four"])
 
     def test_resized(self):
-        """A cover is shown again at a new size, and half a second later all is painted anew."""
+        """A cover is shown again at a new size, and soon later all is painted anew where none is there."""
         person = self.person()
-        person.display.painted(painting(5, 20))
+        person.paints(4, 20)
         person.display.show("help")
         person.display.outer.waiting.clear()
         person.display.resized()
         self.assertIn(b"help", person.display.outer.waiting)
-        self.assertEqual(person.loop.due["repaint"][0], 100.5)
+        self.assertEqual(person.loop.due["paint"][0], 100.05)
         person.display.cover = ""
-        self.now += 0.5
+        self.now += 0.05
         person.loop.do_due()
-        self.assertEqual((person.link.lines, person.display.is_stale), (["repaint"], True))
+        self.assertEqual((person.said(), person.display.is_stale), (["repaint"], True))
 
     def test_repainted(self):
-        """A session that was painted at its new size isn't asked to paint again."""
+        """A session of which another part is asked for at a new size isn't asked to paint again."""
         person = self.person()
+        person.paints(4, 20)
+        person.display.outer.rows = 4
         person.display.resized()
-        person.display.painted(painting(5, 20))
-        self.assertNotIn("repaint", person.loop.due)
+        self.now += 0.05
+        person.loop.do_due()
+        self.assertEqual(person.said(), ["part 3 20"])
 
     def test_entered_again(self):
-        """After another had the terminal all is painted anew."""
+        """After another had the terminal all is painted anew, and nothing before that is written."""
         person = self.person()
         person.display.outer.enter_again = mock.Mock()
-        person.display.painted(painting(5, 20))
+        person.paints(4, 20)
         person.display.enter_again()
+        person.display.resized()
         person.display.outer.enter_again.assert_called_once_with()
-        self.assertEqual(person.link.lines, ["repaint"])
+        before = len(person.display.outer.waiting)
+        person.display.take(Telling("paint", (1,), b"x"))
+        self.now += 0.05
+        person.loop.do_due()
+        self.assertEqual((person.said(), len(person.display.outer.waiting)), (["repaint"], before))
 
     def test_given(self):
-        """A session has half a second for a size, and two more until it is told that its panes have no room."""
+        """A session has two and a half seconds for a size; then it is told that its panes have no room."""
         person = self.person()
-        person.display.size_asked((5, 20))
-        self.assertEqual((person.display.settled_at, person.loop.due["refused"][0]), (100.5, 102.5))
-        person.display.painted(painting(6, 20))
-        self.assertEqual((person.display.cover, person.loop.due["hide"][0]), ("", 100.5))
-        self.now = 100.5
-        person.loop.do_due()
-        self.assertTrue(person.display.cover.startswith("too small: 5 by 20 of 6 by 20"))
+        person.place.told = places(6, 20)
+        person.commands.told()
+        person.types(b"\x02r")
+        self.assertEqual((person.commands.given, person.loop.due["given"][0]), ((5, 20), 102.5))
         self.now = 102.5
         person.loop.do_due()
-        self.assertIn("its panes have no room here", person.display.cover)
-        person.display.resized()
-        self.assertFalse(person.display.is_refused)
+        self.assertEqual((person.display.told, person.commands.given), ("its panes have no room in 5 by 20", None))
+        self.assertFalse(person.display.shows_all())

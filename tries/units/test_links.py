@@ -1,10 +1,12 @@
 """A terminal's connection to the client start, and how it is had again."""
+import contextlib
 import errno
 import os
+import socket
 from unittest import mock
 
-from aids import Case, read_now
-from roam_live.links import LET_GO, LOST, MOST_ACTS, NO_MORE, PAUSES, Keeper, StartLink
+from aids import Case, read_now, record
+from roam_live.links import EARLIER, FIRST_WAIT, LET_GO, LOST, MOST_ACTS, NO_MORE, PAUSES, SILENT, Keeper, StartLink, opened
 from roam_live.loops import READ, WRITE
 from roam_live.program import Fault
 
@@ -44,12 +46,14 @@ class Lines(Linked):
     """What goes to the start."""
 
     def test_greeting(self):
-        """A watcher says so, another how guesses are shown, but where they never are; both anew at each connection."""
-        for words, said in (((True,), b"watch\n"), ((False,), b""), ((False, "adaptive"), b"guess adaptive\n"),
+        """Records are asked for first; then a watcher says so, another how guesses are shown, but where they never are; all anew at each
+        connection."""
+        for words, more in (((True,), b"watch\n"), ((False,), b""), ((False, "adaptive"), b"guess adaptive\n"),
                             ((False, "always"), b"guess always\n"), ((True, "always"), b"watch\n")):
+            said = b"told\n" + more
             link, other = self.link(*words)
             self.assertTrue(link.send())
-            self.assertEqual((read_now(other), link.waiting), (said, b""))
+            self.assertEqual((read_now(other), link.waiting, link.lines), (said, b"", said.count(b"\n")))
             link.close()
             link.connect()
             other = self.taken(self.listener)
@@ -65,20 +69,20 @@ class Lines(Linked):
             self.addCleanup(link.close)
             other = self.taken(self.listener)
         link.send()
-        self.assertEqual(read_now(other), b"guess always\nchar 61\n")
+        self.assertEqual((read_now(other), link.lines), (b"told\nguess always\nchar 61\n", 3))
         watcher = StartLink(self.path, True)
         watcher.say("repaint")
         watcher.connect()
-        self.assertEqual(watcher.waiting, b"watch\n")
+        self.assertEqual((watcher.waiting, watcher.lines), (b"told\nwatch\n", 2))
         watcher.close()
 
     def test_joined(self):
         """Acts that come at once stand in lines of 32, and those that come later in lines of their own."""
         link, other = self.link(False)
         link.type(*["char 61"] * 70)
-        lines = link.waiting.decode().splitlines()
+        _, *lines = link.waiting.decode().splitlines()
         self.assertEqual([line.count("char 61") for line in lines], [32, 32, 6])
-        self.assertEqual(lines[2], " ; ".join(["char 61"] * 6))
+        self.assertEqual((lines[2], link.lines), (" ; ".join(["char 61"] * 6), 4))
         link.type("key up")
         self.assertTrue(link.waiting.endswith(b"char 61 ; key up\n"))
         link.send()
@@ -86,27 +90,23 @@ class Lines(Linked):
         link.say("repaint")
         link.type("key left", "key right")
         link.send()
-        text = read_now(other).decode().splitlines()[3:]
-        self.assertEqual(text, ["key down", "repaint", "key left ; key right"])
+        text = read_now(other).decode().splitlines()[4:]
+        self.assertEqual((text, link.lines), (["key down", "repaint", "key left ; key right"], 7))
         self.assertEqual(MOST_ACTS, 32)
 
     def test_pasted(self):
-        """What was pasted has lines of its own, which say so to a start that runs the program of these tools, and to no other."""
-        for knows, lead in ((True, "paste ; "), (False, "")):
-            link, other = self.link(False)
-            self.assertFalse(link.knows_pastes)
-            link.knows_pastes = knows
-            link.type("char 61")
-            link.type("char 62", "char 63", is_pasted=True)
-            link.type("char 64", is_pasted=True)
-            link.type("char 65")
-            link.type(*["char 66"] * 33, is_pasted=True)
-            link.send()
-            lines = read_now(other).decode().splitlines()
-            self.assertEqual(lines[:3], ["char 61", f"{lead}char 62 ; char 63 ; char 64", "char 65"])
-            self.assertEqual([line.count("char 66") for line in lines[3:]], [32, 1])
-            self.assertTrue(all(line.startswith(lead + "char 66") for line in lines[3:]))
-            link.close()
+        """What was pasted has lines of its own, which say so."""
+        link, other = self.link(False)
+        link.type("char 61")
+        link.type("char 62", "char 63", is_pasted=True)
+        link.type("char 64", is_pasted=True)
+        link.type("char 65")
+        link.type(*["char 66"] * 33, is_pasted=True)
+        link.send()
+        _, *lines = read_now(other).decode().splitlines()
+        self.assertEqual(lines[:3], ["char 61", "paste ; char 62 ; char 63 ; char 64", "char 65"])
+        self.assertEqual([line.count("char 66") for line in lines[3:]], [32, 1])
+        self.assertTrue(all(line.startswith("paste ; char 66") for line in lines[3:]))
 
     def test_cut(self):
         """A line that went in part goes whole to the next connection."""
@@ -122,12 +122,13 @@ class Lines(Linked):
             self.assertEqual((bytes(link.waiting), link.given), (rest, cut - (len(whole) - len(rest))), cut)
             link.connect()
             self.taken(self.listener)
-            self.assertEqual(link.given, 0)
+            again = rest if rest.startswith(b"told\n") else b"told\n" + rest
+            self.assertEqual((link.given, bytes(link.waiting), link.lines), (0, again, again.count(b"\n")))
 
     def test_full(self):
         """What isn't taken waits, in pieces of 65,536 bytes; where the other end has gone that is told."""
         link, other = self.link(False)
-        link.waiting += b"x" * 100_000 + b"\n"
+        link.waiting[:] = b"x" * 100_000 + b"\n"
         peer = SocketPeer(65536, -errno.EAGAIN, 34465, -errno.EPIPE)
         with mock.patch.object(link, "peer", peer):
             self.assertTrue(link.send())
@@ -138,17 +139,45 @@ class Lines(Linked):
             self.assertEqual((link.given, link.waiting), (0, b""))
             self.assertFalse(link.send())
 
-    def test_painted(self):
+    def test_told(self):
+        """Records, what they tell of the connection, and its end; what is no record is the end too."""
         link, other = self.link(False)
-        self.assertEqual((link.painted(), link.has_painted, link.comes(0)), (None, False, False))
-        other.send(b"\x1bc")
-        self.assertTrue(link.comes(0))
-        self.assertEqual((link.painted(), link.has_painted, link.fileno()), (b"\x1bc", True, link.peer.fileno()))
+        self.assertEqual((link.told(), link.has_come, link.is_done()), ([], False, False))
+        link.type("char 61")
+        other.send(b"painted\ntold\n" + record("taken", 1) + record("paint", data=b"x"))
+        self.assertEqual([one.word for one in link.told()], ["told", "taken", "paint"])
+        self.assertEqual((link.has_come, link.taken, link.lines, link.is_done(), link.fileno()), (True, 1, 2, False, link.peer.fileno()))
+        other.send(record("taken", 2))
+        link.told()
+        self.assertTrue(link.is_done())
         other.close()
-        self.assertEqual((link.painted(), link.has_painted), (b"", True))
+        self.assertEqual((link.told(), link.has_ended, link.loss()), (None, True, LET_GO))
         link.close()
         link.close()
         self.assertIsNone(link.peer)
+        for text, why in ((b"\ntold\nwhat\n", LET_GO), (b"full\n", NO_MORE), (b"", NO_MORE), (b"\x1bcroam: line 1: bad act", EARLIER),
+                          (b"\ntold\nrefused 3 bad act\n", "the client start refused a line: bad act")):
+            link, other = self.link(False)
+            other.send(text)
+            other.close()
+            while link.told() is not None:
+                pass
+            self.assertEqual((link.loss(), link.has_ended), (why, True), text)
+            link.close()
+
+    def test_begins(self):
+        """A start has five seconds for its first record, and what waits is given meanwhile."""
+        link, other = self.link(True)
+        other.send(b"\ntold\n")
+        self.assertTrue(link.begins(5.0))
+        self.assertTrue(link.records.begun)
+        link, other = self.link(True)
+        with mock.patch("roam_live.links.ready", lambda *_: self.pass_time(0.1) or WRITE):
+            self.assertFalse(link.begins(5.0))
+        self.assertEqual((105 <= self.now < 105.2, read_now(other), link.has_ended), (True, b"told\nwatch\n", False))
+        other.close()
+        self.assertFalse(link.begins(5.0))
+        self.assertTrue(link.has_ended)
 
     def test_part(self):
         """Who leaves gives what was typed, and says that no more comes; that the start has taken it is known by its end."""
@@ -160,7 +189,7 @@ class Lines(Linked):
             self.assertEqual((end, events, seconds), (link.peer, READ | WRITE if link.waiting else READ, 0.1))
             found = next(answers)
             if found == READ:
-                self.assertEqual(other.recv(64), b"char 61\n")
+                self.assertEqual(other.recv(64), b"told\nchar 61\n")
                 self.assertEqual(other.recv(64), b"")
                 other.close()
             return found
@@ -190,6 +219,7 @@ class AnySession:
         self.start = self.noted = 1
         self.served, self.full = True, False
         self.revived, self.fault, self.reads = 0, None, 0
+        self.earlier = []
 
     def __str__(self):
         return "in /folder"
@@ -216,12 +246,21 @@ class AnySession:
         """Whether the server hears no other start."""
         return self.full
 
-    def revive(self):
+    def revive(self, earlier=None):
         """Starts it."""
         if self.fault:
             raise self.fault
         self.revived += 1
+        self.earlier.append(earlier)
         self.noted = 2
+
+    def locked(self):
+        """Its lock."""
+        return contextlib.nullcontext()
+
+    def demand_terminals(self, earlier=None):
+        """Sees that a start is there."""
+        self.earlier.append(earlier)
 
 
 class Kept(Linked):
@@ -255,8 +294,18 @@ class Kept(Linked):
         self.assertEqual(self.keeper.lost(), NO_MORE)
         self.link.connect()
         self.assertEqual(self.keeper.connected(), LET_GO)
-        self.link.has_painted = True
+        self.link.has_come = self.link.records.begun = True
         self.assertEqual(self.keeper.lost(), LET_GO)
+
+    def test_earlier(self):
+        """In place of a start that knows no records another is launched at once, of which no loss is told."""
+        self.keeper.connect()
+        self.keeper.connected()
+        self.link.has_come = True
+        self.assertEqual((self.keeper.lost(), self.keeper.pause()), (EARLIER, 0.1))
+        self.assertEqual(self.keeper.connect(), (0.02, ""))
+        self.assertEqual((self.place.revived, self.place.earlier), (1, [os.getpid()]))
+        self.assertEqual((self.keeper.connect(), self.keeper.connected()), (None, ""))
 
     def test_pauses(self):
         """0.1 s, and longer with each end that comes soon; a connection that lasted 5 s had no fault."""
@@ -305,3 +354,50 @@ class Kept(Linked):
         with mock.patch.object(self.link, "connect", side_effect=PermissionError(1, "user 7 listens there, and not you")):
             self.assertEqual(self.keeper.connect(), (8, f"{self.path}: user 7 listens there, and not you"))
         self.assertEqual(PAUSES, (0.1, 1, 2, 4, 8, 15))
+
+
+class Opened(Linked):
+    """A connection over which records come, for what is asked once."""
+
+    def setUp(self):
+        super().setUp()
+        self.place = AnySession()
+        self.place.terminals = self.path
+
+    def opened(self, *texts):
+        """The connection to a start that tells these texts, one each time that it is connected to; their ends follow them."""
+        texts = list(texts)
+
+        def waits(end, events, seconds):
+            if not events & WRITE:
+                return READ
+            other = self.taken(self.listener)
+            other.send(texts.pop(0))
+            self.addCleanup(other.close)
+            # What it is given may come once it has said so much.
+            other.shutdown(socket.SHUT_WR)
+            return WRITE
+
+        with mock.patch("roam_live.links.ready", waits):
+            link = opened(self.place, True)
+        self.addCleanup(link.close)
+        return link
+
+    def test_there(self):
+        self.assertEqual(FIRST_WAIT, 5.0)
+        link = self.opened(b"\x1bc\ntold\n")
+        self.assertEqual((link.records.begun, link.watches, self.place.earlier), (True, True, []))
+
+    def test_earlier(self):
+        """In place of a start of an earlier roam another is demanded, once."""
+        self.assertTrue(self.opened(b"\x1bc", b"\ntold\n").records.begun)
+        self.assertEqual(self.place.earlier, [os.getpid()])
+        with self.assertRaisesRegex(Fault, f"^{EARLIER}$"):
+            self.opened(b"\x1bc", b"\x1bc")
+
+    def test_refused(self):
+        with self.assertRaisesRegex(Fault, f"^{NO_MORE}$"):
+            self.opened(b"full\n")
+        with mock.patch("roam_live.links.ready", lambda *_: self.pass_time(1) or 0), self.assertRaisesRegex(Fault, f"^{SILENT}$"):
+            opened(self.place, False)
+        self.assertEqual(self.place.earlier, [])

@@ -1,11 +1,15 @@
-"""What a painting shows: its cells, and the picture of them."""
+"""What a screen shows as it is told: its cells, and the picture of them; and what a painting shows, by a table of widths."""
 import io
 import unittest
 import xml.etree.ElementTree
+from unittest import mock
 
 from aids import Case, loaded
-from roam_live import captures
-from roam_live.cells import PaintedCells, Style, cells_of_rows, styled, width_of
+from painted import PaintedCells, cells_of_rows, width_of
+from roam_live import cells as told_cells
+from roam_live.cells import ShownCells, Style, styled
+from roam_live.program import Fault, Home
+from roam_live.told import NoRecord
 
 picture = loaded("picture")
 PLACE = "{http://www.w3.org/2000/svg}"
@@ -16,6 +20,50 @@ def cells_of(text):
     cells = PaintedCells()
     cells.fed(text)
     return cells
+
+
+def rows_of(cells):
+    """The rows that cells show, without the spaces at their ends."""
+    rows = [""] * max(row for row, _ in cells.cells)
+    for (row, col), (letter, _) in sorted(cells.cells.items(), key=lambda item: item[0]):
+        rows[row - 1] = rows[row - 1].ljust(col - 1) + letter
+    return [row.rstrip(" ") for row in rows]
+
+
+def shown_by(text):
+    """The same cells as they are told, with right halves of wide characters."""
+    painted = cells_of(text)
+    last = [max((place[side] for place in painted.cells), default=1) for side in (0, 1)]
+    shown = ShownCells(*last)
+    shown.row, shown.col, shown.has_cursor = painted.row, painted.col, painted.has_cursor
+    for (row, col), (letter, style) in painted.cells.items():
+        shown.cells[row, col] = letter, style
+        if width_of(letter[0]) == 2:
+            shown.cells[row, col + 1] = "", style
+    return shown
+
+
+class Told(Case):
+    """The cells of a screen as a client start tells it."""
+
+    SCREEN = "2 4 1 3 hidden\n\x1b[0;1ma\x1f\x1b[0;1;31m\u4e2d\x1f\x1f\x1b[0m \n \x1fe\u0301\x1f\x1b[0m\x1b[38;2;1;2;3mz\x1f\x1b[m \n"
+
+    def test_cells(self):
+        """Each has its style, which SGR before a cell changes from that of the one before, and the default is before the first."""
+        shown = told_cells.cells_of(self.SCREEN.encode())
+        bold, red, plain = Style(frozenset({"bold"})), Style(frozenset({"bold"}), 1), Style()
+        self.assertEqual([shown.cells[1, col] for col in range(1, 5)], [("a", bold), ("\u4e2d", red), ("", red), (" ", plain)])
+        self.assertEqual([shown.cells[2, col] for col in range(1, 5)],
+                         [(" ", plain), ("e\u0301", plain), ("z", Style(frozenset(), (1, 2, 3))), (" ", plain)])
+        self.assertEqual((shown.rows, shown.cols, shown.row, shown.col, shown.has_cursor), (2, 4, 1, 3, False))
+
+    def test_none(self):
+        for text in ("", "2 4 1 3 hidden\na\n", "1 1 1 1 visible\n\x1b[xm \n", "1 1 1 1 visible\n\x1b[1\n", "1 1 1 1 visible\n\x1b[1;m\n"):
+            if text.endswith(";m\n"):
+                self.assertEqual(told_cells.cells_of(text.encode()).cells, {(1, 1): ("", Style())})
+                continue
+            with self.assertRaises(NoRecord, msg=text):
+                told_cells.cells_of(text.encode())
 
 
 class Shown(Case):
@@ -31,6 +79,12 @@ class Shown(Case):
             cells.fed(erases)
             self.assertEqual(cells.cells, {})
             cells.fed("x")
+
+    def test_saved(self):
+        """A front end's own line, between DECSC and DECRC, leaves the cursor and the style where they were."""
+        cells = cells_of("\x1b[2;3H\x1b[1mab\x1b7\x1b[?7l\x1b[5;1H\x1b[0;7m[1]\x1b[0m\x1b[?7h\x1b8c")
+        self.assertEqual("".join(letter for letter, _ in cells.cells.values()), "ab[1]c")
+        self.assertEqual(cells.cells[2, 5], ("c", Style(frozenset({"bold"}))))
 
     def test_widths(self):
         """A wide character takes two columns, and what has no width joins the one before."""
@@ -55,9 +109,9 @@ class Shown(Case):
         cells = PaintedCells()
         cells.fed("\x1b[1Haa\x1b[2Hbb\x1b[3Hcc\x1b[4Hdd")
         cells.fed("\x1b[1;3r\x1b[3H\n\x1b[r\x1b[3Hee")
-        self.assertEqual(captures.rows_of(cells), ["bb", "cc", "ee", "dd"])
+        self.assertEqual(rows_of(cells), ["bb", "cc", "ee", "dd"])
         cells.fed("\x1b[2;4r\x1b[2H\x1bM\x1bM\x1b[r\x1b[2Hff\x1b[1;2H\x1b[K")
-        self.assertEqual(captures.rows_of(cells), ["b", "ff", "", "cc"])
+        self.assertEqual(rows_of(cells), ["b", "ff", "", "cc"])
 
     def test_styles(self):
         """The numbers of SGR, as ECMA-48 and xterm have them."""
@@ -122,7 +176,7 @@ class Drawn(Case):
 
     def elements(self, text):
         """The elements of the picture of a text, behind the two of its ground."""
-        tree = xml.etree.ElementTree.fromstring(picture.picture(cells_of(text + "\x1b[?25l")))
+        tree = xml.etree.ElementTree.fromstring(picture.picture(shown_by(text + "\x1b[?25l")))
         self.size = tree.get("width"), tree.get("height"), tree.get("viewBox"), tree[0].get("width"), tree[0].get("height")
         return [(one.tag.removeprefix(PLACE), dict(one.attrib), one.text) for one in tree[1]]
 
@@ -131,7 +185,7 @@ class Drawn(Case):
         self.assertEqual(self.size, ("656", "424", "0 0 656 424", "656", "424"))
 
     def test_cursor(self):
-        tree = xml.etree.ElementTree.fromstring(picture.picture(cells_of("\x1b[2;3Hx")))
+        tree = xml.etree.ElementTree.fromstring(picture.picture(shown_by("\x1b[2;3Hx")))
         cursor = tree[1][-1]
         self.assertEqual([cursor.get(name) for name in ("x", "y", "width", "height")], ["32", "25", "8", "17"])
 
@@ -159,8 +213,15 @@ class Drawn(Case):
 
     def test_runs(self):
         """A run is of neighbours in one row with one style."""
-        found = picture.runs(cells_of("\x1b[1;1Ha\u4e2db\x1b[1;6Hc\x1b[1;7H\x1b[1md\x1b[2;1He"))
-        self.assertEqual([(row, [col for col, _ in places]) for row, _, places in found], [(1, [1, 2, 4]), (1, [6]), (1, [7]), (2, [1])])
+        found = picture.runs(shown_by("\x1b[1;1Ha\u4e2db\x1b[1;6Hc\x1b[1;7H\x1b[1md\x1b[2;1He"))
+        self.assertEqual([(row, [col for col, letter in places if letter]) for row, _, places in found],
+                         [(1, [1, 2, 4]), (1, [6]), (1, [7]), (2, [1])])
+
+    def test_wide_ground(self):
+        """What is behind a wide character, and a line below it, is two columns wide."""
+        found = self.elements("\x1b[44;4m\u4e2d")
+        self.assertEqual([(tag, one.get("width"), one.get("d")) for tag, one, _ in found],
+                         [("rect", "16", None), ("text", None, None), ("path", None, "M8 23.5h16")])
 
     def test_boxes(self):
         """The strokes of a sign for boxes go from the middle of its cell to its sides."""
@@ -198,11 +259,11 @@ class Tool(Case):
         return picture.main(), printed.getvalue()
 
     def test_input(self):
-        status, text = self.run_with(text=b"\x1b[1;1Hab")
+        status, text = self.run_with(text=Told.SCREEN.encode())
         self.assertTrue(status == 0 and text.startswith("<svg ") and text.endswith("</svg>\n"))
 
     def test_nothing(self):
-        with self.assertRaisesRegex(picture.Fault, "^nothing was painted$"):
+        with self.assertRaisesRegex(Fault, "^what is told is no screen: "):
             self.run_with(text=b"\x1b[2J")
 
     def test_wrong(self):
@@ -211,26 +272,25 @@ class Tool(Case):
             self.run_with("a", "b", "c")
         self.assertEqual((way.exception.code, "a server is named by its folder" in said.getvalue()), (2, True))
 
-    def test_watched(self):
-        """It watches until nothing new was painted for half a second, and ten seconds at most; the client ends."""
+    def test_told(self):
+        """The start of the terminals in a folder is asked, where one is there; else one of its own, which has ten seconds and ends."""
         self.stop_clock()
-        process = self.process("sh", "-c", "printf '\\033[2J'; printf '\\033[1;1Hab'; exec sleep 60", stdout=-1)
-        self.addCleanup(process.stdout.close)
-        asked = []
-
-        def waits(source, seconds):
-            asked.append(seconds)
-            return len(asked) == 1 or not cells
-
-        cells = []
-        self.patch_of(picture, "read", side_effect=lambda source: cells.append(1) or b"\x1b[1;1Hab")
-        self.patch_of(picture, "comes", side_effect=waits)
-        popen = self.patch_of(picture.subprocess, "Popen", return_value=process)
-        home = picture.Home(folder="/x")
-        self.patch_of(home, "attach_words", side_effect=lambda more: ["roam", *more])
-        self.assertEqual(picture.watched(home), b"\x1b[1;1Hab")
-        self.assertEqual((asked, popen.call_args[0][0]), ([10.0, 0.5], ["roam", "--watch"]))
-        self.assertEqual(process.returncode, -9)
+        folder = self.made_folder()
+        home = Home(folder=str(folder))
+        with mock.patch.object(picture, "asked_screen", lambda link, asks: (link.path, link.watches, asks)):
+            self.listening(folder / "terminals")
+            self.assertEqual(picture.told_of(home), (f"{folder}/terminals", True, "look sgr"))
+            (folder / "terminals").unlink()
+            with self.assertRaisesRegex(Fault, f"^no server is in {folder}$"):
+                picture.told_of(home)
+            with mock.patch.object(picture, "PortSession") as made, mock.patch.object(Home, "is_served", return_value=True):
+                made.return_value.terminals = folder / "own"
+                with self.assertRaises(FileNotFoundError):
+                    picture.told_of(home)
+                self.assertTrue(110 <= self.now < 110.1)
+                self.listening(folder / "own")
+                self.assertEqual(picture.told_of(home), (folder / "own", True, "look sgr"))
+                self.assertEqual((made.return_value.revive.call_count, made.return_value.close.call_count), (2, 2))
 
 
 if __name__ == "__main__":

@@ -170,7 +170,7 @@ class Close(Folder):
         """The keys of the person, what they ask for, and what is shown."""
         link, loop = StartLink(), Loop()
         with mock.patch.object(display, "OuterTerminal", OuterTerminal):
-            shown = Display(loop, lambda: None)
+            shown = Display(loop, lambda line: None)
         commands = Commands(session, PlayedPanes(mock.Mock(told=places)), link, shown, loop, lambda line: None)
         commands.fed(b"\x02x")
         return commands, link, shown

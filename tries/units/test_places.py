@@ -14,6 +14,25 @@ THREE = {1: Rect(1, 1, 23, 39), 2: Rect(1, 41, 11, 40), 3: Rect(13, 41, 11, 40)}
 FOUR = {1: Rect(1, 1, 15, 39), 2: Rect(1, 41, 7, 40), 3: Rect(17, 1, 7, 39), 4: Rect(9, 41, 15, 40)}
 
 
+class Labels(Case):
+    """The panes' numbers, as a session's status row has them."""
+
+    def test_labels(self):
+        """In the order of the layout's tree: by the first cut through all of them, and so on in each part."""
+        beside = {1: Rect(1, 1, 11, 39), 4: Rect(13, 1, 11, 39), 2: Rect(1, 41, 11, 40), 3: Rect(13, 41, 11, 40)}
+        above = {1: Rect(1, 1, 11, 80), 2: Rect(13, 1, 11, 20), 4: Rect(13, 22, 11, 20), 3: Rect(13, 43, 11, 38)}
+        within = {3: Rect(1, 1, 23, 10), 1: Rect(1, 12, 5, 69), 2: Rect(7, 12, 17, 30), 9: Rect(7, 43, 17, 38)}
+        for rects, focus, labels in ((THREE, 1, "[1] 2  3 "), (FOUR, 4, " 1  3  2 [4]"), (beside, 4, " 1 [4] 2  3 "),
+                                     (above, 0, " 1  2  4  3 "), (within, 2, " 3  1 [2] 9 "), ({7: Rect(1, 1, 5, 9)}, 7, "[7]"),
+                                     ({}, 0, "")):
+            self.assertEqual(Places(rects, focus).labels(), labels)
+
+    def test_none(self):
+        """Rectangles through which no cut goes, as none of a session are, are in the order of their numbers."""
+        pinwheel = {2: Rect(1, 1, 3, 6), 1: Rect(1, 7, 6, 3), 3: Rect(4, 4, 3, 3), 5: Rect(4, 1, 6, 3), 4: Rect(7, 4, 3, 6)}
+        self.assertEqual(places.in_order(pinwheel), [1, 2, 3, 4, 5])
+
+
 class Sides(Case):
     """The pane on a side."""
 

@@ -3,14 +3,16 @@ import json
 import os
 import pathlib
 import signal
+import socket
 import subprocess
 import unittest
 from unittest import mock
 
-from aids import Case
+from aids import Case, read_now, record
 from roam_live import captures, carriers, ports, processes, sending, sessions
 from roam_live.carriers import LONGEST, SHORTEST, Carrier
-from roam_live.cells import PaintedCells
+from roam_live.links import StartLink
+from roam_live.loops import READ, WRITE
 from roam_live.parsing import WordParser
 from roam_live.ports import PortSession
 from roam_live.processes import Processes, is_note
@@ -253,6 +255,21 @@ class Starts(Based):
         session.revive()
         self.assertEqual(len(self.words), 1)
 
+    def test_earlier(self):
+        """In place of a start of an earlier roam another is started, which takes its socket; not where another has done so."""
+        self.listening(self.folder / "terminals")
+        session = self.session()
+        session.revive(os.getpid() + 1)
+        self.assertEqual(self.words, [])
+        for demands in (session.revive, session.demand_terminals):
+            self.assertTrue((self.folder / "terminals").exists())
+            demands(os.getpid())
+            self.assertFalse((self.folder / "terminals").exists())
+            self.listening(self.folder / "terminals")
+        self.assertEqual(([role for role, _ in self.words], [role for role, _, _ in self.waits]), (["terminals"] * 2, ["terminals"]))
+        with mock.patch.object(FolderSession, "listener", side_effect=Fault("takes none")):
+            self.assertTrue(session.has_terminals(os.getpid()))
+
     def test_full(self):
         """A server that has had its 64 starts hears no other, which is told."""
         self.patch_of(FolderSession, "places", lambda _, seconds: Places({1: Rect(1, 1, 23, 80)}, 1, 64, 0))
@@ -464,21 +481,42 @@ class Sends(Based):
     def setUp(self):
         super().setUp()
         self.stop_clock()
-        self.link = self.patch_of(sending, "StartLink").return_value
-        self.link.comes.return_value, self.link.part.return_value = True, True
-        self.link.painted.return_value = b"x"
+        self.opens = self.patch_of(sending, "opened")
+        self.link = self.opens.return_value = StartLink(self.folder / "terminals", False)
+        self.link.peer, self.start = self.pair()
+        self.link.records.begun = True
         self.runs = self.patch_of(sending.subprocess, "run", return_value=mock.Mock(returncode=0))
         self.patch("roam_live.program.program", return_value="/roam")
+        self.answers, self.asked = [], []
+        self.patch("roam_live.links.ready", self.ready)
+
+    def ready(self, link, events, seconds):
+        """What a start does while it is waited for: the next of its answers, where what is given is taken."""
+        self.asked.append(seconds)
+        if events & WRITE:
+            return WRITE
+        self.pass_time(seconds)
+        answer = self.answers.pop(0) if self.answers else b""
+        if answer is None:
+            self.start.shutdown(socket.SHUT_WR)
+        else:
+            self.start.send(answer)
+        return READ if answer is None or answer else 0
 
     def test_sent(self):
-        """They are read by a start that takes no turn, and typed once all can be done."""
+        """They are read by a start that takes no turn, and typed once all can be done; it ends once the session has taken all of them."""
+        self.answers = [record("paint", data=b"x"), b"", record("taken", 1), record("taken", 2)]
+        self.link.lines = 1
         self.assertEqual(sending.send(self.session(), ["char 61", "key up"]), 0)
         words = ["/roam", "attach", "--dir", str(self.folder), "--keys", "/dev/stdin", "--turns", "0"]
         self.assertEqual((self.runs.call_args[0][0], self.runs.call_args[1]["input"]), (words, b"char 61\nkey up\n"))
-        self.assertEqual(sending.StartLink.call_args[0], (self.folder / "terminals", False))
-        self.link.comes.assert_called_once_with(5.0)
-        self.link.type.assert_called_once_with("char 61", "key up")
-        self.link.part.assert_called_once_with(10.0)
+        self.assertFalse(self.opens.call_args[0][1])
+        self.assertEqual((read_now(self.start), self.answers, self.link.peer), (b"char 61 ; key up\n", [], None))
+
+    def test_slow(self):
+        """Ten seconds may pass between two that are taken."""
+        self.link.lines, self.answers = 2, [b""] * 90 + [record("taken", 1)] + [b""] * 90 + [record("taken", 3)]
+        self.assertEqual((sending.send(self.session(), ["char 61"]), sending.SEND_WAIT), (0, 10.0))
 
     def test_no_act(self):
         """What is no act is named, and none is typed."""
@@ -488,7 +526,7 @@ class Sends(Based):
         self.runs.return_value.stderr = b"roam: no server\nx\n"
         with self.assertRaisesRegex(Fault, "^roam: no server$"):
             sending.send(self.session(), ["a"])
-        self.link.type.assert_not_called()
+        self.opens.assert_not_called()
 
     def test_not_done(self):
         """What can't be done is looked at again for a second, since what was asked for before may not be told yet."""
@@ -497,83 +535,110 @@ class Sends(Based):
         with self.assertRaisesRegex(Fault, "^'focus 2' can't be done: there is no pane 2. None was typed$"):
             sending.send(self.session(), ["focus 2"])
         self.assertTrue(101.0 < self.now <= 101.1)
-        self.link.connect.assert_not_called()
+        self.opens.assert_not_called()
+        self.answers = [record("taken", 1)]
         self.patch("time.sleep", lambda _: told.insert(0, Places({1: Rect(1, 1, 9, 9), 2: Rect(1, 11, 9, 9)}, 1, 1)))
         self.assertEqual(sending.send(self.session(), ["focus 2"]), 0)
 
     def test_refused(self):
-        self.link.painted.return_value = b""
+        """Why not all is taken is told: a line is refused, the start ends, nothing more is taken; not where the session ended by it."""
+        refused, let_go = "the client start refused a line: out of memory", "this terminal was let go; what was typed last may be lost"
+        for answers, runs, told in (([record("refused", 1, words="out of memory"), None], True, refused), ([None], True, let_go),
+                                    ([], True, ""), ([None], False, None)):
+            self.link.peer, self.start = self.pair()
+            self.link.forget()
+            self.link.has_come = self.link.records.begun = True
+            self.answers, session = answers, self.session()
+            words = f"session main: {told}" if told else "session main takes no more acts; some may have been typed"
+            with mock.patch.object(FolderSession, "runs", return_value=runs):
+                if told is None:
+                    self.assertEqual(sending.send(session, ["char 61"]), 0)
+                    continue
+                with self.assertRaisesRegex(Fault, f"^{words}$"):
+                    sending.send(session, ["char 61"])
+        self.opens.side_effect = Fault("no more terminals are taken: 16 are there")
         with self.assertRaisesRegex(Fault, "^no more terminals are taken: 16 are there$"):
-            sending.send(self.session(), ["char 61"])
-        self.link.comes.return_value, self.link.part.return_value = False, False
-        with self.assertRaisesRegex(Fault, "^session main takes no more acts; some may have been typed$"):
             sending.send(self.session(), ["char 61"])
 
 
 class Captures(Based):
     """The rows that a session shows."""
 
-    PAINT = b"\x1b[?25l\x1b[2J\x1b[1;1Hab  c \x1b[3;2H\xe4\xb8\xadx\x1b[1;1H\x1b[?25h"
+    SCREEN = "3 6 1 1 visible\na\x1fb\x1f \x1f \x1fc\x1f \n \x1f \x1f \x1f \x1f \x1f \n \x1f\u4e2d\x1f\x1fx\x1f \x1f \n".encode()
 
-    def test_rows(self):
-        """Without the spaces at their ends, and wide characters in their columns."""
-        self.assertEqual(captures.rows_of(captures.shown_by(self.PAINT)), ["ab  c", "", " \u4e2dx"])
-        cells = PaintedCells()
-        cells.fed("\x1b[2;3H\u4e2d\x1b[2;6Hb")
-        self.assertEqual(captures.rows_of(cells), ["", "  \u4e2d b"])
-
-    def test_paints(self):
-        """A screen is waited for five seconds, then until nothing comes for 0.2 s, a second at most, and only whole paints are taken."""
+    def setUp(self):
+        super().setUp()
         self.stop_clock()
-        asked, pieces = [], [b"\x1bc", self.PAINT, None]
+        self.opens = self.patch_of(captures, "opened")
+        self.link = self.opens.return_value = StartLink(self.folder / "terminals", True)
+        self.link.peer, self.start = self.pair()
+        self.link.has_come = self.link.records.begun = True
 
-        def waits(source, seconds):
-            asked.append(round(seconds, 3))
-            self.now += 1 if len(asked) < 3 else 0.2
-            return bool(pieces[0])
-
-        with mock.patch.object(captures, "comes", waits), mock.patch.object(captures, "read", lambda _: pieces.pop(0)):
-            self.assertEqual(captures.paints(5), b"\x1bc" + self.PAINT)
-        self.assertEqual(asked, [5.0, 4.0, 0.2])
-
-    def test_busy(self):
-        """Of one that paints without an end what is whole is taken after a second."""
-        self.stop_clock()
-
-        def waits(source, seconds):
-            self.now += 0.15
-            return True
-
-        with mock.patch.object(captures, "comes", waits), mock.patch.object(captures, "read", lambda _: self.PAINT):
-            text = captures.paints(5)
-        self.assertTrue(self.PAINT * 5 == text[: len(self.PAINT) * 5] and len(text) % len(self.PAINT) == 0)
-        self.assertTrue(101.0 <= self.now < 101.31)
-
-    def test_ended(self):
-        self.patch_of(captures, "comes", return_value=True)
-        with mock.patch.object(captures, "read", return_value=b""):
-            self.assertEqual(captures.paints(5), b"")
-
-    def capture(self, text, is_drawn=False):
-        """What capture does with a painting."""
-        with mock.patch.object(captures, "StartLink") as link, mock.patch.object(captures, "paints", return_value=text):
-            status = captures.capture(self.session(), is_drawn)
-        self.assertEqual((link.call_args[0], link.return_value.close.call_count), ((self.folder / "terminals", True), 1))
-        return status
+    def capture(self, told, is_drawn=False):
+        """What capture does where a start tells this."""
+        self.start.send(told)
+        return captures.capture(self.session(), is_drawn)
 
     def test_printed(self):
+        """Without the spaces at their ends, and wide characters in their columns."""
+        told = record("paint", data=b"x" * 100) + record("screen", data=self.SCREEN)
         with mock.patch("sys.stdout") as printed:
-            self.assertEqual(self.capture(self.PAINT), 0)
+            self.assertEqual(self.capture(told), 0)
         printed.buffer.write.assert_called_once_with("ab  c\n\n \u4e2dx\n".encode())
-        with mock.patch.object(captures.subprocess, "run", return_value=mock.Mock(returncode=3)) as runs:
-            self.assertEqual(self.capture(self.PAINT, True), 3)
-        self.assertEqual((runs.call_args[0][0], runs.call_args[1]["input"]), ([str(captures.TOOLS / "picture")], self.PAINT))
+        self.assertEqual((read_now(self.start), self.link.peer, self.opens.call_args[0][1]), (b"look\n", None, True))
 
-    def test_nothing(self):
-        for text, told in ((b"", "^no more terminals are taken: 16 are there$"), (b"\x1bc", "^session main showed nothing: it is busy$")):
-            painted = mock.patch.object(captures, "paints", return_value=text)
-            with mock.patch.object(captures, "StartLink"), painted, self.assertRaisesRegex(Fault, told):
+    def test_decomposed(self):
+        """What of a character stands in its cell comes whole, as the parts of a Hangul syllable."""
+        syllable = "\u1112\u1161\u11ab"
+        with mock.patch("sys.stdout") as printed:
+            self.capture(record("screen", data=f"1 4 1 1 visible\n{syllable}\x1f\x1fx\x1f \n".encode()))
+        printed.buffer.write.assert_called_once_with(f"{syllable}x\n".encode())
+
+    def test_drawn(self):
+        with mock.patch.object(captures.subprocess, "run", return_value=mock.Mock(returncode=3)) as runs:
+            self.assertEqual(self.capture(record("screen", data=self.SCREEN), True), 3)
+        self.assertEqual((runs.call_args[0][0], runs.call_args[1]["input"]), ([str(captures.TOOLS / "picture")], self.SCREEN))
+        self.assertEqual(read_now(self.start), b"look sgr\n")
+
+    def test_none(self):
+        with self.assertRaisesRegex(Fault, "^the client start tells no screen: "):
+            self.capture(record("screen", data=b"x"))
+
+    def test_early(self):
+        """A start that hasn't heard of the session tells a blank screen, and is asked again, for five seconds at most."""
+        blank = record("screen", data=b"1 4 1 1 visible\n \x1f \x1f \x1f \n")
+        told = [blank, blank, record("screen", data=self.SCREEN)]
+
+        def ready(link, events, seconds):
+            if events & WRITE:
+                self.start.send(told.pop(0))
+                return READ | WRITE
+            self.pass_time(seconds)
+            return 0
+
+        with mock.patch("sys.stdout") as printed, mock.patch("roam_live.links.ready", ready):
+            captures.capture(self.session(), False)
+            printed.buffer.write.assert_called_once_with("ab  c\n\n \u4e2dx\n".encode())
+            self.assertEqual((round(self.now, 3), read_now(self.start)), (100.04, b"look\n" * 3))
+            self.link.peer, self.start = self.pair()
+            told += [blank] * 1000
+            captures.capture(self.session(), False)
+            self.assertTrue(105 <= self.now < 105.1, self.now)
+            printed.buffer.write.assert_called_with(b"\n")
+
+    def test_ended(self):
+        """Why none comes is told, as that nothing comes in five seconds."""
+        self.start.send(record("refused", 3, words="bad act"))
+        self.start.close()
+        with self.assertRaisesRegex(Fault, "^the client start refused a line: bad act$"):
+            captures.capture(self.session(), False)
+        self.link.peer, self.start = self.pair()
+        self.link.forget()
+        with mock.patch("roam_live.links.ready", lambda *_: self.pass_time(1) or 0):
+            with self.assertRaisesRegex(Fault, "^the client start tells nothing$"):
                 captures.capture(self.session(), False)
+        self.assertEqual(self.now, 105.0)
+        self.assertIsNone(self.link.peer)
 
 
 class Carried(Case):

@@ -1,4 +1,4 @@
-"""The outer terminal: its modes and names, what of the painter's text reaches it, and the size of what was painted."""
+"""The outer terminal: its modes, sizes and names, and what is written there."""
 import contextlib
 import errno
 import fcntl
@@ -13,22 +13,9 @@ from unittest import mock
 from aids import Case
 from roam_live import terminal
 
-NOTICE = b"\x1b7\x1b[999;1H\x1b[0;7mroam: no answer\x1b[0m\x1b8"
-SCREEN = b"\x1b[2J\x1b[1;1H\x1b[0m\xc3\xa9\xc3\xa9xy\x1b[0m\x1b[24;1H\x1b[0;7m[1]" + b" " * 77 + b"\x1b[1;1H"
-
 
 class Resets(Case):
     """What stands for a reset."""
-
-    def test_cut(self):
-        """A reset is replaced, wherever it is cut, and an escape at the end is held back."""
-        text = b"\x1bc\x1b[?25l\x1b[1;1Hab\x1bc\x1b[2;3Hcd\x1b"
-        wanted = text[:-1].replace(b"\x1bc", terminal.CLEARED)
-        for cut in range(len(text) + 1):
-            first, held = terminal.without_reset(b"", text[:cut])
-            second, held = terminal.without_reset(held, text[cut:])
-            self.assertEqual((first + second, held), (wanted, b"\x1b"), cut)
-        self.assertEqual(terminal.without_reset(b"\x1b", b"[1m"), (b"\x1b[1m", b""))
 
     def test_erases(self):
         """It has no reset, which would erase what scrolled off a person's own screen, and ends with all erased and the cursor at home."""
@@ -44,62 +31,7 @@ class Resets(Case):
 
 
 class Sizes(Case):
-    """The size of a session by what was painted."""
-
-    def test_cut(self):
-        """It is known wherever the painting is cut, and what tells of a silent server changes nothing."""
-        text = SCREEN + NOTICE
-        for cut in range(len(text) + 1):
-            extent = terminal.PaintedSize()
-            erased = [extent.fed(text[:cut]), extent.fed(text[cut:])]
-            self.assertEqual((extent.size, any(erased)), ((24, 80), True), cut)
-        extent = terminal.PaintedSize()
-        for byte in text:
-            extent.fed(bytes([byte]))
-        self.assertEqual(extent.size, (24, 80))
-
-    def test_between(self):
-        """Whether a piece ends between sequences and characters."""
-        for text, is_between in ((b"", True), (b"ab", True), (b"\x1b", False), (b"\x1b[", False), (b"\x1b[1", False), (b"\x1b[1m", True),
-                                 (b"\xc3", False), (b"\xc3\xa9", True), (b"\xe2\x82", False), (b"\xe2\x82\xac", True), (b"\x1b8", True),
-                                 (b"\xf0\x9f\x98", False), (b"xx\xf0\x9f\x98\x80", True)):
-            extent = terminal.PaintedSize()
-            extent.fed(text)
-            self.assertEqual(extent.is_between(), is_between, text)
-
-    def test_erased(self):
-        """What is erased is known anew, by either function."""
-        for erases in (b"\x1bc", b"\x1b[2J"):
-            extent = terminal.PaintedSize()
-            extent.fed(SCREEN)
-            self.assertTrue(extent.fed(erases))
-            self.assertEqual(extent.size, (0, 0))
-            self.assertFalse(extent.fed(b"\x1b[10;1H\x1b[0;7m" + b" " * 40))
-            self.assertEqual(extent.size, (10, 40))
-
-    def test_lowest(self):
-        """It is the lowest row that counts, from the column at which something is written."""
-        extent = terminal.PaintedSize()
-        extent.fed(b"\x1b[2J\x1b[5;1Hxxxx\x1b[4;1H" + b"y" * 70 + b"\x1b[5;30Hzz")
-        self.assertEqual(extent.size, (5, 31))
-        extent.fed(b"\x1b[200;1Hab")
-        self.assertEqual(extent.size, (200, 2))
-        extent.fed(b"\x1b[201;1Habc")
-        self.assertEqual(extent.size, (200, 2))
-
-    def test_wide(self):
-        """Behind other characters than ASCII the column isn't known, until the cursor is placed anew."""
-        extent = terminal.PaintedSize()
-        extent.fed("\x1b[2J\x1b[3;1H\u4e2d\u4e2dxx".encode())
-        self.assertEqual(extent.size, (3, 0))
-        extent.fed(b"more\x1b[3;9Hend")
-        self.assertEqual(extent.size, (3, 11))
-
-    def test_fits(self):
-        extent = terminal.PaintedSize()
-        extent.fed(SCREEN)
-        found = [extent.fits(size) for size in ((24, 80), (25, 81), (23, 80), (24, 79), (200, 500))]
-        self.assertEqual(found, [True, True, False, False, True])
+    """The sizes that a session may have, and a terminal that shows a part of it."""
 
     def test_limits(self):
         """A session has 4 to 200 rows and 8 to 500 columns."""
@@ -108,7 +40,7 @@ class Sizes(Case):
         self.assertEqual(terminal.largest((300, 600)), (200, 500))
         self.assertEqual(terminal.largest((24, 80)), (24, 80))
         self.assertEqual(terminal.size_act((300, 80)), "size 200 80")
-        self.assertEqual((terminal.LEAST, terminal.MOST), ((4, 8), (200, 500)))
+        self.assertEqual((terminal.LEAST, terminal.MOST, terminal.LEAST_SHOWN), ((4, 8), (200, 500), (3, 4)))
 
 
 class Modes(Case):

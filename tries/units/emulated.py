@@ -6,7 +6,8 @@ It knows what roam's painter, its front ends, shells and line editors use. Wheth
 import codecs
 import re
 
-from roam_live.cells import BOXES, PaintedCells, Style, styled, width_of
+from painted import BOXES, PaintedCells, width_of
+from roam_live.cells import Style, styled
 
 # A control sequence with its mark, numbers, intermediates and final byte; an escape with intermediates and its final byte; a control
 # string; a control character; and characters.

@@ -1,0 +1,172 @@
+"""Terminals of other sizes than the session, what a pane shows that looks like the front end's words, and what is captured of it."""
+import os
+import signal
+import subprocess
+import time
+
+from tried import Outer, check, comes, is_part_of, listed, said, scene, told_cells, tool
+from roam_live.program import is_listened, program
+
+# What a program paints, row by row with pauses: wide characters stand at every place of a row in turn.
+PAINTS = ("i=0; while [ $i -lt 60 ]; do i=$((i+1)); "
+          r"printf '\033[3%dm%*s\344\270\255\344\270\255\033[0m%d\n' $((i%7)) $((i%40)) '' $i; sleep 0.02; done")
+
+FITS = "C-b r fits"
+
+# A Hangul syllable as its parts, and in one.
+PARTS, SYLLABLE = "\u1112\u1161\u11ab", "\ud55c"
+
+
+@scene
+def looks_told(folder):
+    """A pane that prints what the front end says of a silence has it as it is, in its style, and what follows it where it stands."""
+    outer = Outer(tool("mux", "other"))
+    outer.shows("$ ")
+    outer.type(b"clear; printf '\\033[5;1Hthe row as it was before\\033[5;1H\\033[1mroam: no answer for 5 s\\033[0m|\\n'\r")
+    check("the words come as they are", outer.shows("roam: no answer for 5 s|"), outer.rows)
+    cells = outer.cells().cells
+    found = "".join(cells[5, col][0] for col in range(1, 25))
+    is_bold = all(cells[5, col][1].flags == {"bold"} for col in range(1, 24)) and not cells[5, 24][1].flags
+    check("in bold, and nothing behind them is shifted", found == "roam: no answer for 5 s|" and is_bold, cells)
+    check("the terminal shows the session's cells", comes(lambda: is_part_of(outer, told_cells("other"))), outer.rows)
+    subprocess.run(tool("mux", "kill", "-f", "other"), check=True)
+
+
+@scene
+def hangul(folder):
+    """What is captured of a Hangul syllable that stands as its parts is all of them."""
+    outer = Outer(tool("mux", "other"))
+    outer.shows("$ ")
+    path = folder / "letters"
+    path.write_text(f"{PARTS}{PARTS}|\n{SYLLABLE}|\ne\u0301\u4e2d|\n", encoding="utf-8")
+    outer.type(f"clear; cat {path}; echo do''ne\r".encode())
+    outer.shows("done")
+    told = said("capture", "other")
+    check("each part is captured", told[0] == 0 and told[1].split("\n")[:3] == [f"{PARTS}{PARTS}|", f"{SYLLABLE}|", "e\u0301\u4e2d|"], told)
+    subprocess.run(tool("mux", "kill", "-f", "other"), check=True)
+
+
+def are_right(outers, seconds=15.0):
+    """Whether each terminal comes to show a part of the session, cell by cell."""
+    return comes(lambda: all(is_part_of(outer, told_cells("other")) for outer in outers), seconds)
+
+
+@scene
+def two_sizes(folder):
+    """Terminals of 24 by 80, 50 by 200 and 12 by 40 on one session each show what they should, while a program paints and keys come."""
+    guesses = {"ROAM_GUESS": "always"}
+    first = Outer(tool("mux", "other"), (24, 80), guesses)
+    first.shows("$ ")
+    second = Outer(tool("mux", "attach", "other"), (50, 200), guesses)
+    second.shows("$ ")
+    check("the second shows all of a smaller session", are_right([first, second]), (first.rows(), second.rows()))
+    first.type(b"\x02%")
+    first.status(" 1 [2]")
+    second.type(PAINTS.encode() + b"\r\x021")
+    first.status("[1] 2 ")
+    first.type(b"echo ")
+    second.shows("$ echo ")
+    for letter, digit in zip("typedhere", "123456789"):
+        first.type(letter.encode())
+        second.type(digit.encode())
+        time.sleep(0.05)
+    check("keys of both, beside a program that paints", are_right([first, second]), (first.rows(), second.rows()))
+    row = first.rows()[0].partition("\u2502")[0]
+    found = ["".join(filter(kind, row.partition("echo ")[2].strip())) for kind in (str.isalpha, str.isdigit)]
+    check("all of them came, each terminal's in their order", found == ["typedhere", "123456789"], row)
+    small = Outer(tool("mux", "attach", "other"), (12, 40), guesses)
+    check("a small one shows a part", small.shows("echo ") and are_right([first, second, small]), small.rows)
+    small.type(b"\x022" + PAINTS.encode() + b"\r")
+    for letter in b"more":
+        small.type(bytes([letter]))
+        time.sleep(0.05)
+    check("which goes with the cursor", are_right([first, second, small]), (small.rows(), first.rows()))
+    for outer in (small, second):
+        outer.type(b"\x02d")
+        check("it leaves", outer.ends() and outer.is_restored(), outer.rows)
+    check("and the session has its size all the while", listed()[1:4] == ["24", "by", "80"] and are_right([first]), listed())
+    subprocess.run(tool("mux", "kill", "-f", "other"), check=True)
+
+
+@scene
+def small_and_back(folder):
+    """A session of 24 by 100 that is left, shown by 12 by 40 alone, and then by 24 by 100, has every row whole."""
+    outer = Outer(tool("mux", "other"), (24, 100))
+    outer.shows("$ ")
+    outer.type(b"clear; for i in 1 2 3 4 5 6 7 8 9; do printf '%080d %s\\n' $i ri''ght-$i; done; printf '%99s\\344\\270\\255\\n'\r")
+    outer.shows("right-9")
+    before = outer.rows()
+    outer.type(b"\x02d")
+    outer.ends()
+    small = Outer(tool("mux", "other"), (12, 40))
+    check("alone too it shows a part", small.status("[1]".ljust(30) + FITS) and are_right([small]), small.rows)
+    small.type(b"\x15")
+    small.resize(14, 36)
+    check("drawn otherwise it shows another", small.status("[1]".ljust(26) + FITS) and are_right([small]), small.rows)
+    check("and the session has its size", listed()[1:4] == ["24", "by", "100"], listed())
+    small.type(b"\x02d")
+    small.ends()
+    again = Outer(tool("mux", "other"), (24, 100))
+    check("back at the size that it had every row is whole", comes(lambda: again.rows() == before), again.rows)
+    again.type(b"\x02d")
+    again.ends()
+    subprocess.run(tool("mux", "kill", "-f", "other"), check=True)
+
+
+@scene
+def asked_small(folder):
+    """A password that is typed in a second pane while a part is shown: no key of it is painted."""
+    outer = Outer(tool("mux", "other"), (24, 100))
+    outer.shows("$ ")
+    outer.type(b"\x02%")
+    outer.status(" 1 [2]")
+    small = Outer(tool("mux", "attach", "other"), (12, 40), {"ROAM_GUESS": "always"})
+    small.shows("$ ")
+    small.type(b"echo ab\r")
+    small.shows("ab")
+    small.type(b"stty -echo; read secret; stty echo; echo do''ne $(printf %s \"$secret\" | wc -c)\r")
+    time.sleep(1)
+    before = len(small.written)
+    for letter in b"QXZKQXZKGW":
+        small.type(bytes([letter]))
+        time.sleep(0.05)
+    time.sleep(0.5)
+    painted = bytes(small.written[before:])
+    check("no key of it is painted", not any(letter in painted for letter in b"QXZKGW"), painted)
+    small.type(b"\r")
+    check("and all of it came", small.shows("done 10"), small.rows)
+    subprocess.run(tool("mux", "kill", "-f", "other"), check=True)
+
+
+@scene
+def whole_by_hand(folder):
+    """`attach` of a folder shows the whole with the session's own status row where it has room, and a part where it hasn't."""
+    own = folder / "own"
+    own.mkdir(mode=0o700)
+    server = subprocess.Popen([program(), "serve", "--dir", str(own)])
+    shells = subprocess.Popen(tool("pane_shells", "--server", str(server.pid), str(own)))
+    comes(lambda: is_listened(own / "clients"))
+    outer = Outer(tool("attach", str(own)))
+    check("the whole is shown", outer.shows("$ ") and outer.status("[1]"), outer.rows)
+    outer.type(b"seq 100\r\x02[\x1b[5~")
+    check("what is told stands over the status row", outer.status("12 rows back: "), outer.rows)
+    beside = Outer(tool("attach", str(own)))
+    check("which tells another terminal of the view", beside.status("[1] ^12"), beside.rows)
+    outer.type(b"q")
+    check("and comes back", outer.status("[1]     ") and beside.status("[1]     "), outer.rows)
+    os.kill(server.pid, signal.SIGSTOP)
+    check("a silence is told there", outer.status("roam: no answer for 1") and "C-b d leaves" in outer.rows()[-1], outer.rows)
+    os.kill(server.pid, signal.SIGCONT)
+    check("and goes", outer.status("[1]     ") and comes(lambda: outer.rows() == beside.rows()), outer.rows)
+    beside.resize(12, 40)
+    check("on a smaller terminal a part is shown, and the key", beside.status("[1]".ljust(30) + FITS) and beside.shows("100"), beside.rows)
+    outer.type(b"clear; stty size\r")
+    check("and the session has its size", outer.shows("23 80"), outer.rows)
+    beside.resize(24, 80)
+    check("at the size that it had it shows the whole", comes(lambda: beside.rows() == outer.rows()), beside.rows)
+    for one in (outer, beside):
+        one.type(b"\x02d")
+        check("it leaves", one.ends() and one.is_restored(), one.rows)
+    server.kill()
+    for process in (server, shells):
+        process.wait(20)

@@ -1,0 +1,101 @@
+"""The cells that a text shows: a painter's, which has CUP, SGR, ED 2, EL, DECTCEM, a reset and characters, and LF and RI at margins, with
+DECSC and DECRC round a front end's own line, or the rows that tmux captures. It knows widths by a table of its own, so it is for what is
+tried and no part of the tools."""
+from __future__ import annotations
+
+import re
+import unicodedata
+from collections.abc import Iterable
+
+from roam_live.cells import Style, styled
+
+MARKS = re.compile(r"\x1b\[(\d+)(?:;(\d+))?H|\x1b\[([\d;]*)m|(\x1b\[2J|\x1bc)|\x1b\[\?25([hl])|\x1b\[(?:(\d+);(\d+))?r|(\x1b\[K|\x1bM|\n)"
+                   r"|\x1b([78])|\x1b\[[0-?]*[@-~]|\x1b[=>]|([^\x1b])")
+# What erases the rest of a row; what scrolls up at the lower margin, and down at the upper one.
+EL, LF, RI = "\x1b[K", "\n", "\x1bM"
+
+# The signs for boxes, as a row of tmux has them between these.
+SHIFT_OUT, SHIFT_IN = "\x0e", "\x0f"
+BOXES = dict(zip("jklmnqtuvwxa", "\u2518\u2510\u250c\u2514\u253c\u2500\u251c\u2524\u2534\u252c\u2502\u2592"))
+
+
+class PaintedCells:
+    """What a painter's text shows: cells by row and column from 1, each a character and a style, and the cursor."""
+
+    def __init__(self) -> None:
+        self.cells: dict[tuple[int, int], tuple[str, Style]] = {}
+        self.style = Style()
+        self.row = self.col = 1
+        # The rows between the margins, where there are some.
+        self.band: tuple[int, int] | None = None
+        self.has_cursor = True
+        self.has_boxes = False
+        # What DECSC kept: a place and a style.
+        self.saved = 1, 1, self.style
+
+    def fed(self, text: str) -> None:
+        """Goes on with a painter's text."""
+        for mark in MARKS.finditer(text):
+            row, col, style, erased, cursor, top, bottom, other, saves, letter = mark.groups()
+            if row:
+                self.row, self.col = int(row), int(col or 1)
+            elif style is not None:
+                self.style = styled(self.style, [int(word or 0) for word in style.split(";")])
+            elif erased:
+                self.cells.clear()
+            elif cursor:
+                self.has_cursor = cursor == "h"
+            elif mark[0].endswith("r") and not letter:
+                self.row, self.col, self.band = 1, 1, (int(top), int(bottom)) if top else None
+            elif other:
+                self.acts(other)
+            elif saves == "7":
+                self.saved = self.row, self.col, self.style
+            elif saves:
+                self.row, self.col, self.style = self.saved
+            elif letter in (SHIFT_OUT, SHIFT_IN):
+                self.has_boxes = letter == SHIFT_OUT
+            elif letter:
+                self.write(BOXES.get(letter, letter) if self.has_boxes else letter)
+
+    def acts(self, other: str) -> None:
+        """Erases the rest of the row, or goes a row up or down, where the rows between the margins scroll at their edge."""
+        if other == EL:
+            self.cells = {(row, col): cell for (row, col), cell in self.cells.items() if row != self.row or col < self.col}
+            return
+        top, bottom = self.band or (0, 0)
+        by = 1 if other == LF else -1
+        if self.row != (bottom if by == 1 else top):
+            self.row = max(1, self.row + by)
+            return
+        gone = top if by == 1 else bottom
+        self.cells = {(row - by if top <= row <= bottom else row, col): cell for (row, col), cell in self.cells.items() if row != gone}
+
+    def write(self, letter: str) -> None:
+        """Writes a character; one without a width joins the one before."""
+        width = width_of(letter)
+        if width == 0:
+            place = (self.row, self.col - 1 if (self.row, self.col - 1) in self.cells else self.col - 2)
+            before, style = self.cells.get(place, (" ", self.style))
+            self.cells[place] = (before + letter, style)
+            return
+        if width == 2:
+            self.cells.pop((self.row, self.col + 1), None)
+        self.cells[(self.row, self.col)] = (letter, self.style)
+        self.col += width
+
+
+def cells_of_rows(rows: Iterable[str]) -> PaintedCells:
+    """The cells of rows as tmux captures them, a style of which goes on into the next."""
+    shown = PaintedCells()
+    for row, text in enumerate(rows, 1):
+        shown.row, shown.col = row, 1
+        shown.fed(text)
+    return shown
+
+
+def width_of(letter: str) -> int:
+    """How many columns a character takes."""
+    if unicodedata.category(letter) in ("Mn", "Me", "Cf"):
+        return 0
+    return 2 if unicodedata.east_asian_width(letter) in "WF" else 1

@@ -1,0 +1,151 @@
+"""Each use of `re` and each text with an escape in live/, with what it reads or writes. One that isn't in the table below is a fault, and
+so is one of the table that isn't there any more: nothing in live/ matches or searches what a client start paints, since what is painted is
+whatever a pane's program wrote.
+"""
+import ast
+import re
+
+from roam_live.program import TOOLS
+
+LIVE = TOOLS
+
+# What is read, or written, in words.
+TYPED = "reads what a person types"
+WRITES = "writes to the person's terminal, and reads nothing"
+PROGRAM = "reads what a pane's program writes, at the keeper of shells"
+LINES = "reads lines of a socket of the session's folder"
+NAMES = "reads names of sessions and hosts"
+WORDS = "reads what a program of this machine says"
+RELAY = "reads what the other end of a relay says"
+CELLS = "reads the SGR before a cell, in the record that answers `look sgr`"
+BEGIN = "the reset with which the start itself begins a record `anew`; another clearing is written for it"
+
+# Each use: the file, the name that it is assigned to or the function that it stands in, and whether it is of `re` or of an escape.
+KNOWN = {
+    ("roam_live/bells.py", "Bells.go_on", "ESC"): PROGRAM,
+    ("roam_live/bells.py", "Bells.rung", "ESC"): PROGRAM,
+    ("roam_live/bells.py", "ENDS", "re"): PROGRAM,
+    ("roam_live/bells.py", "KEYPAD", "re"): LINES,
+    ("roam_live/bells.py", "SAID", "re"): LINES,
+    ("roam_live/bells.py", "TOLD", "re"): LINES,
+    ("roam_live/bindings.py", "SCROLL_ENDS", "ESC"): TYPED,
+    ("roam_live/cells.py", "parted", "ESC"): CELLS,
+    ("roam_live/display.py", "Display.put_line", "ESC"): WRITES,
+    ("roam_live/display.py", "Display.take_painting", "RESET"): BEGIN,
+    ("roam_live/keypads.py", "ASKED", "re"): PROGRAM,
+    ("roam_live/keypads.py", "ASKED", "ESC"): PROGRAM,
+    ("roam_live/keypads.py", "Keypad.fed", "ESC"): PROGRAM,
+    ("roam_live/keys.py", "BEGUN", "re"): TYPED,
+    ("roam_live/keys.py", "BEGUN", "ESC"): TYPED,
+    ("roam_live/keys.py", "Keys.fed", "ESC"): TYPED,
+    ("roam_live/keys.py", "SPELLINGS", "ESC"): TYPED,
+    ("roam_live/keys.py", "WHOLE", "re"): TYPED,
+    ("roam_live/keys.py", "WHOLE", "ESC"): TYPED,
+    ("roam_live/places.py", "TOLD", "re"): LINES,
+    ("roam_live/relayed.py", "GREETING", "re"): RELAY,
+    ("roam_live/remote.py", "host_of", "re"): WORDS,
+    ("roam_live/remote.py", "near_session", "re"): NAMES,
+    ("roam_live/sending.py", "demand_acts", "re"): WORDS,
+    ("roam_live/sessions.py", "NAME", "re"): NAMES,
+    ("roam_live/sessions.py", "NEAR_NAME", "re"): NAMES,
+    ("roam_live/terminal.py", "CLEARED", "ESC"): WRITES,
+    ("roam_live/terminal.py", "ENTERED", "ESC"): WRITES,
+    ("roam_live/terminal.py", "KEYPAD", "ESC"): WRITES,
+    ("roam_live/terminal.py", "LEFT", "ESC"): WRITES,
+    ("roam_live/terminal.py", "RESET", "ESC"): BEGIN,
+    ("roam_live/terminal.py", "unwrapped", "ESC"): WRITES,
+    ("show_client", "", "ESC"): WRITES,
+}
+
+# How a shell script spells an escape; and what a module has in which there may be a use at all.
+SPELLED = re.compile(r"\\033|\\x1b|\\e\[|\$'\\E", re.IGNORECASE)
+MAY_USE = re.compile(r"\b(import|from) re\b|, re\b|RESET|\\(0?33|x1b|u001b|U0000001b|N\{)|\x1b", re.IGNORECASE)
+
+
+class Uses(ast.NodeVisitor):
+    """The uses in a module, each with what it is assigned to, or the function in which it stands."""
+
+    def __init__(self, file):
+        self.file, self.where, self.found = file, [], set()
+
+    def use(self, kind):
+        """Takes note of a use."""
+        self.found.add((self.file, ".".join(self.where), kind))
+
+    def within(self, name, node):
+        """Goes on below a node that has a name."""
+        self.where.append(name)
+        self.generic_visit(node)
+        self.where.pop()
+
+    def visit_FunctionDef(self, node):
+        self.within(node.name, node)
+
+    def visit_ClassDef(self, node):
+        self.within(node.name, node)
+
+    def visit_Assign(self, node):
+        target = node.targets[0]
+        if self.where or not isinstance(target, ast.Name):
+            self.generic_visit(node)
+        else:
+            self.within(target.id, node)
+
+    def visit_AnnAssign(self, node):
+        # What stands in a type alone reads nothing.
+        if node.value:
+            self.visit(node.value)
+
+    def visit_arg(self, node):
+        """Passes over a parameter's type."""
+
+    def visit_Attribute(self, node):
+        if isinstance(node.value, ast.Name) and node.value.id == "re" and node.attr[0].islower():
+            self.use("re")
+        if node.attr == "RESET":
+            self.use("RESET")
+        self.generic_visit(node)
+
+    def visit_ImportFrom(self, node):
+        # By other names a use wouldn't be seen.
+        if node.module == "re" or any(alias.name == "RESET" for alias in node.names):
+            self.use("re" if node.module == "re" else "RESET")
+
+    def visit_Import(self, node):
+        if any(alias.name == "re" and alias.asname for alias in node.names):
+            self.use("re")
+
+    def visit_Constant(self, node):
+        text = node.value
+        if isinstance(text, (str, bytes)) and (b"\x1b" if isinstance(text, bytes) else "\x1b") in text:
+            self.use("ESC")
+        elif isinstance(text, (str, bytes)) and (rb"\x1b" if isinstance(text, bytes) else r"\x1b") in text:
+            self.use("ESC")
+
+
+def uses_in(path):
+    """The uses in a file of live/."""
+    file, text = str(path.relative_to(LIVE)), path.read_text(encoding="utf-8")
+    if path.suffix == ".py" or text.startswith("#!/usr/bin/env python3"):
+        uses = Uses(file)
+        if MAY_USE.search(text):
+            uses.visit(ast.parse(text))
+        return uses.found
+    return {(file, "", "ESC")} if SPELLED.search(text) else set()
+
+
+def found_uses():
+    """All uses in live/."""
+    files = sorted(path for path in LIVE.rglob("*") if path.is_file() and "__pycache__" not in path.parts)
+    return set().union(*map(uses_in, files))
+
+
+def main():
+    """Prints all of them, and tells the status: 1 where there is a fault."""
+    found = found_uses()
+    for file, where, kind in sorted(found):
+        print(f"{file:24} {where:24} {kind:6} {KNOWN.get((file, where, kind), 'NOT LISTED')}")
+    gone = sorted(set(KNOWN) - found)
+    for use in gone:
+        print(f"listed, and not there any more: {' '.join(use)}")
+    return 1 if gone or found - set(KNOWN) else 0
