@@ -13,7 +13,7 @@ from roam_live.words import printable
 
 TYPE_CHECKING = False
 if TYPE_CHECKING:
-    from roam_live.told import Telling
+    from roam_live.told import ToldRecord
 
 # So many seconds a line stands in the last row.
 TOLD = 1.0
@@ -175,7 +175,7 @@ class Display:
 
     # ---- what is told
 
-    def take(self, record: Telling) -> None:
+    def take(self, record: ToldRecord) -> None:
         """Takes a record of what is shown here."""
         if record.word == "size":
             self.take_size((record.numbers[0], record.numbers[1]))
@@ -199,7 +199,7 @@ class Display:
         rows, cols = self.outer.size()
         return self.painted_size[0] <= rows - (self.asked is not None) and self.painted_size[1] <= cols
 
-    def take_painting(self, record: Telling) -> None:
+    def take_painting(self, record: ToldRecord) -> None:
         """Takes a painting: one that has no room, or comes before all is painted anew, doesn't reach the terminal, and no reset does."""
         is_anew = record.word == "anew"
         if self.asked is None:

@@ -19,7 +19,7 @@ TYPE_CHECKING = False
 if TYPE_CHECKING:
     from roam_live.any_session import AnySession
     from roam_live.places import Places
-    from roam_live.told import Telling
+    from roam_live.told import ToldRecord
 
 # So many bytes may wait for the terminal, and so many for the session, before what brings more is left alone.
 PAINTED_LIMIT = 1 << 16
@@ -190,7 +190,7 @@ class FrontEnd:
         for record in records:
             self.take(record)
 
-    def take(self, record: Telling) -> None:
+    def take(self, record: ToldRecord) -> None:
         """Takes a record: by the size of what is painted that of the session may be known, where nothing else tells it."""
         self.display.take(record)
         if record.word == "size" and not self.commands.is_fitted and "size" not in self.loop.due:

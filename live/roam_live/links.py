@@ -14,7 +14,7 @@ TYPE_CHECKING = False
 if TYPE_CHECKING:
     from roam_live.any_session import AnySession
     from roam_live.sessions import FolderSession
-    from roam_live.told import Telling
+    from roam_live.told import ToldRecord
 
 # The pauses before a start is spawned anew; a connection that lasted so long had no fault at its start.
 PAUSES = (0.1, 1, 2, 4, 8, 15)
@@ -126,7 +126,7 @@ class StartLink:
         self.given -= whole
         return True
 
-    def told(self) -> list[Telling] | None:
+    def told(self) -> list[ToldRecord] | None:
         """The records that came; None where the connection has ended, or tells what is no record."""
         piece = read(self.end().fileno())
         self.has_come = self.has_come or bool(piece)
@@ -141,7 +141,7 @@ class StartLink:
             self.note(record)
         return records
 
-    def note(self, record: Telling) -> None:
+    def note(self, record: ToldRecord) -> None:
         """Takes note of what a record tells of the connection."""
         if record.word == "taken":
             self.taken = record.numbers[0]
@@ -150,7 +150,7 @@ class StartLink:
         elif record.word == "refused":
             self.refusal = record.words
 
-    def exchanged(self, seconds: float = 0.1) -> list[Telling] | None:
+    def exchanged(self, seconds: float = 0.1) -> list[ToldRecord] | None:
         """Waits so many seconds at most, gives what is taken, and tells the records that came; None where the connection has ended: what
         was told before that is read first."""
         events = ready(self.end(), READ | WRITE if self.waiting else READ, seconds)

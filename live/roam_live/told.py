@@ -20,7 +20,7 @@ class NoRecord(Exception):
     """What came is no record: whoever is at the other end isn't a start of this version."""
 
 
-class Telling(namedtuple("Telling", "word numbers data words", defaults=((), b"", ""))):
+class ToldRecord(namedtuple("ToldRecord", "word numbers data words", defaults=((), b"", ""))):
     """A record: its word, its numbers, and the bytes behind it or the words in its line."""
 
     word: str
@@ -36,7 +36,7 @@ def number_of(text: str) -> int:
     return int(text)
 
 
-def line_of(line: bytes) -> Telling:
+def line_of(line: bytes) -> ToldRecord:
     """The record of a line, without the bytes that stand behind it."""
     try:
         word, *rest = line.decode("utf-8").split(" ")
@@ -50,7 +50,7 @@ def line_of(line: bytes) -> Telling:
     numbers = tuple(number_of(text) for text in rest[:count])
     if word in CARRYING and numbers[0] > MOST_BYTES:
         raise NoRecord(f"{word} of {numbers[0]} bytes")
-    return Telling(word, numbers, b"", " ".join(rest[count:]))
+    return ToldRecord(word, numbers, b"", " ".join(rest[count:]))
 
 
 class Records:
@@ -60,19 +60,19 @@ class Records:
         self.kept = bytearray()
         self.begun = False
         # The record whose bytes aren't there yet.
-        self.waiting: Telling | None = None
+        self.waiting: ToldRecord | None = None
 
-    def came(self, piece: bytes) -> list[Telling]:
+    def came(self, piece: bytes) -> list[ToldRecord]:
         """The records that these bytes end. What was painted before the first one is dropped."""
         self.kept += piece
-        found: list[Telling] = []
+        found: list[ToldRecord] = []
         if not self.begun and not self._begins(found):
             return found
         while (record := self._next()) is not None:
             found.append(record)
         return found
 
-    def _begins(self, found: list[Telling]) -> bool:
+    def _begins(self, found: list[ToldRecord]) -> bool:
         """Whether records have begun; a start without room says so and nothing else."""
         place = self.kept.find(BEGIN)
         if place >= 0:
@@ -80,12 +80,12 @@ class Records:
             self.begun = True
             return True
         if self.kept == FULL:
-            found.append(Telling("full"))
+            found.append(ToldRecord("full"))
         if len(self.kept) > len(FULL):
             del self.kept[:-len(BEGIN)]
         return False
 
-    def _next(self) -> Telling | None:
+    def _next(self) -> ToldRecord | None:
         """The next record that is there whole."""
         record = self.waiting or self._line()
         if record is None or record.word not in CARRYING:
@@ -99,7 +99,7 @@ class Records:
         del self.kept[:count]
         return record._replace(data=data)
 
-    def _line(self) -> Telling | None:
+    def _line(self) -> ToldRecord | None:
         """The record of the line that stands first, where one does whole."""
         end = self.kept.find(b"\n", 0, LONGEST_LINE)
         if end < 0:

@@ -17,7 +17,7 @@ from roam_live.display import Display, wrapped
 from roam_live.loops import Loop
 from roam_live.program import noted_front_end
 from roam_live.places import Places, Rect
-from roam_live.told import Telling
+from roam_live.told import ToldRecord
 
 FITS = "C-b r fits"
 
@@ -145,8 +145,8 @@ class Person:
     def paints(self, rows, cols, text="x", word="anew"):
         """Has so many rows and columns be painted."""
         data = painting(rows, cols, text)
-        self.display.take(Telling("size", (rows, cols)))
-        self.display.take(Telling(word, (len(data),), data))
+        self.display.take(ToldRecord("size", (rows, cols)))
+        self.display.take(ToldRecord(word, (len(data),), data))
 
     def answers(self, text="x"):
         """Has the session paint what the front end asked for since it was looked at last."""
@@ -407,17 +407,17 @@ class Parts(unittest.TestCase):
             for size in ((14, 60), (14, 100), (24, 60), (23, 100), (24, 99), (14, 120), (30, 60)):
                 person = Person(12, 40, told=places(24, 100))
                 person.answers()
-                person.display.take(Telling("part", place))
+                person.display.take(ToldRecord("part", place))
                 person.tell(places(*size))
                 self.assertEqual(person.said(), ["part 11 40"], (place, size))
-        person.display.take(Telling("part", (0, 0)))
+        person.display.take(ToldRecord("part", (0, 0)))
         person.tell(places(13, 50))
         self.assertEqual(person.said(), [])
         # One that is larger now, or has its size, goes on as it was.
         for size in ((24, 100), (24, 101), (25, 100), (60, 200)):
             person = Person(12, 40, told=places(24, 100))
             person.answers()
-            person.display.take(Telling("part", (12, 50)))
+            person.display.take(ToldRecord("part", (12, 50)))
             person.tell(places(*size))
             self.assertEqual(person.said(), [], size)
         # A start that is connected to anew knows nothing of where it began.
@@ -449,7 +449,7 @@ class Parts(unittest.TestCase):
             self.assertEqual(person.said(), ["part 11 40"])
             person.paints(11, 40, "part")
             self.assertEqual(person.shown()[:11], ["part"] * 11)
-            person.display.take(Telling("part", (3, 0)))
+            person.display.take(ToldRecord("part", (3, 0)))
             person.resize(24, 80)
             self.assertEqual(person.said(), ["whole"])
             person.paints(24, 80, "all")
@@ -463,7 +463,7 @@ class Parts(unittest.TestCase):
         person.paints(11, 40)
         person.resize(30, 100)
         self.assertEqual(person.said(), ["whole"])
-        person.display.take(Telling("anew", (1,), painting(11, 40, "all")))
+        person.display.take(ToldRecord("anew", (1,), painting(11, 40, "all")))
         self.assertEqual((person.display.whole_size, person.shown()[:11]), ((11, 40), ["all"] * 11))
 
     def test_told_later(self):
@@ -484,19 +484,19 @@ class Parts(unittest.TestCase):
         """What was painted before the part that was asked for is dropped, and so are changes until all is painted anew."""
         person = Person(24, 80, told=places(24, 80))
         person.paints(24, 80, "whole")
-        person.display.take(Telling("size", (23, 80)))
-        person.display.take(Telling("paint", (1,), b"change"))
+        person.display.take(ToldRecord("size", (23, 80)))
+        person.display.take(ToldRecord("paint", (1,), b"change"))
         self.assertEqual(person.shown()[:23], [""] * 23)
         person.paints(23, 80, "anew")
-        person.display.take(Telling("paint", (1,), b"\x1b[2;1Hmore"))
+        person.display.take(ToldRecord("paint", (1,), b"\x1b[2;1Hmore"))
         self.assertEqual(person.shown(), ["anew", "more", *["anew"] * 21, "[1]"])
 
     def test_size_within(self):
         """A painting of another size that isn't anew may erase the last row, whose line is written behind it."""
         person = Person(24, 80, told=places(24, 80))
         person.answers()
-        person.display.take(Telling("size", (20, 60)))
-        person.display.take(Telling("paint", (1,), b"\x1b[2J"))
+        person.display.take(ToldRecord("size", (20, 60)))
+        person.display.take(ToldRecord("paint", (1,), b"\x1b[2J"))
         self.assertEqual(person.shown(), [""] * 23 + ["[1]"])
 
     def test_drawn(self):
@@ -505,7 +505,7 @@ class Parts(unittest.TestCase):
         person.answers()
         person.display.outer.cols = 90
         person.display.resized()
-        person.display.take(Telling("paint", (1,), b"still"))
+        person.display.take(ToldRecord("paint", (1,), b"still"))
         self.assertTrue(b"still" in person.display.outer.waiting and not person.display.is_stale)
         person.loop.due.clear()
         person.display.outer.cols = 80
@@ -513,7 +513,7 @@ class Parts(unittest.TestCase):
             person.display.outer.rows = rows
             person.display.resized()
         before = len(person.display.outer.waiting)
-        person.display.take(Telling("paint", (1,), b"x"))
+        person.display.take(ToldRecord("paint", (1,), b"x"))
         self.assertEqual((person.said(), len(person.display.outer.waiting), "paint" in person.loop.due), ([], before, True))
         person.loop.due.pop("paint")[1]()
         self.assertEqual(person.said(), ["part 10 80"])
@@ -666,7 +666,7 @@ class Lines(Case):
         person.answers()
         before = len(person.display.outer.waiting)
         person.tell(places(24, 80)._replace(starts=2))
-        person.display.take(Telling("paint", (1,), b"x"))
+        person.display.take(ToldRecord("paint", (1,), b"x"))
         self.assertEqual(len(person.display.outer.waiting), before + 1)
 
     def test_silent(self):
@@ -674,19 +674,19 @@ class Lines(Case):
         person = Person(24, 80, told=places(24, 80))
         person.answers("here")
         for seconds in (10, 11):
-            person.display.take(Telling("silent", (seconds,)))
+            person.display.take(ToldRecord("silent", (seconds,)))
             self.assertEqual(person.shown(), ["here"] * 23 + [f"roam: no answer for {seconds} s; C-b d leaves"])
-        person.display.take(Telling("heard"))
+        person.display.take(ToldRecord("heard"))
         self.assertEqual((person.shown(), person.said()), (["here"] * 23 + ["[1]"], []))
 
     def test_silent_whole(self):
         """Over a session's own status row it is written behind each painting, and all is painted anew then."""
         person = Person(24, 80)
         person.paints(24, 80, "here")
-        person.display.take(Telling("silent", (10,)))
-        person.display.take(Telling("paint", (1,), b"\x1b[24;1Hrow"))
+        person.display.take(ToldRecord("silent", (10,)))
+        person.display.take(ToldRecord("paint", (1,), b"\x1b[24;1Hrow"))
         self.assertEqual(person.shown()[22:], ["here", "roam: no answer for 10 s; C-b d leaves"])
-        person.display.take(Telling("heard"))
+        person.display.take(ToldRecord("heard"))
         self.assertEqual(person.said(), ["repaint"])
 
     def test_silent_and_told(self):
@@ -694,12 +694,12 @@ class Lines(Case):
         person = Person(24, 80, told=places(24, 80))
         person.answers()
         person.display.tell("told", 1.0)
-        person.display.take(Telling("silent", (10,)))
+        person.display.take(ToldRecord("silent", (10,)))
         self.assertEqual(person.shown()[23], "told")
         person.display.end_told()
         self.assertTrue(person.shown()[23].startswith("roam: no answer for 10 s"))
         person.display.show("help")
-        person.display.take(Telling("silent", (12,)))
+        person.display.take(ToldRecord("silent", (12,)))
         self.assertEqual(person.shown()[:1], ["help"])
         person.display.uncover()
         person.answers()
@@ -713,7 +713,7 @@ class Lines(Case):
                 person = Person(24, 80, told=places(24, 80))
                 person.answers()
                 before = len(person.display.outer.waiting)
-                person.display.take(Telling("paint", (len(text),), text))
+                person.display.take(ToldRecord("paint", (len(text),), text))
                 self.assertEqual(person.display.outer.waiting[before:], text)
 
 

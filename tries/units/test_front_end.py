@@ -10,7 +10,7 @@ from roam_live import display, front_end, terminal
 from roam_live.front_end import FrontEnd
 from roam_live.program import Fault, begun
 from roam_live.places import Places, Rect
-from roam_live.told import Telling
+from roam_live.told import ToldRecord
 from test_display import Person, PlayedPanes, painting, places
 
 PANES = Places({1: Rect(1, 1, 23, 39), 2: Rect(1, 41, 11, 40), 3: Rect(13, 41, 11, 40)}, 1, 1)
@@ -678,15 +678,15 @@ class Painted(Case):
         """What a terminal is written of a painting is all of it, but for its reset."""
         person = self.person()
         text = painting(4, 20, "\u00e9")
-        person.display.take(Telling("size", (4, 20)))
-        person.display.take(Telling("anew", (len(text),), text))
+        person.display.take(ToldRecord("size", (4, 20)))
+        person.display.take(ToldRecord("anew", (len(text),), text))
         written = bytes(person.display.outer.waiting)
         self.assertTrue(written.startswith(text.replace(b"\x1bc", terminal.CLEARED)))
         self.assertEqual(written[len(text) - 2 + len(terminal.CLEARED) :],
                          b"\x1b7\x1b[?7l\x1b[5;1H\x1b[0;7m" + b"[1]".ljust(20) + b"\x1b[0m\x1b[?7h\x1b8")
         person.display.outer.waiting.clear()
         for text in (painting(4, 20, "z"), b"\x1b", b"\x1b[", b"\xc3"):
-            person.display.take(Telling("paint", (len(text),), text))
+            person.display.take(ToldRecord("paint", (len(text),), text))
             self.assertEqual(person.display.outer.waiting, text)
             person.display.outer.waiting.clear()
 
@@ -771,7 +771,7 @@ class Painted(Case):
         person.display.resized()
         person.display.outer.enter_again.assert_called_once_with()
         before = len(person.display.outer.waiting)
-        person.display.take(Telling("paint", (1,), b"x"))
+        person.display.take(ToldRecord("paint", (1,), b"x"))
         self.now += 0.05
         person.loop.do_due()
         self.assertEqual((person.said(), len(person.display.outer.waiting)), (["repaint"], before))
