@@ -2,7 +2,7 @@
 //!
 //! What happens is text: `first` or `second`, a pane's program, and what it does; `turns MOMENT`, one turn of each end; `types MOMENT ACT,
 //! ACT`: both are typed, and the server takes them in one turn; `pane N`, which is there; `meets`: within a thousand turns the start shows
-//! the `a` that the first program wrote, and that one reads a typed `b`; `closes`: thirty times a second pane is split off, and closed for
+//! the `a` that the first program wrote, and that one reads a typed `b`; `closes`: forty times a second pane is split off, and closed for
 //! the first program, which follows the panes.
 ghost use Rattle.std.specs.Prelude.{◌<◌, IfOk, IfSome};
 ghost use Rattle.roam_acts.specs.Acts.{IsInRange};
@@ -191,7 +191,8 @@ impl<'a> Meeting<'a> {
         ensures behind { IsBehind self.new.start.outer self.new.start.client.kept.receiver.newest.number
             self.new.start.client.kept.receiver.newest.state }
     {
-        for turn in 0..30u64 {
+        // Two acts each, more than the 64 that may be unacknowledged.
+        for turn in 0..40u64 {
             if !self.closes_one(alloc, programs, turn * 40) {
                 return false;
             }
