@@ -1,5 +1,5 @@
 """What a client start tells over the stream of a terminal that asked for it by the line `told`: records, a line each, and for some so many
-bytes behind it (docs/PROTOCOL.md, "What a front end is told")."""
+bytes behind it (roam(1), RECORDS)."""
 from __future__ import annotations
 
 from collections import namedtuple
