@@ -1,5 +1,5 @@
 -- What is read of a stream and written to it, piece after piece.
-use Rattle.std.proofs.Common.{◌≡◌, ℕ, ◌+◌, Bool, true, false, List, [], ◌∷◌, ◌++◌, length, ◌≤◌, take, drop, Option, Some, None, inl, inr, sym, ap, ◌∙◌, refl, append_assoc, append-nil, subst, arith, rules}
+use Rattle.std.proofs.Common.{◌≡◌, ℕ, ◌+◌, Bool, true, false, List, [], ◌∷◌, ◌++◌, length, ◌<◌, ◌≤◌, take, drop, Option, Some, None, inl, inr, sym, ap, ◌∙◌, refl, append_assoc, append-nil, subst, arith, rules}
 use Rattle.std.specs.Prelude.{◌⊎◌, IsErr, IsOk, Ok, Err}
 use Rattle.std.proofs.KnownBytes.{Appends-kept, Appends-nil, Appends-trans, Consumes-nil, Consumes-trans}
 use Rattle.std.proofs.lemmas.List.{drop-drop, drop-take, take-append-drop}
@@ -145,12 +145,15 @@ asks_more Ends before mid after was had is p q = record {
 
 -- ---- until no more comes
 
+one_more : (k n : ℕ) → k < n → k + 1 ≤ n
+one_more k n lt = omega arith
+
 -- so many bytes are more than a datagram and its length
 pub long_is_no_part : (kept : List ℕ) → 1244 ≤ length kept → front_of kept ≡ Part → ⊥
 long_is_no_part kept long part = grind (arith, nat_tests)
 
-pub all_read_more : (over : Bool) (kept : List ℕ) (before mid after : Option (List Answer)) (first : List Answer)
-    → Answered before mid first → HasReadAll over kept mid after → HasReadAll over kept before after
+pub all_read_more : (over : Bool) (kept : List ℕ) (before mid after : Option (List Answer)) (first : List Answer) → Answered before mid first
+    → HasReadAll over kept mid after → HasReadAll over kept before after
 all_read_more over kept before mid after first p stopped = elim stopped [
   | inl is ↦ inl is
   | inr other ↦ inr (elim other [ inl whole ↦ inl whole | inr by ↦ inr (has_more IsErr before mid after first p by) ])
