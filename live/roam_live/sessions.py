@@ -214,7 +214,7 @@ class FolderSession(Processes):
         self.state = {"version": VERSION, "command": list(command)}
         before = self.logged()
         with self.whole():
-            self.spawned("server", [program(), "serve", "--dir", str(self.folder)])
+            self.spawned("server", [program(), "serve", "--as-meant", "--dir", str(self.folder)])
             self.wait_for("server", before, lambda: (self.folder / "session").exists() and self.is_served())
             self.spawn_shells()
 

@@ -225,7 +225,7 @@ class Starts(Based):
         session = self.session()
         session.launch(["vi", "x"])
         tools = str(sessions.TOOLS / "pane_shells")
-        self.assertEqual(self.words, [("server", ["/roam", "serve", "--dir", str(self.folder)]),
+        self.assertEqual(self.words, [("server", ["/roam", "serve", "--as-meant", "--dir", str(self.folder)]),
                                       ("shells", [tools, "--close", "--server", str(OWN[0]), str(self.folder), "vi", "x"])])
         role, before, test = self.waits[0]
         self.assertEqual((role, before, test()), ("server", 12, False))
