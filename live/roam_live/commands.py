@@ -9,7 +9,7 @@ from collections.abc import Callable
 from roam_live import terminal
 from roam_live.bindings import NEWEST, Typing, help_with, spelled
 from roam_live.display import NO_SIZE, Display
-from roam_live.keys import Key, Keys
+from roam_live.keys import BRACKETS, Key, Keys, bracketed_acts
 from roam_live.links import StartLink
 from roam_live.loops import Loop
 from roam_live.program import has_others
@@ -62,6 +62,8 @@ class Commands:
         # The size that the session was given last, while it may still get it; and whether this terminal showed all of it before it had
         # another size itself.
         self.given: terminal.Size | None = None
+        # Whether what is pasted now stands between brackets, and its last letter.
+        self.is_bracketed, self.pasted = False, ""
         self.showed_all = False
         # The session's size and the labels of its panes, as they were told last.
         self.known: tuple[terminal.Size, str] = (NO_SIZE, "")
@@ -97,6 +99,9 @@ class Commands:
         """Takes a key. Under a cover nothing is typed; the prefix means there what it always does."""
         is_pasted = self.typing.mode == self.typing.pasting
         acts, wish = self.typing.asked(key, time.monotonic(), self.display.outer.size()[0])
+        ends_paste = is_pasted and self.is_bracketed and key.name == "pasted"
+        if is_pasted and self.is_bracketed and not ends_paste:
+            acts, self.pasted = bracketed_acts(key, self.pasted), key.text[-1:]
         if self.paused:
             is_pasted = self.typing.mode == self.typing.pasting
             self.leave("[left]" if wish == "detach" or key.name in ("\x03", "q") and not is_pasted else None)
@@ -105,7 +110,17 @@ class Commands:
             acts = [act for act in acts if act == NEWEST]
             wish = "no" if wish == "yes" else wish if wish in UNDER_COVER else ""
         self.act(*acts, is_pasted=is_pasted)
+        if ends_paste:
+            self.act(*BRACKETS[1], is_pasted=True)
+        elif not is_pasted and self.typing.mode == self.typing.pasting:
+            self.begin_paste()
         self.grant(wish, key)
+
+    def begin_paste(self) -> None:
+        """A paste begins: between brackets where the program in the pane in focus wants that, and something is typed at all."""
+        self.is_bracketed, self.pasted = self.panes.wants_brackets() and not self.display.cover, ""
+        if self.is_bracketed:
+            self.act(*BRACKETS[0], is_pasted=True)
 
     def act(self, *acts: str, is_pasted: bool = False) -> None:
         """Has acts typed, by who doesn't only watch; what was pasted is never guessed."""

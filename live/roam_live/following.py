@@ -6,7 +6,7 @@ import socket
 from collections.abc import Callable
 
 from roam_live.loops import Loop
-from roam_live.places import Places, ToldPanes
+from roam_live.places import ASIDE, BRACKETED, Places, ToldPanes
 from roam_live.program import Lines, SocketPeer, connected, connected_now, read, reason, runs_program, say, write
 
 TYPE_CHECKING = False
@@ -111,6 +111,17 @@ class Following:
             self.lost(reason(fault))
 
 
+class AsideFollowing(Following):
+    """Follows the panes, and what stands beside their terminals where the server is of this machine: an earlier one, or a relay, doesn't know
+    the word."""
+
+    def begin(self, peer: socket.socket) -> None:
+        """Follows a connection that is there."""
+        super().begin(peer)
+        if runs_program(peer):
+            self.ask(ASIDE)
+
+
 class KeeperFollowing(Following):
     """Follows the panes of a folder's server, of this machine, for what keeps their shells: it says so, and what is wrong is told in words,
     once, and that it is over."""
@@ -164,7 +175,7 @@ class PanesFollower:
         self.has_said = self.was_told = self.has_no_place = False
         self.awaited_until = loop.clock() + AWAITED if folder else 0.0
         path = os.path.join(folder, "panes") if folder else ""
-        self.following = Following(lambda: connected_now(path), loop, self.hear, self.lose)
+        self.following = AsideFollowing(lambda: connected_now(path), loop, self.hear, self.lose)
         if folder:
             self.following.connect()
 
@@ -175,6 +186,10 @@ class PanesFollower:
     def is_untold(self) -> bool:
         """Whether nothing is told, and nothing will be soon."""
         return self.places is None and (self.has_said or not self.was_told and not self.is_awaited())
+
+    def wants_brackets(self) -> bool:
+        """Whether the program in the pane in focus is known to want what is pasted between brackets."""
+        return self.places is not None and self.told.has_set(self.places.focus, BRACKETED)
 
     def is_full(self) -> bool:
         """Whether the server is known to have had as many starts as it ever has."""

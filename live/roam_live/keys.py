@@ -78,6 +78,26 @@ def acts_of(key: Key) -> list[str]:
     return [TYPED.get(letter) or f"char {ord(letter):x}" for letter in key.text]
 
 
+# What stands round a paste, to a program that asked for it (xterm, bracketed paste).
+BRACKETS = tuple([f"char {ord(letter):x}" for letter in text] for text in ("\x1b[200~", "\x1b[201~"))
+
+# The control characters that aren't pasted between brackets.
+CONTROLS = {*range(0x20), *range(0x7F, 0xA0)} - {0x09}
+
+
+def bracketed_acts(key: Key, before: str) -> list[str]:
+    """The acts of a key of a paste between brackets, behind this letter: no control character is typed but TAB, and CR, LF and CR LF are one
+    return each. So what is pasted never ends its brackets."""
+    acts = []
+    for letter in key.text:
+        if letter in "\r\n":
+            acts += [] if letter == "\n" and before == "\r" else ["char d"]
+        elif ord(letter) not in CONTROLS:
+            acts.append(f"char {ord(letter):x}")
+        before = letter
+    return acts
+
+
 def acts_of_bytes(text: bytes) -> list[str]:
     """The acts of bytes that come at once and nothing after them."""
     keys = Keys()

@@ -19,9 +19,16 @@ ROOM = {"right": (0, 9), "down": (5, 0)}
 MOST_STARTS = 64
 
 # What a line tells: where a pane is and which making of its number, that it is gone, which is in focus, or how many starts there were of
-# how many. It may have come from another machine: its numbers are small.
-TOLD = re.compile(r"(?P<pane>[1-9])((?: \d{1,4}){4}) \d{1,19}|(?P<gone>[1-9]) gone|focus (?P<focus>[1-9])"
-                  r"|(?P<kind>starts|watchers) (?P<count>\d{1,4})(?: of \d{1,4})?", re.ASCII)
+# how many; and to who asked for it which modes a pane's program has set, or what else stands beside its terminal. It may have come from
+# another machine: its numbers are small.
+TOLD = re.compile(r"(?P<pane>[1-9])((?: \d{1,4}){4}) (?P<life>\d{1,19})|(?P<gone>[1-9]) gone|focus (?P<focus>[1-9])"
+                  r"|(?P<kind>starts|watchers) (?P<count>\d{1,4})(?: of \d{1,4})?"
+                  r"|modes (?P<set>[1-9] \d{1,19})(?P<modes>(?: [a-z0-9]{1,16}){0,16})"
+                  r"|(?:shape|title|bell) [1-9] \d{1,19}(?: [0-9a-f]{0,1600})?", re.ASCII)
+
+# What a server is asked for by who goes by what stands beside the panes' terminals; that a program wants what is pasted between brackets.
+ASIDE = "beside"
+BRACKETED = "paste"
 
 # So many seconds a server has for what it is asked once, and what is told behind the focus for coming.
 ASKED = 1.0
@@ -111,6 +118,9 @@ class ToldPanes:
     def __init__(self) -> None:
         self.panes: dict[int, str] = {}
         self.rects: dict[int, Rect] = {}
+        # Of each pane which making of its number it is, and which modes its program has set, as far as that is told of this making.
+        self.lives: dict[int, str] = {}
+        self.modes: dict[int, tuple[str, frozenset[str]]] = {}
         self.focus = 0
         self.counts: dict[str, tuple[int, str]] = {}
 
@@ -122,12 +132,17 @@ class ToldPanes:
         if found["pane"]:
             pane = int(found["pane"])
             self.panes[pane], self.rects[pane] = line, Rect(*map(int, found[2].split()))
+            self.lives[pane] = found["life"]
         elif found["gone"]:
             self.panes.pop(int(found["gone"]), None)
             self.rects.pop(int(found["gone"]), None)
+            self.modes.pop(int(found["gone"]), None)
         elif found["focus"]:
             self.focus = int(found["focus"])
-        else:
+        elif found["set"]:
+            pane_told, life = found["set"].split()
+            self.modes[int(pane_told)] = life, frozenset(found["modes"].split())
+        elif found["kind"]:
             self.counts[found["kind"]] = int(found["count"]), line
         return True
 
@@ -137,6 +152,11 @@ class ToldPanes:
             return None
         starts, watchers = (self.counts.get(kind, (0, ""))[0] for kind in ("starts", "watchers"))
         return Places(dict(sorted(self.rects.items())), self.focus, starts, watchers)
+
+    def has_set(self, pane: int, mode: str) -> bool:
+        """Whether a pane's program is known to have set a mode."""
+        life, modes = self.modes.get(pane, ("", frozenset()))
+        return mode in modes and life == self.lives.get(pane)
 
     def is_whole(self) -> bool:
         """Whether all is known that is told at first."""

@@ -35,6 +35,7 @@ KNOWN = {
     ("roam_live/keypads.py", "ASKED", "re"): PROGRAM,
     ("roam_live/keypads.py", "ASKED", "ESC"): PROGRAM,
     ("roam_live/keypads.py", "Keypad.fed", "ESC"): PROGRAM,
+    ("roam_live/keys.py", "BRACKETS", "ESC"): "is typed round a paste, and reads nothing",
     ("roam_live/keys.py", "BEGUN", "re"): TYPED,
     ("roam_live/keys.py", "BEGUN", "ESC"): TYPED,
     ("roam_live/keys.py", "Keys.fed", "ESC"): TYPED,

@@ -13,6 +13,7 @@ from roam_live import display, terminal
 from roam_live.bindings import HELP, help_with
 from roam_live.choices import PREFIXES
 from roam_live.commands import Commands
+from roam_live.keys import BRACKETS
 from roam_live.display import Display, wrapped
 from roam_live.loops import Loop
 from roam_live.program import noted_front_end
@@ -78,7 +79,7 @@ class AnySession:
 class PlayedPanes:
     """What is told of a session's panes."""
 
-    awaited = full = False
+    awaited = full = brackets = False
 
     def __init__(self, place):
         self.place = place
@@ -99,6 +100,10 @@ class PlayedPanes:
     def is_full(self):
         """Whether the server hears no other start."""
         return self.full
+
+    def wants_brackets(self):
+        """Whether the program in focus wants what is pasted between brackets."""
+        return self.brackets
 
 
 def painting(rows, cols, text="x"):
@@ -573,6 +578,34 @@ class UnderCover(unittest.TestCase):
         person.resize(24, 100)
         person.answers()
         self.assertEqual((person.display.cover, person.types(b"\x1b[201~x")), ("", ["char 78"]))
+
+    def test_brackets(self):
+        """A paste stands between brackets where the program in focus wants that as it begins, and ends with them whatever comes between;
+        nothing in it ends them."""
+        begin, end = BRACKETS
+        person = Person(24, 80, told=places(24, 80))
+        person.answers()
+        person.commands.panes.brackets = True
+        self.assertEqual(person.types(b"\x1b[200~a\r\nb\nc\x1b[201~d"),
+                         [*begin, "char 61", "char d", "char 62", "char d", "char 63", *end, "char 64"])
+        self.assertEqual(person.types(b"\x1b[200~\x9b201~\xc2\x9b201~\x1b\x7f\x07\t\x1b[201~"),
+                         [*begin, "char fffd", *[f"char {ord(letter):x}" for letter in "201~201~"], "char 9", *end])
+        self.assertEqual(person.types(b"\x1b[200~\x1b[A\x1b[201~"), [*begin, "char 5b", "char 41", *end])
+        self.assertEqual(person.types(b"\x1b[200~x"), [*begin, "char 78"])
+        person.commands.panes.brackets = False
+        self.assertEqual(person.types(b"y\x1b[201~"), ["char 79", *end])
+        self.assertEqual(person.types(b"\x1b[200~a\r\x1b[201~"), ["char 61", "key return"])
+
+    def test_brackets_end(self):
+        """Of a paste over which something comes to stand the rest isn't typed, but its end is; of one that begins there nothing is."""
+        begin, end = BRACKETS
+        person = Person(24, 80, told=places(24, 80))
+        person.answers()
+        person.commands.panes.brackets = True
+        self.assertEqual(person.types(b"\x1b[200~a"), [*begin, "char 61"])
+        person.resize(2, 80)
+        self.assertEqual(person.types(b"b\x1b[201~"), end)
+        self.assertEqual(person.types(b"\x1b[200~a\x1b[201~"), [])
 
     def test_help(self):
         person = Person(24, 80, told=places(24, 80))

@@ -220,6 +220,20 @@ class FrontEnds(Played):
             self.server.recv(64)
         self.assertEqual(self.words, [])
 
+    def test_beside(self):
+        """A server that runs this program is asked for what stands beside the terminals, each time; by it a paste has brackets."""
+        with mock.patch("roam_live.following.runs_program", lambda peer: True):
+            self.lose_again()
+        self.loop.turns(2)
+        self.assertEqual(self.server.recv(64), b"beside\n")
+        self.assertFalse(self.panes.wants_brackets())
+        self.told(b"1 1 1 23 80 1\n2 1 1 23 80 1\nfocus 1\nmodes 1 1 paste\n")
+        self.assertTrue(self.panes.wants_brackets())
+        self.told(b"focus 2\n")
+        self.assertFalse(self.panes.wants_brackets())
+        self.lose_again()
+        self.assertFalse(self.panes.wants_brackets())
+
     def test_let_go(self):
         """While nobody tells them the places aren't known; what comes next is told all anew."""
         self.told(b"1 1 1 23 80 1\nfocus 1\n")

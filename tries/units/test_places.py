@@ -33,6 +33,31 @@ class Labels(Case):
         self.assertEqual(places.in_order(pinwheel), [1, 2, 3, 4, 5])
 
 
+class Modes(Case):
+    """Which modes a pane's program has set."""
+
+    def test_set(self):
+        """It is the newest that is told of this making of the pane, whatever came before it."""
+        told = ToldPanes()
+        steps = [("modes 1 1 sgr paste", False), ("1 1 1 23 80 1", True), ("focus 1", True), ("modes 1 1 sgr", False),
+                 ("modes 1 1 paste", True), ("1 1 1 23 40 1", True), ("1 1 1 23 40 2", False), ("modes 1 1 paste", False),
+                 ("modes 1 2 paste", True), ("modes 1 2", False), ("modes 1 2 paste", True), ("1 gone", False)]
+        for line, has_set in steps:
+            self.assertTrue(told.take(line), line)
+            self.assertEqual(told.has_set(1, "paste"), has_set, line)
+        self.assertFalse(told.has_set(2, "paste"))
+
+    def test_passed_over(self):
+        """What else stands beside a terminal is passed over, and no such line is read otherwise."""
+        told = ToldPanes()
+        for line in ("shape 1 1 4", "title 1 1 e697a5", "title 1 1 ", "bell 1 1"):
+            self.assertTrue(told.take(line), line)
+        for line in ("modes", "modes 1", "modes 0 1", "modes 1 1  paste", "modes 1 1 " + "a" * 17, "title 1 1 xyz", "shape 1", "bell 1 1 x",
+                     "modes 1 1" + " a" * 17, "clip 1 1 YQ=="):
+            self.assertFalse(told.take(line), line)
+        self.assertIsNone(told.places())
+
+
 class Sides(Case):
     """The pane on a side."""
 
