@@ -112,8 +112,8 @@ class Following:
 
 
 class AsideFollowing(Following):
-    """Follows the panes, and what stands beside their terminals where the server is of this machine: an earlier one, or a relay, doesn't know
-    the word."""
+    """Follows the panes, and what stands beside their terminals where the server is of this machine: an earlier one, or a relay, doesn't
+    know the word."""
 
     def begin(self, peer: socket.socket) -> None:
         """Follows a connection that is there."""

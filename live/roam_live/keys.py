@@ -86,8 +86,8 @@ CONTROLS = {*range(0x20), *range(0x7F, 0xA0)} - {0x09}
 
 
 def bracketed_acts(key: Key, before: str) -> list[str]:
-    """The acts of a key of a paste between brackets, behind this letter: no control character is typed but TAB, and CR, LF and CR LF are one
-    return each. So what is pasted never ends its brackets."""
+    """The acts of a key of a paste between brackets, behind this letter: no control character is typed but TAB, and CR, LF and CR LF are
+    one return each. So what is pasted never ends its brackets."""
     acts = []
     for letter in key.text:
         if letter in "\r\n":
