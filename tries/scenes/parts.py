@@ -6,7 +6,7 @@ import subprocess
 import time
 
 from tried import (
-    Outer, check, comes, connected, is_part_of, listed, part_at, said, scene, shown_above, terminals_of, told_cells, tool)
+    Outer, check, comes, connected, is_part_of, listed, noted, part_at, said, scene, shown_above, terminals_of, told_cells, tool)
 from emulated import Emulated
 from roam_live.cells import Style
 from roam_live.program import is_listened, program
@@ -21,6 +21,10 @@ FITS = "C-b r fits"
 PARTS, SYLLABLE = "\u1112\u1161\u11ab", "\ud55c"
 
 ALWAYS = {"ROAM_GUESS": "always"}
+
+# What asks for a password, once its pane is blank, and one whose keys stand in nothing else that is painted, controls neither.
+ASKS = b"stty -echo; clear; read secret; stty echo; echo do''ne $(printf %s \"$secret\" | wc -c)\r"
+SECRET = b"QXZGQXZGWV"
 
 # What a program paints, a step at a time: styles, wide characters, rows that scroll, also between margins, what is moved and hidden.
 STEPS = (
@@ -153,6 +157,71 @@ def asked_small(folder):
     check("no key of it is painted", not any(letter in painted for letter in b"QXZKGW"), painted)
     small.type(b"\r")
     check("and all of it came", small.shows("done 10"), small.rows)
+    subprocess.run(tool("mux", "kill", "-f", "other"), check=True)
+
+
+def is_trusted(small, large, keeper):
+    """Whether a terminal comes to show a key in the first pane before it is echoed, since keys are there. What keeps the shells is stopped
+    then, so that nothing echoes it; on a busy machine an echo may be too late to be trusted, and the next one is waited for."""
+    text = "$ "
+    for _ in range(8):
+        for letter in "abc":
+            small.type(letter.encode())
+            text += letter
+            large.shows(text)
+        before, others = len(small.written), len(large.written)
+        os.kill(keeper, signal.SIGSTOP)
+        small.type(b"Y")
+        if comes(lambda: b"Y" in small.written[before:], 3):
+            return b"Y" not in large.written[others:]
+        os.kill(keeper, signal.SIGCONT)
+        text += "Y"
+        large.shows(text)
+    return False
+
+
+def trust_and_ask(small, large, goes):
+    """Has a terminal trust keys in the first pane, and a password asked for in the same row of the second, where one of both goes."""
+    small.type(b"\x022" + ASKS)
+    comes(lambda: not any(row[50:].strip() for row in large.rows()[:-1]))
+    small.type(b"\x021\x15")
+    comes(lambda: large.rows()[0][:49].strip() == "$")
+    keeper = noted("other")["shells"][0]
+    check("a key is shown in the first pane that nothing echoes: it is trusted", is_trusted(small, large, keeper), small.rows)
+    goes.type(b"\x022")
+    if goes is large:
+        small.status(" 1 [2]")
+    type_each(small, SECRET[:5])
+    os.kill(keeper, signal.SIGCONT)
+    small.status(" 1 [2]")
+    type_each(small, SECRET[5:])
+    time.sleep(0.5)
+    small.type(b"\r")
+    check("all of the password came", large.shows(f"done {len(SECRET)}"), large.rows)
+
+
+def type_each(outer, text):
+    """Types bytes one after another."""
+    for letter in text:
+        outer.type(bytes([letter]))
+        time.sleep(0.05)
+
+
+@scene
+def asked_beside(folder):
+    """A password in a second pane, in the row in which keys were trusted in the first, while a part is shown, whoever goes there: no key of
+    it is in any byte that any terminal was written."""
+    large = Outer(tool("mux", "other"), (24, 100), ALWAYS)
+    large.shows("$ ")
+    large.type(b"\x02%")
+    large.status(" 1 [2]")
+    small, watcher = Outer(tool("mux", "attach", "other"), (12, 40), ALWAYS), Outer(tool("mux", "watch", "other"), (24, 100))
+    small.shows("$ ")
+    watcher.shows("$ ")
+    for goes in (small, large):
+        trust_and_ask(small, large, goes)
+    seen = [bytes(outer.written) for outer in Outer.made if any(letter in outer.written for letter in SECRET)]
+    check("no key of it was written to any terminal", not seen and len(Outer.made) == 3, seen)
     subprocess.run(tool("mux", "kill", "-f", "other"), check=True)
 
 
