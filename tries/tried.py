@@ -85,11 +85,21 @@ def noted(name):
     return json.loads(pathlib.Path(os.environ["XDG_RUNTIME_DIR"], "roam", name, "state.json").read_text(encoding="utf-8"))
 
 
+def terminals_of(name):
+    """The socket of a session's client start."""
+    return pathlib.Path(os.environ["XDG_RUNTIME_DIR"], "roam", name, "terminals")
+
+
+def connected(name, watches=True):
+    """A connection to a session's client start, over which records come."""
+    link = StartLink(terminals_of(name), watches)
+    link.connect()
+    return link
+
+
 def told_cells(name):
     """The cells that a session shows, as its client start tells them to who watches."""
-    link = StartLink(pathlib.Path(os.environ["XDG_RUNTIME_DIR"], "roam", name, "terminals"), True)
-    link.connect()
-    return cells_of(asked_screen(link, "look sgr"))
+    return cells_of(asked_screen(connected(name), "look sgr"))
 
 
 def said(*words):

@@ -1,10 +1,14 @@
 """Terminals of other sizes than the session, what a pane shows that looks like the front end's words, and what is captured of it."""
 import os
 import signal
+import socket
 import subprocess
 import time
 
-from tried import Outer, check, comes, is_part_of, listed, said, scene, told_cells, tool
+from tried import (
+    Outer, check, comes, connected, is_part_of, listed, noted, part_at, said, scene, shown_above, terminals_of, told_cells, tool)
+from emulated import Emulated
+from roam_live.cells import Style
 from roam_live.program import is_listened, program
 
 # What a program paints, row by row with pauses: wide characters stand at every place of a row in turn.
@@ -15,6 +19,24 @@ FITS = "C-b r fits"
 
 # A Hangul syllable as its parts, and in one.
 PARTS, SYLLABLE = "\u1112\u1161\u11ab", "\ud55c"
+
+ALWAYS = {"ROAM_GUESS": "always"}
+
+# What asks for a password, once its pane is blank, and one whose keys stand in nothing else that is painted, controls neither.
+ASKS = b"stty -echo; clear; read secret; stty echo; echo do''ne $(printf %s \"$secret\" | wc -c)\r"
+SECRET = b"QXZGQXZGWV"
+
+# What a program paints, a step at a time: styles, wide characters, rows that scroll, also between margins, what is moved and hidden.
+STEPS = (
+    "\x1b[3;5Hplain \x1b[1;31mbold\x1b[0m \x1b[48;5;20m\u4e2d\u6587\x1b[0m and more",
+    "\x1b[23;1H" + "".join(f"\n\r{count} {'row ' * count}" for count in range(1, 13)),
+    "\x1b[5;20r\x1b[20;1H\n\n\n\x1b[7mreverse\x1b[0m\x1b[r\x1b[2;2H",
+    "\x1b[?25l\x1b[10;1H\x1b[2L\x1b[18;12H\x1b[K\x1b[14;3H\x1b[4P",
+    "\x1b[?25h\x1b[1;79H\u4e2d\x1b[1;1H\x1b[4munderlined\x1b[0m",
+    "\x1b[2J\x1b[H",
+)
+# What another connection says beside them, a line at each step.
+SAYS = ("look", "part 4 20", "mask 0 0 1 4", "look sgr", "whole", "unmask")
 
 
 @scene
@@ -135,6 +157,165 @@ def asked_small(folder):
     check("no key of it is painted", not any(letter in painted for letter in b"QXZKGW"), painted)
     small.type(b"\r")
     check("and all of it came", small.shows("done 10"), small.rows)
+    subprocess.run(tool("mux", "kill", "-f", "other"), check=True)
+
+
+def is_trusted(small, large, keeper):
+    """Whether a terminal comes to show a key in the first pane before it is echoed, since keys are there. What keeps the shells is stopped
+    then, so that nothing echoes it; on a busy machine an echo may be too late to be trusted, and the next one is waited for."""
+    text = "$ "
+    for _ in range(8):
+        for letter in "abc":
+            small.type(letter.encode())
+            text += letter
+            large.shows(text)
+        before, others = len(small.written), len(large.written)
+        os.kill(keeper, signal.SIGSTOP)
+        small.type(b"Y")
+        if comes(lambda: b"Y" in small.written[before:], 3):
+            return b"Y" not in large.written[others:]
+        os.kill(keeper, signal.SIGCONT)
+        text += "Y"
+        large.shows(text)
+    return False
+
+
+def trust_and_ask(small, large, goes):
+    """Has a terminal trust keys in the first pane, and a password asked for in the same row of the second, where one of both goes."""
+    small.type(b"\x022" + ASKS)
+    comes(lambda: not any(row[50:].strip() for row in large.rows()[:-1]))
+    small.type(b"\x021\x15")
+    comes(lambda: large.rows()[0][:49].strip() == "$")
+    keeper = noted("other")["shells"][0]
+    check("a key is shown in the first pane that nothing echoes: it is trusted", is_trusted(small, large, keeper), small.rows)
+    goes.type(b"\x022")
+    if goes is large:
+        small.status(" 1 [2]")
+    type_each(small, SECRET[:5])
+    os.kill(keeper, signal.SIGCONT)
+    small.status(" 1 [2]")
+    type_each(small, SECRET[5:])
+    time.sleep(0.5)
+    small.type(b"\r")
+    check("all of the password came", large.shows(f"done {len(SECRET)}"), large.rows)
+
+
+def type_each(outer, text):
+    """Types bytes one after another."""
+    for letter in text:
+        outer.type(bytes([letter]))
+        time.sleep(0.05)
+
+
+@scene
+def asked_beside(folder):
+    """A password in a second pane, in the row in which keys were trusted in the first, while a part is shown, whoever goes there: no key of
+    it is in any byte that any terminal was written."""
+    large = Outer(tool("mux", "other"), (24, 100), ALWAYS)
+    large.shows("$ ")
+    large.type(b"\x02%")
+    large.status(" 1 [2]")
+    small, watcher = Outer(tool("mux", "attach", "other"), (12, 40), ALWAYS), Outer(tool("mux", "watch", "other"), (24, 100))
+    small.shows("$ ")
+    watcher.shows("$ ")
+    for goes in (small, large):
+        trust_and_ask(small, large, goes)
+    seen = [bytes(outer.written) for outer in Outer.made if any(letter in outer.written for letter in SECRET)]
+    check("no key of it was written to any terminal", not seen and len(Outer.made) == 3, seen)
+    subprocess.run(tool("mux", "kill", "-f", "other"), check=True)
+
+
+class Plain:
+    """A plain connection to a session's start, as one by hand has it: all that it was written, and the terminal that reads it."""
+
+    def __init__(self, name):
+        self.end = socket.socket(socket.AF_UNIX)
+        self.end.connect(str(terminals_of(name)))
+        self.end.setblocking(False)
+        self.written, self.emulated = b"", Emulated(24, 80)
+
+    def shows(self, pane):
+        """Whether it shows what a pane does, which is all of the session but its status row."""
+        try:
+            piece = self.end.recv(65536)
+        except BlockingIOError:
+            piece = b""
+        self.written += piece
+        self.emulated.fed(piece)
+        mine = self.emulated
+        return mine.screen[:-1] == pane.screen and mine.has_cursor == pane.has_cursor and (mine.row, mine.col) == (pane.row, pane.col)
+
+
+def painted_beside(plain, pane, end, lines):
+    """What a plain connection was written while a program painted step by step, each once it showed the one before; and the words of the
+    records that others were told meanwhile, one that says a line at each step, and one that comes then, says all of them and leaves."""
+    begin, words = len(plain.written), set()
+    stays = [connected("other", False)] if lines else []
+    for k, step in enumerate(STEPS):
+        links = stays + [connected("other", False) for _ in stays]
+        for link, said_there in zip(links, (lines[k : k + 1], lines)):
+            for line in said_there:
+                link.say(line)
+        pane.fed(step.encode())
+        os.write(end, step.encode())
+
+        def is_over():
+            words.update(record.word for link in links for record in link.exchanged(0.01) or ())
+            return plain.shows(pane) and all(link.is_done() for link in links)
+
+        if not comes(is_over):
+            check(f"step {k} is painted, and each line taken", False, (plain.emulated.lines(), [link.taken for link in links]))
+        for link in links[1:]:
+            link.close()
+    for link in stays:
+        link.close()
+    time.sleep(0.5)
+    plain.shows(pane)
+    return plain.written[begin:], words
+
+
+@scene
+def told_beside(folder):
+    """What a plain connection is painted is the same to a byte, whatever others are told that come, look, have parts and leave."""
+    path = folder / "terminal"
+    command = f"stty raw -echo; tty > {path}; exec sleep 1000"
+    subprocess.run(tool("mux", "new", "-d", "other", "/bin/sh", "-c", command), check=True)
+    comes(lambda: path.exists() and path.read_text(encoding="utf-8").endswith("\n"))
+    end = os.open(path.read_text(encoding="utf-8").strip(), os.O_WRONLY | os.O_NOCTTY)
+    plain, pane = Plain("other"), Emulated(23, 80)
+    check("a plain connection is painted", comes(lambda: plain.shows(pane) and "[1]" in plain.emulated.lines()[-1]), plain)
+    alone, _ = painted_beside(plain, pane, end, ())
+    beside, words = painted_beside(plain, pane, end, SAYS)
+    check("others were told what they asked for", words >= {"told", "taken", "size", "part", "anew", "paint", "screen"}, words)
+    check(f"the {len(alone)} bytes of a painting are the same beside them", len(alone) > 500 and alone == beside, (alone, beside))
+    os.close(end)
+    plain.end.close()
+    subprocess.run(tool("mux", "kill", "-f", "other"), check=True)
+
+
+@scene
+def cut_wide(folder):
+    """A wide character at either edge of the part that is told is a space in its style, wherever that is while keys are guessed."""
+    outer = Outer(tool("mux", "other"))
+    outer.shows("$ ")
+    path = folder / "rows"
+    path.write_text("\x1b[H\x1b[2J\n\x1b[32m" + 39 * "\u4e2d" + "\n " + 39 * "\u4e2d" + "\x1b[0m\x1b[5;60H", encoding="utf-8")
+    outer.type(f"cat {path} -\r".encode())
+    comes(lambda: (outer.emulation().row, outer.emulation().col) == (4, 59))
+    small, link, places = Outer(tool("mux", "attach", "other"), (12, 40), ALWAYS), connected("other"), []
+    link.say("part 11 40")
+
+    def is_at(left):
+        places.extend(record.numbers for record in link.exchanged(0.01) or () if record.word == "part")
+        return places[-1:] == [(0, left)] and part_at(told_cells("other"), 1, left + 1, (11, 40)) == shown_above(small)
+
+    for left, letter in enumerate(b"\0typed", 20):
+        small.type(bytes([letter]).strip(b"\0"))
+        check(f"it shows the part that is told, from column {left} on", comes(lambda: is_at(left)), lambda: (places, small.rows()))
+        shown, (cut, whole) = shown_above(small)[0], ((2, 3), (3, 2))[left % 2 == 0]
+        are_cut = all(shown[cut, col] == (" ", Style(foreground=2)) for col in (1, 40))
+        check("with spaces where wide ones are cut", are_cut and (shown[whole, 1][0], shown[whole, 40][0]) == ("\u4e2d", ""), small.rows)
+    link.close()
     subprocess.run(tool("mux", "kill", "-f", "other"), check=True)
 
 
