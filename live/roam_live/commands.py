@@ -149,6 +149,11 @@ class Commands:
             self.forget_given()
         self.fit_first()
         self.show_known()
+        self.show_aside()
+
+    def show_aside(self) -> None:
+        """Gives the terminal the title and the cursor's shape of the pane in focus."""
+        self.display.outer.give(*self.panes.aside)
 
     def show_known(self) -> None:
         """Has the display go by what is known of the session: while it may get a size that it was given that is its size."""

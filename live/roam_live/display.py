@@ -7,6 +7,7 @@ import signal
 from collections.abc import Callable
 
 from roam_live import terminal
+from roam_live.asides import Aside
 from roam_live.loops import Loop
 from roam_live.program import Fault, write
 from roam_live.words import printable
@@ -40,6 +41,7 @@ class OuterTerminal:
         self.known = terminal.size_of(0)
         # Those that it had before.
         self.modes: terminal.Modes | None = None
+        self.aside = Aside()
 
     def enter(self) -> None:
         """Takes the terminal."""
@@ -60,6 +62,10 @@ class OuterTerminal:
         self.waiting += terminal.ENTERED
         self.is_application = False
 
+    def give(self, title: str, shape: int) -> None:
+        """Gives it a title and its cursor a shape, until it is left."""
+        self.waiting += self.aside.given(title, shape)
+
     def suspend(self) -> None:
         """Brings back what stood there, and stops this process with its group, as C-z does for others; returns once it is continued. The
         system doesn't stop a group that no shell could continue."""
@@ -75,7 +81,7 @@ class OuterTerminal:
             return
         self.waiting.clear()
         os.set_blocking(self.end, True)
-        self.waiting += terminal.LEFT + (f"{printable(line)}\r\n".encode() if line else b"")
+        self.waiting += self.aside.taken_back() + terminal.LEFT + (f"{printable(line)}\r\n".encode() if line else b"")
         while self.waiting and write(self.end, self.waiting):
             pass
         terminal.restore(0, self.modes)

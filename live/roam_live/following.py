@@ -172,6 +172,8 @@ class PanesFollower:
         self.folder, self.loop, self.changed, self.tells = folder, loop, changed, tells
         self.told = ToldPanes()
         self.places: Places | None = None
+        # The title of the pane in focus, and the shape of its cursor.
+        self.aside = ("", 0)
         self.has_said = self.was_told = self.has_no_place = False
         self.awaited_until = loop.clock() + AWAITED if folder else 0.0
         path = os.path.join(folder, "panes") if folder else ""
@@ -207,15 +209,16 @@ class PanesFollower:
     def know(self) -> None:
         """Goes by what was told."""
         self.has_no_place = False
-        before, self.places = self.places, self.told.places()
+        before, self.places = (self.places, self.aside), self.told.places()
+        self.aside = self.told.aside(self.places.focus) if self.places else ("", 0)
         self.was_told = self.was_told or self.places is not None
-        if self.places != before:
+        if (self.places, self.aside) != before:
             self.changed()
 
     def lose(self) -> None:
         """Goes on without, until it is told anew; where it stays so from the beginning that is said."""
         following, was_told = self.following, self.places is not None
-        self.told, self.places = ToldPanes(), None
+        self.told, self.places, self.aside = ToldPanes(), None, ("", 0)
         self.loop.drop("panes stand")
         if was_told:
             self.changed()

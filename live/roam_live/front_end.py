@@ -136,6 +136,7 @@ class FrontEnd:
     def continued(self) -> None:
         """Takes the terminal again, which another may have had."""
         self.display.enter_again()
+        self.commands.show_aside()
         self.resized()
 
     def suspended(self, numbers: bytes) -> bytes:

@@ -24,7 +24,8 @@ MOST_STARTS = 64
 TOLD = re.compile(r"(?P<pane>[1-9])((?: \d{1,4}){4}) (?P<life>\d{1,19})|(?P<gone>[1-9]) gone|focus (?P<focus>[1-9])"
                   r"|(?P<kind>starts|watchers) (?P<count>\d{1,4})(?: of \d{1,4})?"
                   r"|modes (?P<set>[1-9] \d{1,19})(?P<modes>(?: [a-z0-9]{1,16}){0,16})"
-                  r"|(?:shape|title|bell) [1-9] \d{1,19}(?: [0-9a-f]{0,1600})?", re.ASCII)
+                  r"|shape (?P<shaped>[1-9] \d{1,19}) (?P<shape>[0-6])|title (?P<titled>[1-9] \d{1,19}) (?P<title>(?:[0-9a-f]{2}){0,800})"
+                  r"|bell [1-9] \d{1,19}", re.ASCII)
 
 # What a server is asked for by who goes by what stands beside the panes' terminals; that a program wants what is pasted between brackets.
 ASIDE = "beside"
@@ -121,6 +122,9 @@ class ToldPanes:
         # Of each pane which making of its number it is, and which modes its program has set, as far as that is told of this making.
         self.lives: dict[int, str] = {}
         self.modes: dict[int, tuple[str, frozenset[str]]] = {}
+        # And the shape of its cursor and its title, likewise.
+        self.shapes: dict[int, tuple[str, int]] = {}
+        self.titles: dict[int, tuple[str, str]] = {}
         self.focus = 0
         self.counts: dict[str, tuple[int, str]] = {}
 
@@ -142,6 +146,12 @@ class ToldPanes:
         elif found["set"]:
             pane_told, life = found["set"].split()
             self.modes[int(pane_told)] = life, frozenset(found["modes"].split())
+        elif found["shaped"]:
+            pane_told, life = found["shaped"].split()
+            self.shapes[int(pane_told)] = life, int(found["shape"])
+        elif found["titled"]:
+            pane_told, life = found["titled"].split()
+            self.titles[int(pane_told)] = life, bytes.fromhex(found["title"]).decode("utf-8", "replace")
         elif found["kind"]:
             self.counts[found["kind"]] = int(found["count"]), line
         return True
@@ -157,6 +167,12 @@ class ToldPanes:
         """Whether a pane's program is known to have set a mode."""
         life, modes = self.modes.get(pane, ("", frozenset()))
         return mode in modes and life == self.lives.get(pane)
+
+    def aside(self, pane: int) -> tuple[str, int]:
+        """A pane's title, and the shape of its cursor, as far as they are known."""
+        life = self.lives.get(pane)
+        title, shape = self.titles.get(pane, ("", "")), self.shapes.get(pane, ("", 0))
+        return title[1] if title[0] == life else "", shape[1] if shape[0] == life else 0
 
     def is_whole(self) -> bool:
         """Whether all is known that is told at first."""

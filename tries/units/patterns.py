@@ -22,6 +22,9 @@ BEGIN = "the reset with which the start itself begins a record `anew`; another c
 
 # Each use: the file, the name that it is assigned to or the function that it stands in, and whether it is of `re` or of an escape.
 KNOWN = {
+    ("roam_live/asides.py", "", "ESC"): WRITES,
+    ("roam_live/asides.py", "shaped", "ESC"): WRITES,
+    ("roam_live/asides.py", "titled", "ESC"): WRITES,
     ("roam_live/bells.py", "Bells.go_on", "ESC"): PROGRAM,
     ("roam_live/bells.py", "Bells.rung", "ESC"): PROGRAM,
     ("roam_live/bells.py", "ENDS", "re"): PROGRAM,

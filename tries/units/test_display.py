@@ -30,10 +30,15 @@ class OuterTerminal:
         self.rows, self.cols = rows, cols
         self.waiting = bytearray()
         self.is_application = False
+        self.aside = ("", 0)
 
     def size(self):
         """Its rows and columns."""
         return self.rows, self.cols
+
+    def give(self, title, shape):
+        """Keeps a title and a shape."""
+        self.aside = title, shape
 
     def shown(self):
         """The rows that it shows, without spaces at their ends."""
@@ -80,6 +85,7 @@ class PlayedPanes:
     """What is told of a session's panes."""
 
     awaited = full = brackets = False
+    aside = ("", 0)
 
     def __init__(self, place):
         self.place = place

@@ -231,6 +231,11 @@ class FrontEnds(Played):
         self.assertTrue(self.panes.wants_brackets())
         self.told(b"focus 2\n")
         self.assertFalse(self.panes.wants_brackets())
+        before = self.changes
+        self.told(b"title 2 1 41\nshape 2 1 6\ntitle 1 1 42\n")
+        self.assertEqual((self.panes.aside, self.changes), (("A", 6), before + 1))
+        self.told(b"title 1 1 43\n")
+        self.assertEqual(self.changes, before + 1)
         self.lose_again()
         self.assertFalse(self.panes.wants_brackets())
 

@@ -162,6 +162,9 @@ class OuterTerminal:
         """Its rows and columns."""
         return 24, 80
 
+    def give(self, title, shape):
+        """Nothing stands beside it here."""
+
 
 class Close(Folder):
     """A person who closes a pane of a session that was started by hand."""

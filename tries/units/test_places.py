@@ -47,12 +47,23 @@ class Modes(Case):
             self.assertEqual(told.has_set(1, "paste"), has_set, line)
         self.assertFalse(told.has_set(2, "paste"))
 
-    def test_passed_over(self):
-        """What else stands beside a terminal is passed over, and no such line is read otherwise."""
+    def test_aside(self):
+        """A title and a shape are the newest that are told of this making of the pane."""
         told = ToldPanes()
-        for line in ("shape 1 1 4", "title 1 1 e697a5", "title 1 1 ", "bell 1 1"):
+        steps = [("shape 1 1 4", ("", 0)), ("title 1 1 e697a5", ("", 0)), ("1 1 1 23 80 1", ("\u65e5", 4)), ("focus 1", ("\u65e5", 4)),
+                 ("shape 1 1 0", ("\u65e5", 0)), ("title 1 1 ff41", ("\ufffdA", 0)), ("title 1 1 ", ("", 0)), ("title 1 1 1b5d", ("\x1b]", 0)),
+                 ("shape 1 1 6", ("\x1b]", 6)), ("1 1 1 23 80 2", ("", 0)), ("title 1 2 41", ("A", 0))]
+        for line, aside in steps:
             self.assertTrue(told.take(line), line)
-        for line in ("modes", "modes 1", "modes 0 1", "modes 1 1  paste", "modes 1 1 " + "a" * 17, "title 1 1 xyz", "shape 1", "bell 1 1 x",
+            self.assertEqual(told.aside(1), aside, line)
+
+    def test_passed_over(self):
+        """Bells are passed over, and no such line is read otherwise."""
+        told = ToldPanes()
+        for line in ("bell 1 1",):
+            self.assertTrue(told.take(line), line)
+        for line in ("modes", "modes 1", "modes 0 1", "modes 1 1  paste", "modes 1 1 " + "a" * 17, "title 1 1 xyz", "title 1 1 4", "title 1 1 " + "41" * 801, "shape 1", "shape 1 1 7",
+                     "shape 1 1", "bell 1 1 x",
                      "modes 1 1" + " a" * 17, "clip 1 1 YQ=="):
             self.assertFalse(told.take(line), line)
         self.assertIsNone(told.places())

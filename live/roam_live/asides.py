@@ -1,0 +1,51 @@
+"""What a front end gives a person's terminal beside what is painted there: the title and the cursor's shape of the pane in focus."""
+from __future__ import annotations
+
+import os
+
+from roam_live.words import printable
+
+# The terminal keeps its title, and has it back (xterm, XTWINOPS).
+TITLE_KEPT, TITLE_BACK = b"\x1b[22;2t", b"\x1b[23;2t"
+
+# So many characters of a title are given at most.
+MOST_TITLE = 200
+
+
+def titled(title: str) -> bytes:
+    """What gives a terminal a title (OSC 2): a printable text, whatever a program said."""
+    return f"\x1b]2;{printable(title[:MOST_TITLE])}\x07".encode("utf-8", "replace")
+
+
+def shaped(shape: int) -> bytes:
+    """What gives a terminal's cursor a shape, 0 for its own (DECSCUSR)."""
+    return b"\x1b[%d q" % shape
+
+
+class Aside:
+    """What was given. A console of Linux has neither a title nor such a shape, and is given nothing."""
+
+    def __init__(self) -> None:
+        self.is_able = os.environ.get("TERM") != "linux"
+        self.title = ""
+        self.has_kept = False
+        self.shape = 0
+
+    def given(self, title: str, shape: int) -> bytes:
+        """What is written where this is the title and the shape from now on: what is new of it. The terminal's own title isn't changed
+        before there is one."""
+        text = b""
+        if self.is_able and title != self.title:
+            text += b"" if self.has_kept else TITLE_KEPT
+            text += titled(title)
+            self.title, self.has_kept = title, True
+        if self.is_able and shape != self.shape:
+            text += shaped(shape)
+            self.shape = shape
+        return text
+
+    def taken_back(self) -> bytes:
+        """What is written where the terminal is given back: it has its own title again, and its own shape. Nothing is given then."""
+        text = (TITLE_BACK if self.has_kept else b"") + (shaped(0) if self.shape else b"")
+        self.title, self.has_kept, self.shape = "", False, 0
+        return text

@@ -1,0 +1,44 @@
+"""What a person's terminal is given beside what is painted there, and has back."""
+import os
+import unittest
+from unittest import mock
+
+from roam_live.asides import TITLE_BACK, TITLE_KEPT, Aside, shaped, titled
+
+
+class Given(unittest.TestCase):
+    """A title and a shape."""
+
+    def setUp(self):
+        patched = mock.patch.dict(os.environ, TERM="xterm")
+        patched.start()
+        self.addCleanup(patched.stop)
+
+    def test_new(self):
+        """What is new is given, the terminal's own title kept before; and all is taken back once."""
+        aside = Aside()
+        self.assertEqual((aside.given("", 0), aside.taken_back()), (b"", b""))
+        self.assertEqual(aside.given("vi", 6), TITLE_KEPT + b"\x1b]2;vi\x07\x1b[6 q")
+        self.assertEqual(aside.given("vi", 6), b"")
+        self.assertEqual(aside.given("", 6), titled(""))
+        self.assertEqual(aside.given("sh", 0), titled("sh") + shaped(0))
+        self.assertEqual((aside.taken_back(), aside.taken_back()), (TITLE_BACK, b""))
+        self.assertEqual(aside.given("sh", 4), TITLE_KEPT + titled("sh") + shaped(4))
+        self.assertEqual(aside.taken_back(), TITLE_BACK + shaped(0))
+
+    def test_hostile(self):
+        """Nothing of a title is a control, and none is long."""
+        for title in ("\x1b]52;c;YQ==\x07", "\x07\x1b[c", "\x9b6n\x9c", "\n\r\x7f\x00", "\u202egnp.exe", "a" * 5000, "\ud800"):
+            text = titled(title)
+            self.assertTrue(text.startswith(b"\x1b]2;") and text.endswith(b"\x07"), text)
+            self.assertTrue(text[4:-1].decode().isprintable() and len(text) < 900, text)
+
+    def test_console(self):
+        """A console of Linux is given nothing."""
+        with mock.patch.dict(os.environ, TERM="linux"):
+            aside = Aside()
+        self.assertEqual((aside.given("vi", 6), aside.taken_back()), (b"", b""))
+
+
+if __name__ == "__main__":
+    unittest.main()
