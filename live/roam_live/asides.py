@@ -22,7 +22,7 @@ def shaped(shape: int) -> bytes:
     return b"\x1b[%d q" % shape
 
 
-class Aside:
+class GivenAside:
     """What was given. A console of Linux has neither a title nor such a shape, and is given nothing."""
 
     def __init__(self) -> None:

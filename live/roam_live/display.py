@@ -7,7 +7,7 @@ import signal
 from collections.abc import Callable
 
 from roam_live import terminal
-from roam_live.asides import Aside
+from roam_live.asides import GivenAside
 from roam_live.loops import Loop
 from roam_live.program import Fault, write
 from roam_live.words import printable
@@ -41,7 +41,7 @@ class OuterTerminal:
         self.known = terminal.size_of(0)
         # Those that it had before.
         self.modes: terminal.Modes | None = None
-        self.aside = Aside()
+        self.aside = GivenAside()
 
     def enter(self) -> None:
         """Takes the terminal."""

@@ -3,7 +3,7 @@ import os
 import unittest
 from unittest import mock
 
-from roam_live.asides import TITLE_BACK, TITLE_KEPT, Aside, shaped, titled
+from roam_live.asides import TITLE_BACK, TITLE_KEPT, GivenAside, shaped, titled
 
 
 class Given(unittest.TestCase):
@@ -16,7 +16,7 @@ class Given(unittest.TestCase):
 
     def test_new(self):
         """What is new is given, the terminal's own title kept before; and all is taken back once."""
-        aside = Aside()
+        aside = GivenAside()
         self.assertEqual((aside.given("", 0), aside.taken_back()), (b"", b""))
         self.assertEqual(aside.given("vi", 6), TITLE_KEPT + b"\x1b]2;vi\x07\x1b[6 q")
         self.assertEqual(aside.given("vi", 6), b"")
@@ -36,7 +36,7 @@ class Given(unittest.TestCase):
     def test_console(self):
         """A console of Linux is given nothing."""
         with mock.patch.dict(os.environ, TERM="linux"):
-            aside = Aside()
+            aside = GivenAside()
         self.assertEqual((aside.given("vi", 6), aside.taken_back()), (b"", b""))
 
 
