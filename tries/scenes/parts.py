@@ -59,14 +59,19 @@ def looks_told(folder):
     subprocess.run(tool("mux", "kill", "-f", "other"), check=True)
 
 
+def prints(path, text, command):
+    """A terminal at another session, in which a command is typed about a file with a text."""
+    path.write_text(text, encoding="utf-8")
+    outer = Outer(tool("mux", "other"))
+    outer.shows("$ ")
+    outer.type(command.format(path).encode())
+    return outer
+
+
 @scene
 def hangul(folder):
     """What is captured of a Hangul syllable that stands as its parts is all of them."""
-    outer = Outer(tool("mux", "other"))
-    outer.shows("$ ")
-    path = folder / "letters"
-    path.write_text(f"{PARTS}{PARTS}|\n{SYLLABLE}|\ne\u0301\u4e2d|\n", encoding="utf-8")
-    outer.type(f"clear; cat {path}; echo do''ne\r".encode())
+    outer = prints(folder / "letters", f"{PARTS}{PARTS}|\n{SYLLABLE}|\ne\u0301\u4e2d|\n", "clear; cat {}; echo do''ne\r")
     outer.shows("done")
     told = said("capture", "other")
     check("each part is captured", told[0] == 0 and told[1].split("\n")[:3] == [f"{PARTS}{PARTS}|", f"{SYLLABLE}|", "e\u0301\u4e2d|"], told)
@@ -302,11 +307,8 @@ def told_beside(folder):
 @scene
 def cut_wide(folder):
     """A wide character at either edge of the part that is told is a space in its style, wherever that is while keys are guessed."""
-    outer = Outer(tool("mux", "other"))
-    outer.shows("$ ")
-    path = folder / "rows"
-    path.write_text("\x1b[H\x1b[2J\n\x1b[32m" + 39 * "\u4e2d" + "\n " + 39 * "\u4e2d" + "\x1b[0m\x1b[5;60H", encoding="utf-8")
-    outer.type(f"cat {path} -\r".encode())
+    rows = "\x1b[H\x1b[2J\n\x1b[32m" + 39 * "\u4e2d" + "\n " + 39 * "\u4e2d" + "\x1b[0m\x1b[5;60H"
+    outer = prints(folder / "rows", rows, "cat {} -\r")
     comes(lambda: (outer.emulation().row, outer.emulation().col) == (4, 59))
     small, link, places = Outer(tool("mux", "attach", "other"), (12, 40), ALWAYS), connected("other"), []
     link.say("part 11 40")

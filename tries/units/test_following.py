@@ -198,10 +198,11 @@ class FrontEnds(Played):
         self.loop.turns(2)
         return self.panes.places
 
-    def lose_again(self):
-        """The server ends the connection, which is had again."""
+    def lose_again(self, words=()):
+        """The server ends the connection, by which so much was said, and it is had again."""
         self.server.close()
         self.loop.turns(2)
+        self.assertEqual(self.words, list(words))
         self.wait_again()
         self.loop.turns(2)
         self.server = self.taken()
@@ -258,12 +259,7 @@ class FrontEnds(Played):
     def test_once(self):
         """Who isn't let in is told so once, and tried for after pauses."""
         for number in range(6):
-            self.server.close()
-            self.loop.turns(2)
-            self.assertEqual(self.words, [NO_PLACE] * (number >= 2))
-            self.wait_again()
-            self.loop.turns(2)
-            self.server = self.taken()
+            self.lose_again([NO_PLACE] * (number >= 2))
         self.assertFalse(self.panes.is_awaited())
         self.assertIsNone(self.told(b"1 1 1 23 80 1\nfocus 1\n"))
         self.now += 1.0
@@ -276,12 +272,7 @@ class FrontEnds(Played):
             self.server.send(b"1 1 1 23 80 1\nfocus 1\n")
             self.loop.turns(1)
             self.assertEqual((self.panes.places is not None, self.panes.is_untold()), (number < 3, number >= 3))
-            self.server.close()
-            self.loop.turns(2)
-            self.assertEqual(self.words, [NO_PLACE] * (number >= 2))
-            self.wait_again()
-            self.loop.turns(2)
-            self.server = self.taken()
+            self.lose_again([NO_PLACE] * (number >= 2))
         self.told(b"1 1 1 23 80 1\nfocus 1\n")
         changes = self.changes
         self.now += 1.0

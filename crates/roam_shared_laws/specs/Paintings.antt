@@ -80,8 +80,8 @@ IsPartOf screens masks (Some view) = (part : Part) × (s : Screenshot) × IsLaid
 
 -- A terminal that asked for records and came at the other end of one of these streams: what is noted of it is one of the screens that were
 -- shown; what it was written and what waits for it are what was before records began, and then records; the paintings among them, since it
--- was last painted anew, lead any terminal that has each size which was told to what it is to show, of which the size was told last; and that
--- is a part of one of these screens with what was guessed over it.
+-- was last painted anew, lead any terminal that has each size which was told to what it is to show, of which the size was told last; and
+-- that is a part of one of these screens with what was guessed over it.
 pub record IsToldAs {S : Type 0} (contents : S → Option (List ℕ)) (came : List S) (screens : List Screenshot) (t : Terminal S)
     (telling : TellingView) : Type 0 where
   pub stream : S

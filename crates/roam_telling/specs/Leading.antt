@@ -40,7 +40,8 @@ FitsSaid rows cols lines log told [] = FitsSize rows cols lines log told
 FitsSaid rows cols lines log told (r ∷ said) =
     FitsSize rows cols lines log told × FitsSaid rows cols lines log (size_after told r) said
 
--- paintings lead any terminal that has each size which was told, in whatever state, to what it is to show; and the size of that was told last
+-- paintings lead any terminal that has each size which was told, in whatever state, to what it is to show; and the size of that was told
+-- last
 abbrev pub LeadsTo : List Record → Option (ℕ × ℕ) → List ℕ → Option Screenshot → Type 0
 LeadsTo said sized text None = Unit {0}
 LeadsTo said sized text (Some view) =
@@ -48,8 +49,8 @@ LeadsTo said sized text (Some view) =
     × ((rows cols lines : ℕ) (log : List Item) → DisplaysNoted rows cols lines log None → FitsSaid rows cols lines log None said
     → ShowsAt rows cols lines log text view)
 
--- What was said to a terminal since records began: the size that is noted is the one that was told last; and the paintings since it was last
--- painted anew lead to what it is to show.
+-- What was said to a terminal since records began: the size that is noted is the one that was told last; and the paintings since it was
+-- last painted anew lead to what it is to show.
 pub record IsSaid (said : List Record) (t : TellingView) : Type 0 where
   pub earlier : List Record
   pub since : List Record

@@ -46,8 +46,8 @@ fn standing(alloc: Global, before: &RowShot, view: &RowShot) -> Result<Vec<u8>, 
     Ok(text)
 }
 
-/// A text that leads a terminal from what it shows, where that is known, to another screen; where cells are masked no row is moved: each place
-/// that differs is written, and no other. Refuses want of memory.
+/// A text that leads a terminal from what it shows, where that is known, to another screen; where cells are masked no row is moved: each
+/// place that differs is written, and no other. Refuses want of memory.
 pub(crate) fn text_to(
     alloc: Global,
     before: &Option<RowShot>,

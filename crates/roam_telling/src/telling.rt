@@ -235,7 +235,9 @@ impl Telling {
     // What is to be told of a screen; none where nothing is new. Refuses want of memory.
     fn painting(&self, alloc: Global, shot: &RowShot) -> Result<Option<Painting>, Fault>
         ensures painting { IfOk result (λ found. IfSome found (λ p. (text : Bor (List ℕ)) × (p.part ≡ part_for self.now.scope shot.now)
-            × (p.view ≡ part_in p.part self.now.masks shot.now) × LeadsFrom self.now.view text.now p.view × IsStill self.now.masks self.now.view text.now p.view
+            × (p.view ≡ part_in p.part self.now.masks shot.now)
+            × LeadsFrom self.now.view text.now p.view
+            × IsStill self.now.masks self.now.view text.now p.view
             × (p.text.items ≡ texts_of (sizes_said self.now.sized p.view
             ++ (places_said self.now.placed (place_told self.now.scope p.part) ++ painting_said self.now.view text ∷ []))))) }
     {

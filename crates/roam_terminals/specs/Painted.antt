@@ -69,8 +69,8 @@ TellsNoted (Some noted) over said old new =
     (mid : TellingView) × (looked : List Record) × (shown : List Record) × TellsLook noted.screen looked old mid
     × Tells (shown_screen over noted) shown mid new × (said ≡ looked ++ shown)
 
--- It was told in records, behind what waits: first which of its lines are taken, where so many acts are acknowledged; then the screen that it
--- asked for; then what is to be shown.
+-- It was told in records, behind what waits: first which of its lines are taken, where so many acts are acknowledged; then the screen that
+-- it asked for; then what is to be shown.
 pub record TellsIt {S : Type 0} (acknowledged : ℕ) (before : TellingView) (old new : Terminal S) : Type 0 where
   pub between : TellingView
   pub after : TellingView

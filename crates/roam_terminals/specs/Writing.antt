@@ -67,8 +67,8 @@ pub record Flushes {S : Type 0} (remaining contents : S → Option (List ℕ)) (
 abbrev pub seen_by : {S : Type 0} → Silence → Terminal S → Silence
 seen_by silence t = record silence { told = t.told }
 
--- In records it is told that a silence is over, or of so many seconds, where nothing waits and the terminal is there; or nothing changes. What
--- is noted and shown stays.
+-- In records it is told that a silence is over, or of so many seconds, where nothing waits and the terminal is there; or nothing changes.
+-- What is noted and shown stays.
 pub data SaysSilence {S : Type 0} (seen : Silence) (old new : Terminal S) : Type 0 where
   heard : is_over seen ≡ true → old.waiting ≡ [] → old.state ≡ Here
       → new ≡ record old { told = None; waiting = text_of records.Heard } → SaysSilence seen old new
