@@ -11,7 +11,7 @@ use Rattle.roam_paint.specs.Painting.{text_between, blanking_text}
 use Rattle.roam_hub.specs.declared.addresses.Addr.{Addr}
 use Rattle.roam_turns.specs.declared.outer.Noted.{Noted}
 use Rattle.roam_turns.specs.Calls.{Parcel, PortCall, ClientCall}
-use Rattle.roam_turns.specs.Calls.PortCall.{Now, Received, NothingReceived, Sent, PaneLives, PaneGave, PaneGaveNothing, PaneTook, Showed}
+use Rattle.roam_turns.specs.Calls.PortCall.{Now, Received, NothingReceived, Sent, PaneLives, PaneGave, PaneGaveNothing, PaneTook, Showed, Asked}
 use Rattle.roam_turns.specs.Painting.{IsNoted, IsBehind, DisplaysNoted, Fits, Shows, Leads, Led, text_for}
 use Rattle.roam_turns.specs.Parts.{Call, ReceivesUpTo}
 use Rattle.roam_turns.specs.Parts.Call.{Port, Core}
@@ -32,6 +32,7 @@ shown_both (Port (PaneLives pane life) ∷ xs) ys = shown_both xs ys
 shown_both (Port (PaneGave pane room bytes) ∷ xs) ys = shown_both xs ys
 shown_both (Port (PaneGaveNothing pane room) ∷ xs) ys = shown_both xs ys
 shown_both (Port (PaneTook pane bytes n) ∷ xs) ys = shown_both xs ys
+shown_both (Port (Asked call) ∷ xs) ys = shown_both xs ys
 shown_both (Core call ∷ xs) ys = shown_both xs ys
 
 types_quiet : (next : Option Act) (taken : Bool) (xs : List (Call ClientCall)) → Types next taken xs → shown_in xs ≡ []

@@ -17,9 +17,17 @@ Tells (Some xs) (Some ys) calls = ys ≡ xs ++ calls
 
 -- ---- ports
 
+-- What a door was asked, where ports are one: whether an outer terminal comes there; whether the server is known to have ended; to rest, so
+-- many milliseconds at most and no longer than until a moment.
+pub data DoorCall : Type 0 where
+  Came : Bool → DoorCall
+  HasEnded : Bool → DoorCall
+  Rested : ℕ → Option ℕ → DoorCall
+
 -- A call of a port: the moment; a datagram that came, into room for so many bytes, and from where; none came; a datagram that was to go
 -- somewhere, and whether it went; which making of a pane is there, if any; what the program of a pane wrote, into room for so many bytes;
--- it wrote nothing; what was handed to it, and how much of that it took; what was to be shown, and whether it was.
+-- it wrote nothing; what was handed to it, and how much of that it took; what was to be shown, and whether it was; what a door was asked,
+-- which no turn asks.
 pub data PortCall : Type 0 where
   Now : ℕ → PortCall
   Received : ℕ → Addr → List ℕ → PortCall
@@ -30,6 +38,7 @@ pub data PortCall : Type 0 where
   PaneGaveNothing : ℕ → ℕ → PortCall
   PaneTook : ℕ → List ℕ → ℕ → PortCall
   Showed : List ℕ → Bool → PortCall
+  Asked : DoorCall → PortCall
 
 -- what a receive into room for so many bytes brought
 abbrev pub received_call : ℕ → Option (Addr × ℕ) → List ℕ → PortCall
