@@ -15,7 +15,7 @@ use Rattle.roam_terminals.specs.Hearing.{HearsOne, TakesLine}
 use Rattle.roam_terminals.specs.Hearing.TakesLine.{taken, waits, no_memory, looks, untold, refused, nothing, unheard}
 use Rattle.roam_terminals.specs.Painted.{MayPaint}
 use Rattle.roam_terminals.specs.Painted.MayPaint.{painted, told as was_told, not_ready}
-use Rattle.roam_terminals.specs.Running.{Came, Comes, IsStep, RunStep, RunsBy, Took}
+use Rattle.roam_terminals.specs.Running.{Asks, Came, Comes, IsStep, RunStep, RunsBy, Took}
 use Rattle.roam_terminals.specs.Sharing.{AreEach, HearsAll, Settles, Shared, is_gone, is_let_go, turned_round, who_stay}
 use Rattle.roam_terminals.specs.Terminals.{Stands, Types, is_heard, typed_by}
 use Rattle.roam_terminals.specs.Writing.{TellsSilence, is_empty, state_after, unwritten}
@@ -660,9 +660,9 @@ module _ {S : Type 0} (remaining contents : S → Option (List ℕ)) (to : Addr)
   few_of came s h n (inl above) = let each = h.no_other n above.1 in omega (arith, each)
 
   -- a round was taken
-  took_typed : (came : List S) (silence : Silence) (calls calls' : Option (List PortCall)) (old new : Shared S)
-      → IsStep remaining contents to (Took silence) calls calls' old new → Is came old → Is came new
-  took_typed came silence calls calls' old new r h =
+  took_typed : (came : List S) (silence : Silence) (wait : ℕ) (calls calls' : Option (List PortCall)) (old new : Shared S)
+      → IsStep remaining contents to (Took silence wait) calls calls' old new → Is came old → Is came new
+  took_typed came silence wait calls calls' old new r h =
       let few : (n : ℕ) → count_of n h.left + count_of n h.there ≤ 1 = λ n. few_of came old h n (leb_tells (length came) n) in
       let hears : HearsAll remaining contents (lasts h.there) r.heard old.client r.client r.ending =
       subst (λ l. HearsAll remaining contents l r.heard old.client r.client r.ending) h.all r.hears in
@@ -720,9 +720,11 @@ module _ {S : Type 0} (remaining contents : S → Option (List ℕ)) (to : Addr)
 
   step_typed : (came : List S) (step : RunStep S) (calls calls' : Option (List PortCall)) (old new : Shared S)
       → IsStep remaining contents to step calls calls' old new → Is came old → Is (came ++ came_in (step ∷ [])) new
+  step_typed came (Asks call) calls calls' old new h is =
+      subst (λ c. Is c new) (sym (append-nil came)) (subst (Is came) (sym h.1) is)
   step_typed came (Came stream) calls calls' old new h is = came_typed came stream old new h.1 is
-  step_typed came (Took silence) calls calls' old new h is =
-      subst (λ c. Is c new) (sym (append-nil came)) (took_typed came silence calls calls' old new h is)
+  step_typed came (Took silence wait) calls calls' old new h is =
+      subst (λ c. Is c new) (sym (append-nil came)) (took_typed came silence wait calls calls' old new h is)
 
   runs_typed : (steps : List (RunStep S)) (came : List S) (calls calls' : Option (List PortCall)) (old new : Shared S)
       → RunsBy remaining contents to steps calls calls' old new → Is came old → Is (came ++ came_in steps) new

@@ -32,7 +32,7 @@ use Rattle.roam_terminals.specs.Hearing.TakesLine.{taken, waits, no_memory, look
 use Rattle.roam_terminals.specs.Overlaid.{IsOver, on_show}
 use Rattle.roam_terminals.specs.Painted.{MayPaint, Paints, is_here, is_open, is_ready, shown_of}
 use Rattle.roam_terminals.specs.Painted.MayPaint.{painted, told as was_told, not_ready}
-use Rattle.roam_terminals.specs.Running.{Came, Comes, IsFresh, IsStep, RunStep, RunsBy, Took}
+use Rattle.roam_terminals.specs.Running.{Asks, Came, Comes, IsFresh, IsStep, RunStep, RunsBy, Took}
 use Rattle.roam_terminals.specs.Sharing.{AreEach, HearsAll, Settles, Shared, is_gone, turned_round, who_stay}
 use Rattle.roam_terminals.specs.Silence.{notice_of}
 use Rattle.roam_terminals.specs.Writing.{Flushes, SaysSilence, TellsSilence, is_empty}
@@ -633,6 +633,9 @@ module _ {S : Type 0} (remaining contents : S → Option (List ℕ)) where
     step_led : (came : List S) (screens : List Screenshot) (step : RunStep S) (calls calls' : Option (List PortCall))
         (old new : Shared S) → IsStep remaining contents to step calls calls' old new → AreLed contents came screens old.all
         → AreLed contents (came ++ came_in (step ∷ [])) (screens ++ new.client.kept.receiver.newest.state ∷ []) new.all
+    step_led came screens (Asks call) calls calls' old new h led =
+        subst (λ s. AreLed contents (came ++ []) (screens ++ s.client.kept.receiver.newest.state ∷ []) s.all) (sym h.1)
+        (all_more came [] screens (old.client.kept.receiver.newest.state ∷ []) old.all led)
     step_led came screens (Came stream) calls calls' old new h led =
         let screen = new.client.kept.receiver.newest.state in
         let comes : Comes stream old new = h.1 in
@@ -643,7 +646,7 @@ module _ {S : Type 0} (remaining contents : S → Option (List ℕ)) where
               (came_led came (screens ++ screen ∷ []) stream comes.terminal comes.is comes.fresh),
           tt,
         ))
-    step_led came screens (Took silence) calls calls' old new h led =
+    step_led came screens (Took silence wait) calls calls' old new h led =
         let screen = new.client.kept.receiver.newest.state in
         let heard = all_heard came screens old.all h.heard old.client h.client h.ending h.hears led in
         let done = all_painted came screens silence new.client h.heard h.painted h.paints heard in
@@ -655,8 +658,9 @@ module _ {S : Type 0} (remaining contents : S → Option (List ℕ)) where
 
     pub came_on : (came : List S) (step : RunStep S) (steps : List (RunStep S))
         → (came ++ came_in (step ∷ [])) ++ came_in steps ≡ came ++ came_in (step ∷ steps)
+    came_on came (Asks call) steps = ap (λ c. c ++ came_in steps) (append-nil came)
     came_on came (Came stream) steps = append_assoc came (stream ∷ []) (came_in steps)
-    came_on came (Took silence) steps = ap (λ c. c ++ came_in steps) (append-nil came)
+    came_on came (Took silence wait) steps = ap (λ c. c ++ came_in steps) (append-nil came)
 
     runs_led : (steps : List (RunStep S)) (came : List S) (screens : List Screenshot) (calls calls' : Option (List PortCall))
         (old new : Shared S) (h : RunsBy remaining contents to steps calls calls' old new) → AreLed contents came screens old.all

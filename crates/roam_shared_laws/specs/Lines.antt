@@ -9,7 +9,7 @@ use Rattle.roam_turns.specs.Cores.{client_step}
 use Rattle.roam_turns.specs.Parts.{Makes}
 use Rattle.roam_turns.specs.Turns.{QuietTurn}
 use Rattle.roam_typing.specs.Lines.{ended_all}
-use Rattle.roam_terminals.specs.Running.{Came, RunStep, RunsBy, Took}
+use Rattle.roam_terminals.specs.Running.{Asks, Came, RunStep, RunsBy, Took}
 use Rattle.roam_terminals.specs.Sharing.{Shared, is_gone}
 use Rattle.roam_terminals.specs.Terminals.{Stands, TakesAll, Types}
 use Rattle.roam_terminals.specs.declared.terminal.State.TheVariants.{Gone}
@@ -18,8 +18,9 @@ use Rattle.roam_terminals.specs.declared.terminal.Terminal.{Terminal}
 -- the streams at whose other ends terminals came, in their order
 abbrev pub came_in : {S : Type 0} → List (RunStep S) → List S
 came_in [] = []
+came_in (Asks call ∷ steps) = came_in steps
 came_in (Came stream ∷ steps) = stream ∷ came_in steps
-came_in (Took silence ∷ steps) = came_in steps
+came_in (Took silence wait ∷ steps) = came_in steps
 
 -- what stands at a place of a list, from 0
 abbrev pub IsAt : {X : Type 0} → List X → ℕ → X → Type 0

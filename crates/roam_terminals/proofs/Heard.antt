@@ -11,7 +11,7 @@ use Rattle.roam_typing.specs.Lines.{IsFirst, LinesView, front_of}
 use Rattle.roam_typing.specs.declared.entries.Entry.{Entry}
 use Rattle.roam_typing.specs.declared.entries.Entry.TheVariants.{Acts, Paste, Told, Repaint, Watch, Guess, Look, LookStyled, Show, End}
 use Rattle.roam_typing.specs.declared.lines.Front.TheVariants.{TooLong}
-use Rattle.roam_terminals.specs.Hearing.{Asks, HearsOne, HeardStands, IsBad, IsRead, IsRefusal, IsRefused, TakesEntry, TakesLine, is_end, outer_after}
+use Rattle.roam_terminals.specs.Hearing.{Asks, HearsOne, HeardStands, IsBad, IsRead, IsRefusal, IsRefused, TakesEntry, TakesLine, is_end, outer_after, told_of}
 use Rattle.roam_terminals.specs.Hearing.IsBad.{no_entry as says_nothing, late as too_late, no_memory as wanting}
 use Rattle.roam_terminals.specs.Hearing.IsRead.{read, refused}
 use Rattle.roam_terminals.specs.Hearing.TakesEntry.{taken as entry_taken, waits as entry_waits, no_memory as entry_wanting, looks as entry_looks, untold as entry_untold, late as entry_late}
@@ -56,27 +56,29 @@ ends_told false = refl
 pub entry_heard : {S : Type 0} (entry : Entry) (line rest : List ℕ) (old mid new : Terminal S) (client client' : ClientView) (told : Taking)
     → old.watches ≡ mid.watches → is_heard mid.state ≡ true → IsFirst mid.lines.kept line rest → Says line entry
     → TakesEntry entry mid new client client' told
-    → (taken : Option Entry) × TakesLine taken mid new client client' × (is_end told ≡ asks_end old.watches taken)
+    → (taken : Option Entry) × (takes : TakesLine taken mid new client client') × (is_end told ≡ asks_end old.watches taken)
+    × (told ≡ told_of takes)
 entry_heard entry line rest old mid new client client' told same heard first says (entry_taken t may took types guesses is) = (
   Some entry,
   line_taken entry line refl heard (subst (IsFirst mid.lines.kept line) (sym (took line rest first)) first) says may types guesses is,
   ap is_end t ∙ (ends_told (ends_by mid.watches entry) ∙ ap (λ w. ends_by w entry) (sym same)),
+  t,
 )
 entry_heard entry line rest old mid new client client' told same heard first says (entry_waits t watches holds c is) =
     let asks : Asks mid.lines.kept entry = record { line = line; rest = rest; first = first; says = says } in
-    (None, line_waits entry refl heard asks watches holds c is, ap is_end t)
+    (None, line_waits entry refl heard asks watches holds c is, ap is_end t, t)
 entry_heard entry line rest old mid new client client' told same heard first says (entry_wanting t watches some c is) =
     let asks : Asks mid.lines.kept entry = record { line = line; rest = rest; first = first; says = says } in
-    (None, line_wanting entry refl heard asks watches some c is, ap is_end t)
+    (None, line_wanting entry refl heard asks watches some c is, ap is_end t, t)
 entry_heard entry line rest old mid new client client' told same heard first says (entry_looks t is_look again c is) =
     let asks : Asks mid.lines.kept entry = record { line = line; rest = rest; first = first; says = says } in
-    (None, line_looks entry refl heard asks is_look again c is, ap is_end t)
+    (None, line_looks entry refl heard asks is_look again c is, ap is_end t, t)
 entry_heard entry line rest old mid new client client' told same heard first says (entry_untold t told_is c is) =
     let asks : Asks mid.lines.kept Told = record { line = line; rest = rest; first = first; says = subst (Says line) told_is says } in
-    (None, line_untold refl heard asks c is, ap is_end t)
+    (None, line_untold refl heard asks c is, ap is_end t, t)
 entry_heard entry line rest old mid new client client' told same heard first says (entry_late t may is c) =
     let asks : Asks mid.lines.kept entry = record { line = line; rest = rest; first = first; says = says } in
-    (None, line_refused refl heard (too_late entry asks may) is c, ap is_end t)
+    (None, line_refused refl heard (too_late entry asks may) is c, ap is_end t, t)
 
 -- why it is refused
 pub line_bad : (lines : LinesView) (telling : Option TellingView) (line rest : List ℕ) (fault : Fault) → IsFirst lines.kept line rest

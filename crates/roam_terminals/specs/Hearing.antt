@@ -234,6 +234,18 @@ Took kept kept' = (line rest : List ℕ) → IsFirst kept line rest → kept' �
 abbrev pub taking_of : Bool → Entry → Taking
 taking_of watches entry = if ends_by watches entry then taking.End else taking.Line
 
+-- so what became of the line that stood first is told
+abbrev pub told_of : {S : Type 0} {entry : Option Entry} {old new : Terminal S} {client client' : ClientView}
+    → TakesLine entry old new client client' → Taking
+told_of {S} {entry} {old} (taken e line is heard first says may types guesses makes) = taking_of old.watches e
+told_of (waits e none heard asks watches holds same still) = taking.Waits
+told_of (no_memory e none heard asks watches some same still) = taking.NoMemory
+told_of (looks e none heard asks is again same still) = taking.Waits
+told_of (untold none heard asks same still) = taking.NoMemory
+told_of (refused none heard why refuses same) = taking.Nothing
+told_of (nothing none heard no_line same still) = taking.Nothing
+told_of (unheard none not_heard same still) = taking.Nothing
+
 abbrev pub is_end : Taking → Bool
 is_end taking.Nothing = false
 is_end taking.Line = false

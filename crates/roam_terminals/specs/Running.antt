@@ -1,9 +1,18 @@
--- The whole run of a client start with its outer terminals: terminals come, and rounds are taken, one joined to the next.
-use Rattle.std.specs.Prelude.{◌≡◌, ℕ, Bool, true, false, List, [], ◌∷◌, ◌++◌, Option, Some, None}
+-- The whole run of a client start with its outer terminals: terminals come, and rounds are taken, one joined to the next, until the end.
+use Rattle.std.specs.Prelude.{◌≡◌, ℕ, zero, suc, ◌-◌, ◌<◌, ◌≤◌, ◌^◌, ◌==◌, min, nat_lt, not, Bool, true, false, List, [], ◌∷◌, ◌++◌, length, Option, Some, None, IfSome, is_some, if◌then◌else◌}
+use Rattle.roam_hub.specs.Clients.{ClientView}
+use Rattle.roam_hub.specs.Waits.{has_come}
 use Rattle.roam_hub.specs.declared.addresses.Addr.{Addr}
-use Rattle.roam_turns.specs.Calls.{PortCall}
+use Rattle.roam_turns.specs.Calls.{DoorCall, PortCall, Tells}
+use Rattle.roam_turns.specs.Calls.DoorCall.{Came as came, HasEnded, Rested}
+use Rattle.roam_turns.specs.Calls.PortCall.{Asked}
 use Rattle.roam_typing.specs.Lines.{nothing_came}
-use Rattle.roam_terminals.specs.Sharing.{Rounds, Shared}
+use Rattle.roam_world.specs.Clients.{moment_of}
+use Rattle.roam_world.specs.Sendings.{is_client_due}
+use Rattle.roam_terminals.specs.Sharing.{Rounds, Shared, most_terminals}
+use Rattle.roam_terminals.specs.Silence.{end_of, wait_of}
+use Rattle.roam_terminals.specs.declared.silence.End.{End}
+use Rattle.roam_terminals.specs.declared.silence.End.TheVariants.{Gone}
 use Rattle.roam_terminals.specs.declared.silence.Silence.{Silence}
 use Rattle.roam_terminals.specs.declared.terminal.State.TheVariants.{Here}
 use Rattle.roam_terminals.specs.declared.terminal.Terminal.{Terminal}
@@ -28,16 +37,21 @@ pub record Comes {S : Type 0} (stream : S) (old new : Shared S) : Type 0 where
   pub fresh : IsFresh terminal
   pub all : new ≡ record old { all = old.all ++ terminal ∷ [] }
 
--- a step of a run: a terminal came at the other end of a stream, or a round was taken, at which the start knew of a silence
-pub data RunStep (S : Type 0) : Type 0 where
-  Came : (stream : S) → RunStep S
-  Took : (silence : Silence) → RunStep S
+-- ---- steps
 
--- the ports are called in rounds alone
+-- a step of a run: the door was asked something; a terminal came there at the other end of a stream; or a round was taken, at which the
+-- start knew of a silence, and which may be followed by so long a wait
+pub data RunStep (S : Type 0) : Type 0 where
+  Asks : (call : DoorCall) → RunStep S
+  Came : (stream : S) → RunStep S
+  Took : (silence : Silence) → (wait : ℕ) → RunStep S
+
+-- the door is asked between rounds, and all other calls of the ports are made in them
 abbrev pub IsStep : {S : Type 0} → (S → Option (List ℕ)) → (S → Option (List ℕ)) → Addr → RunStep S
     → Option (List PortCall) → Option (List PortCall) → Shared S → Shared S → Type 0
-IsStep remaining contents to (Came stream) calls calls' old new = (calls' ≡ calls) × Comes stream old new
-IsStep remaining contents to (Took silence) calls calls' old new = Rounds remaining contents to silence calls calls' old new
+IsStep remaining contents to (Asks call) calls calls' old new = Tells calls calls' (Asked call ∷ []) × (new ≡ old)
+IsStep remaining contents to (Came stream) calls calls' old new = Tells calls calls' (Asked (came true) ∷ []) × Comes stream old new
+IsStep remaining contents to (Took silence wait) calls calls' old new = Rounds remaining contents to silence wait calls calls' old new
 
 -- these steps were taken, each where the one before ended
 abbrev pub RunsBy : {S : Type 0} → (S → Option (List ℕ)) → (S → Option (List ℕ)) → Addr → List (RunStep S)
@@ -52,14 +66,102 @@ abbrev pub Runs : {S : Type 0} → (S → Option (List ℕ)) → (S → Option (
     → Option (List PortCall) → Option (List PortCall) → Shared S → Shared S → Type 0
 Runs {S} remaining contents to calls calls' old new = (steps : List (RunStep S)) × RunsBy remaining contents to steps calls calls' old new
 
--- ---- the end
+-- ---- who comes
 
--- since when a run is to end: since a terminal first asked for it
-abbrev pub asked_after : Bool → ℕ → Option ℕ → Option ℕ
-asked_after false moment asked = asked
-asked_after true moment None = Some moment
-asked_after true moment (Some since) = Some since
+-- so many are asked for at most before a round
+abbrev pub most_asked : ℕ
+most_asked = 64
 
--- how many milliseconds it goes on at most then
+-- one who came at a door was taken in, where fewer than sixteen were there; or let go, and the start is as it was
+pub data Arrives {S : Type 0} (old new : Shared S) : Type 0 where
+  taken_in : (stream : S) → length old.all < most_terminals → Comes stream old new → Arrives old new
+  let_go : new ≡ old → Arrives old new
+
+-- so many came, one after the other, each asked for
+abbrev pub ArriveAll : {S : Type 0} → ℕ → Option (List PortCall) → Option (List PortCall) → Shared S → Shared S → Type 0
+ArriveAll zero calls calls' old new = (calls' ≡ calls) × (new ≡ old)
+ArriveAll {S} (suc n) calls calls' old new =
+    (mid : Shared S) × (between : Option (List PortCall)) × ArriveAll n calls between old mid
+    × Tells between calls' (Asked (came true) ∷ []) × Arrives mid new
+
+-- those who came were taken in or let go: until nobody came, or so many had as are asked for
+pub data TakesIn {S : Type 0} (calls calls' : Option (List PortCall)) (old new : Shared S) : Type 0 where
+  until_nobody : (n : ℕ) (between : Option (List PortCall)) → n < most_asked → ArriveAll n calls between old new
+      → Tells between calls' (Asked (came false) ∷ []) → TakesIn calls calls' old new
+  many : ArriveAll most_asked calls calls' old new → TakesIn calls calls' old new
+
+-- ---- the rest, and the end
+
+-- how many milliseconds it goes on at most once a terminal asked for the end
 abbrev pub longest_end : ℕ
 longest_end = 1000
+
+-- a run is over at a moment, as a terminal asked: every act that was typed is acknowledged, or a second passed since it first asked
+pub data IsOver {S : Type 0} (s : Shared S) (moment : ℕ) : Type 0 where
+  settled : (since : ℕ) → s.ending ≡ Some since → s.client.kept.acts.acts ≡ [] → IsOver s moment
+  late : (since : ℕ) → s.ending ≡ Some since → longest_end ≤ moment - since → IsOver s moment
+
+-- so many rounds end with the machine alone
+abbrev pub is_for_good : ℕ → Bool
+is_for_good rounds = rounds == 2 ^ 64 - 1
+
+-- no longer than so many milliseconds, where that is so
+abbrev pub within : Bool → ℕ → ℕ → ℕ
+within is_so longest wait = if is_so then min wait longest else wait
+
+-- How many milliseconds are rested at most after a round that may be followed by so long a wait: where a terminal is there, until a silence
+-- is to be told next; where the end was asked for, no longer than it goes on; and ten where the rounds are counted, so that they end by
+-- themselves.
+abbrev pub longest_rest : {S : Type 0} → Shared S → Silence → ℕ → ℕ → ℕ
+longest_rest s silence wait rounds =
+    within (not (is_for_good rounds)) 10
+    (within (is_some s.ending) longest_end (within (nat_lt 0 (length s.all)) (wait_of silence) wait))
+
+-- a client start next has something due at a moment, or never: nothing is due before it, and something is at it
+pub record IsNextDue (client : ClientView) (due : Option ℕ) : Type 0 where
+  pub before : (now : ℕ) → now < 2 ^ 64 → has_come due now ≡ false → is_client_due client.kept (moment_of client.kept now) ≡ false
+  pub at : IfSome due (λ d. is_client_due client.kept (moment_of client.kept d) ≡ true)
+
+-- What follows a round: the server has ended; or it hasn't, and the run is over, and that is told as it was heard of the server; or neither,
+-- and the start rests, until it next has something due.
+pub data Follows {S : Type 0} (rounds : ℕ) (silence : Silence) (wait : ℕ) (end : Option End) (calls calls' : Option (List PortCall))
+    (s : Shared S) : Type 0 where
+  ended : Tells calls calls' (Asked (HasEnded true) ∷ []) → end ≡ Some Gone → Follows rounds silence wait end calls calls' s
+  over : Tells calls calls' (Asked (HasEnded false) ∷ []) → IsOver s silence.moment → end ≡ Some (end_of silence)
+      → Follows rounds silence wait end calls calls' s
+  rests : (between : Option (List PortCall)) (due : Option ℕ) → Tells calls between (Asked (HasEnded false) ∷ [])
+      → (IsOver s silence.moment → ⊥) → IsNextDue s.client due
+      → Tells between calls' (Asked (Rested (longest_rest s silence wait rounds) due) ∷ []) → end ≡ None
+      → Follows rounds silence wait end calls calls' s
+
+-- ---- a whole run
+
+-- A turn of a run: those who came are taken in, a round is taken, and what follows it tells whether that is the end.
+pub record TakesTurn {S : Type 0} (remaining contents : S → Option (List ℕ)) (to : Addr) (rounds : ℕ) (silence : Silence) (end : Option End)
+    (calls calls' : Option (List PortCall)) (old new : Shared S) : Type 0 where
+  pub mid : Shared S
+  pub between : Option (List PortCall)
+  pub after : Option (List PortCall)
+  pub wait : ℕ
+  pub came : TakesIn calls between old mid
+  pub round : Rounds remaining contents to silence wait between after mid new
+  pub follows : Follows rounds silence wait end after calls' new
+
+-- so many turns were taken, none of which was the end
+abbrev pub TakesTurns : {S : Type 0} → (S → Option (List ℕ)) → (S → Option (List ℕ)) → Addr → ℕ → ℕ
+    → Option (List PortCall) → Option (List PortCall) → Shared S → Shared S → Type 0
+TakesTurns remaining contents to rounds zero calls calls' old new = (calls' ≡ calls) × (new ≡ old)
+TakesTurns {S} remaining contents to rounds (suc n) calls calls' old new =
+    (mid : Shared S) × (between : Option (List PortCall)) × (silence : Silence) × TakesTurns remaining contents to rounds n calls between old mid
+    × TakesTurn remaining contents to rounds silence None between calls' mid new
+
+-- A whole run of so many rounds at most: all of them were taken, and what was heard of the server is told at last; or fewer were, and one
+-- more that was the end.
+pub data RunsOut {S : Type 0} (remaining contents : S → Option (List ℕ)) (to : Addr) (rounds : ℕ) (last : Silence) (end : End)
+    (calls calls' : Option (List PortCall)) (old new : Shared S) : Type 0 where
+  counted : TakesTurns remaining contents to rounds rounds calls calls' old new → end ≡ end_of last
+      → RunsOut remaining contents to rounds last end calls calls' old new
+  ended : (n : ℕ) (between : Option (List PortCall)) (mid : Shared S) → n < rounds
+      → TakesTurns remaining contents to rounds n calls between old mid
+      → TakesTurn remaining contents to rounds last (Some end) between calls' mid new
+      → RunsOut remaining contents to rounds last end calls calls' old new

@@ -1,5 +1,5 @@
 -- What a client start takes of an outer terminal: its lines in their order, each once.
-use Rattle.std.specs.Prelude.{◌≡◌, ◌≢◌, ℕ, ◌+◌, ◌<◌, Bool, true, false, not, List, [], ◌∷◌, ◌++◌, length, Option, Some, None}
+use Rattle.std.specs.Prelude.{◌≡◌, ◌≢◌, ℕ, ◌+◌, ◌<◌, Bool, true, false, not, nat_lt, List, [], ◌∷◌, ◌++◌, length, Option, Some, None}
 use Rattle.std.specs.List.{fold}
 use Rattle.std.specs.Io.KnownBytes.{Consumes}
 use Rattle.roam_acts.specs.declared.acts.Act.{Act}
@@ -146,6 +146,11 @@ pub data IsSet (guessing : Guessing) (watches : Bool) (new : Option OverlayOf) :
 abbrev pub guesses_by : Bool → Bool → List Act → ClientView → Option OverlayOf → Option OverlayOf
 guesses_by true pasted acts client old = old
 guesses_by false pasted acts client old = guesses_after pasted (first_number client) acts client.kept.receiver.newest.state old
+
+-- something is guessed
+abbrev pub has_guesses : Option OverlayOf → Bool
+has_guesses None = false
+has_guesses (Some o) = nat_lt 0 (length o.guesses.list)
 
 -- what a line that was taken makes of what is guessed: its acts are guessed; it says when guesses are shown; or nothing changes
 abbrev pub Guesses : Bool → Entry → ClientView → Option OverlayOf → Option OverlayOf → Type 0

@@ -5,7 +5,7 @@ ghost use Rattle.std.specs.List.{All};
 ghost use Rattle.roam_acts.specs.Acts.{IsInRange};
 ghost use Rattle.roam_faults.specs.Streams.{IsStreamEnd};
 ghost use Rattle.roam_hub.specs.Clients.{ClientView};
-ghost use Rattle.roam_terminals.specs.Hearing.{HearsOne, IsRead, IsRefused, TakesEntry, TakesWord, Took, TypesLine, forgotten, is_end, line_told, look_of};
+ghost use Rattle.roam_terminals.specs.Hearing.{HearsOne, IsRead, IsRefused, TakesEntry, TakesWord, Took, TypesLine, forgotten, is_end, line_told, look_of, told_of};
 ghost use Rattle.roam_telling.specs.Telling.{nothing_told};
 ghost use Rattle.roam_terminals.specs.Terminals.{IsSet, Reads, asks_end, fresh_guesses, guesses_after, is_heard, is_read};
 ghost use Rattle.roam_typing.specs.Entries.{Says, acts_in};
@@ -356,8 +356,8 @@ impl<S: Duplex + Drop> Terminal<S> {
 
     /// Reads what came, and does what the line that stands first asks for: its acts are typed at the start, all of them or none.
     pub(crate) fn hear(&mut self, alloc: Global, client: &mut Client) -> Taking
-        ensures hears { (entry : Option EntryOf) × HearsOne S.remaining S.contents entry self.old self.new client.old client.new
-            × (is_end result ≡ asks_end self.old.watches entry) }
+        ensures hears { (entry : Option EntryOf) × (hears : HearsOne S.remaining S.contents entry self.old self.new client.old client.new)
+            × (is_end result ≡ asks_end self.old.watches entry) × (result ≡ told_of hears.takes) }
         ensures number { client.new.kept.receiver ≡ client.old.kept.receiver }
     {
         self.read_line(alloc);

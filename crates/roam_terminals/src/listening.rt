@@ -1,5 +1,8 @@
 //! Ports that know when something was heard last.
-ghost use Rattle.std.specs.Prelude.{◌≡◌, ◌≤◌, None, Some, IfSome, length};
+ghost use Rattle.std.specs.Prelude.{◌≡◌, ◌≤◌, ◌∷◌, [], None, Some, IfSome, is_some, length};
+ghost use Rattle.roam_turns.specs.Calls.{Tells};
+ghost use Rattle.roam_turns.specs.Calls.DoorCall.{Came, HasEnded, Rested};
+ghost use Rattle.roam_turns.specs.Calls.PortCall.{Asked};
 
 use crate::running::Door;
 use crate::silence::Silence;
@@ -44,7 +47,7 @@ impl<P: Ports + Drop> Listening<P> {
     pub(crate) fn next<S>(&mut self) -> Option<S>
     where
         P: Door<S>,
-        ensures told { P.told self.new.ports ≡ P.told self.old.ports }
+        ensures tells { Tells (P.told self.old.ports) (P.told self.new.ports) (Asked (Came (is_some result)) ∷ []) }
         ensures others { self.new ≡ record self.old { ports = self.new.ports } }
     {
         self.ports.next()
@@ -54,7 +57,7 @@ impl<P: Ports + Drop> Listening<P> {
     pub(crate) fn has_ended<S>(&mut self) -> bool
     where
         P: Door<S>,
-        ensures told { P.told self.new.ports ≡ P.told self.old.ports }
+        ensures tells { Tells (P.told self.old.ports) (P.told self.new.ports) (Asked (HasEnded result) ∷ []) }
         ensures others { self.new ≡ record self.old { ports = self.new.ports } }
     {
         self.ports.has_ended()
@@ -64,7 +67,7 @@ impl<P: Ports + Drop> Listening<P> {
     pub(crate) fn rest<S>(&mut self, longest: u64, due: Option<u64>)
     where
         P: Door<S>,
-        ensures told { P.told self.new.ports ≡ P.told self.old.ports }
+        ensures tells { Tells (P.told self.old.ports) (P.told self.new.ports) (Asked (Rested longest due) ∷ []) }
         ensures others { self.new ≡ record self.old { ports = self.new.ports } }
     {
         self.ports.rest(longest, due);

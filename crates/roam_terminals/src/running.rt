@@ -1,20 +1,23 @@
 //! The whole run of a client start that stays while outer terminals come and go.
-ghost use Rattle.std.specs.Prelude.{◌≡◌, ◌≤◌, ◌-◌, true, false, Some, ℕ};
-ghost use Rattle.roam_terminals.specs.Running.{Runs, asked_after};
+ghost use Rattle.std.specs.Prelude.{◌≡◌, ◌∷◌, [], ℕ, is_some};
+ghost use Rattle.roam_terminals.specs.Running.{Runs, RunsOut, TakesIn, TakesTurn, is_for_good, longest_rest, within};
+ghost use Rattle.roam_turns.specs.Calls.{Tells};
+ghost use Rattle.roam_turns.specs.Calls.DoorCall.{Came, HasEnded, Rested};
+ghost use Rattle.roam_turns.specs.Calls.PortCall.{Asked};
 
 use crate::duplex::Duplex;
 use crate::listening::Listening;
-use crate::sharing::{MOST_TERMINALS, SharedStart};
+use crate::sharing::{LONGEST_END, MOST_TERMINALS, SharedStart};
 use crate::silence::{End, Silence};
 use roam_hub::Addr;
 use roam_turns::Ports;
 use std::alloc::Global;
 
-/// How many milliseconds a start goes on at most after a terminal asked for its end.
-const SECOND: u64 = 1000;
-
 /// So many rounds end with the machine.
 const FOR_GOOD: u64 = u64::MAX;
+
+/// How many terminals are asked for at most before a round.
+const MOST_ASKED: usize = 64;
 
 /// What one above sixteen is told.
 const FULL: &[u8] = b"full\n";
@@ -22,21 +25,21 @@ const FULL: &[u8] = b"full\n";
 /// How many milliseconds a start waits at most whose rounds are counted, so that they end by themselves.
 const SHORT: u64 = 10;
 
-/// Where outer terminals come, and where their start rests between two rounds: a socket, or memory in a test. It has the start's ports; no
-/// call of it is one of these.
+/// Where outer terminals come, and where their start rests between two rounds: a socket, or memory in a test. It has the start's ports; what
+/// it is asked is told among their calls.
 pub trait Door<S>: Ports {
     /// The stream of a terminal that comes, where one does.
     fn next(&mut self) -> Option<S>
-        ensures told { Self.told self.new ≡ Self.told self.old };
+        ensures tells { Tells (Self.told self.old) (Self.told self.new) (Asked (Came (is_some result)) ∷ []) };
 
     /// Whether the server is known to have ended.
     fn has_ended(&mut self) -> bool
-        ensures told { Self.told self.new ≡ Self.told self.old };
+        ensures tells { Tells (Self.told self.old) (Self.told self.new) (Asked (HasEnded result) ∷ []) };
 
     /// Waits until something comes, so many milliseconds at most, not at all where these are none, and no longer than until a moment at
     /// which something is due.
     fn rest(&mut self, longest: u64, due: Option<u64>)
-        ensures told { Self.told self.new ≡ Self.told self.old };
+        ensures tells { Tells (Self.told self.old) (Self.told self.new) (Asked (Rested longest due) ∷ []) };
 }
 
 // Says to one above sixteen that there is no room, and lets it go.
@@ -54,8 +57,10 @@ fn take_in<S: Duplex + Drop, D: Door<S> + Drop>(
     to: Addr,
 )
     ensures runs { Runs S.remaining S.contents to (D.told door.old.ports) (D.told door.new.ports) shared.old shared.new }
+    ensures takes { TakesIn (D.told door.old.ports) (D.told door.new.ports) shared.old shared.new }
+    ensures others { door.new ≡ record door.old { ports = door.new.ports } }
 {
-    for _ in 0..4 * MOST_TERMINALS {
+    for _ in 0..MOST_ASKED {
         let Some(stream) = door.next() else {
             return;
         };
@@ -67,44 +72,54 @@ fn take_in<S: Duplex + Drop, D: Door<S> + Drop>(
     }
 }
 
-// Whether a start is over, as one of its terminals asked: all acts that were typed are acknowledged, or a second passed.
-fn is_over<S: Duplex + Drop>(
-    shared: &SharedStart<S>,
-    silence: Silence,
-    asked: &mut Option<u64>,
-) -> bool
-    ensures asked { asked.new ≡ asked_after shared.now.is_ending silence.moment asked.old }
-    ensures over { result ≡ true → shared.now.is_ending ≡ true }
+// No longer than so many milliseconds, where that is so.
+fn within(is_so: bool, longest: u64, wait: u64) -> u64
+    ensures wait { result ≡ within is_so longest wait }
 {
-    if !shared.is_ending() {
-        return false;
-    }
-    let since = asked.unwrap_or(silence.moment());
-    *asked = Some(since);
-    shared.client().is_settled() || silence.has_passed(since, SECOND)
+    if is_so { wait.min(longest) } else { wait }
 }
 
-// How many milliseconds may be waited at most after a round that answered so.
+// How many milliseconds are rested at most after a round that answered so.
 fn longest_rest<S: Duplex + Drop>(
     shared: &SharedStart<S>,
     silence: Silence,
     wait: u64,
-    is_asked: bool,
     rounds: u64,
 ) -> u64
-    ensures within { result ≤ wait }
+    ensures rest { result ≡ longest_rest shared.now silence wait rounds }
 {
-    let mut longest = wait;
-    if shared.len() > 0 {
-        longest = longest.min(silence.wait());
+    let while_there = within(shared.len() > 0, silence.wait(), wait);
+    let while_ending = within(shared.is_ending(), LONGEST_END, while_there);
+    within(rounds != FOR_GOOD, SHORT, while_ending)
+}
+
+// A turn of a run: those who come are taken in, a round is taken, and the start rests. Where that was the end it is answered what was heard
+// of the server.
+fn take_turn<S: Duplex + Drop, D: Door<S> + Drop>(
+    alloc: Global,
+    shared: &mut SharedStart<S>,
+    door: &mut Listening<D>,
+    to: Addr,
+    rounds: u64,
+) -> Option<End>
+    ensures runs { Runs S.remaining S.contents to (D.told door.old.ports) (D.told door.new.ports) shared.old shared.new }
+    ensures takes { TakesTurn S.remaining S.contents to rounds door.new.silence result (D.told door.old.ports) (D.told door.new.ports)
+        shared.old shared.new }
+{
+    take_in(alloc, shared, door, to);
+    let wait = shared.round(alloc, door, to);
+    if door.has_ended() {
+        return Some(End::Gone);
     }
-    if is_asked {
-        longest = longest.min(SECOND);
+    let silence = door.silence();
+    if shared.is_over(silence) {
+        return Some(silence.end());
     }
-    if rounds != FOR_GOOD {
-        longest = longest.min(SHORT);
-    }
-    longest
+    door.rest(
+        longest_rest(shared, silence, wait, rounds),
+        shared.client().next_due(),
+    );
+    None
 }
 
 /// Is the start of all outer terminals that come to a door, for so many rounds at most: those that come are taken in, a round is taken, and
@@ -118,20 +133,13 @@ pub fn run_shared<S: Duplex + Drop, D: Door<S> + Drop>(
     rounds: u64,
 ) -> End
     ensures runs { Runs S.remaining S.contents to (D.told door.old.ports) (D.told door.new.ports) shared.old shared.new }
+    ensures out { RunsOut S.remaining S.contents to rounds door.new.silence result (D.told door.old.ports) (D.told door.new.ports)
+        shared.old shared.new }
 {
-    let mut asked = None;
     for _ in 0..rounds {
-        take_in(alloc, shared, door, to);
-        let wait = shared.round(alloc, door, to);
-        if door.has_ended() {
-            return End::Gone;
+        if let Some(end) = take_turn(alloc, shared, door, to, rounds) {
+            return end;
         }
-        let silence = door.silence();
-        if is_over(shared, silence, &mut asked) {
-            return silence.end();
-        }
-        let longest = longest_rest(shared, silence, wait, asked.is_some(), rounds);
-        door.rest(longest, shared.client().next_due());
     }
     door.silence().end()
 }

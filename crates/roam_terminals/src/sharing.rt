@@ -1,9 +1,10 @@
 //! A client start that stays while outer terminals come and go, one after the other.
-ghost use Rattle.std.specs.Prelude.{◌≡◌, ◌⊎◌, ◌<◌, ◌++◌, ◌∷◌, ◌||◌, [], Bool, false, length, List, ℕ, OnOk, OnErr, IfErr};
+ghost use Rattle.std.specs.Prelude.{◌≡◌, ◌⊎◌, ◌↔◌, ◌<◌, ◌++◌, ◌∷◌, ◌||◌, [], None, length, List, ℕ, OnOk, OnErr, IfErr, IsTrue, is_some};
+ghost use Rattle.std.specs.List.{list_any};
 ghost use Rattle.roam_screens.specs.Screenshot.{Screenshot};
 ghost use Rattle.roam_terminals.specs.Painted.{MayPaint};
-ghost use Rattle.roam_terminals.specs.Running.{IsFresh};
-ghost use Rattle.roam_terminals.specs.Sharing.{AreEach, AreEachBehind, HearsAll, Rounds, Settles, most_terminals, turned_round, who_stay};
+ghost use Rattle.roam_terminals.specs.Running.{IsFresh, IsOver};
+ghost use Rattle.roam_terminals.specs.Sharing.{AreEach, AreEachBehind, AreHeard, Rounds, Settles, ending_after, is_any_waiting, is_guessing, most_terminals, turned_round, wait_after, wait_for, who_stay};
 ghost use Rattle.roam_terminals.specs.declared.terminal.Terminal.{Terminal as TerminalOf};
 ghost use Rattle.roam_turns.specs.Cores.{client_step};
 ghost use Rattle.roam_turns.specs.Parts.{Makes};
@@ -28,6 +29,9 @@ const SOON: u64 = 10;
 
 const LATER: u64 = 1000;
 
+/// How many milliseconds it goes on at most after a terminal asked for its end.
+pub(crate) const LONGEST_END: u64 = 1000;
+
 /// How many milliseconds it waits at most where a terminal has guesses: they go by and by.
 const GUESSED: u64 = 20;
 
@@ -36,16 +40,16 @@ const GUESSED: u64 = 20;
 pub struct SharedStart<S> {
     client: Client,
     all: Vec<Terminal<S>>,
-    is_ending: bool,
+    // Since when it is to end, where one of its terminals asked for that.
+    ending: Option<u64>,
 }
 
 impl<S> Model for SharedStart<S> {
-    ghost use Rattle.roam_terminals.specs.Running.{IsFresh};
     ghost use Rattle.roam_terminals.specs.Sharing.{AreEachBehind, Shared};
 
     ghost Value = { Shared S };
 
-    ghost view = { λ s. record { client = s.client; all = s.all.items; is_ending = s.is_ending } };
+    ghost view = { λ s. record { client = s.client; all = s.all.items; ending = s.ending } };
 
     ghost invariant = { λ s. AreEachBehind s.all.items s.client.kept.receiver.newest.number s.client.kept.receiver.newest.state };
 }
@@ -63,7 +67,7 @@ fn hear_all<S: Duplex + Drop>(
     all: &mut [Terminal<S>],
     client: &mut Client,
 ) -> (u64, bool)
-    ensures hears { HearsAll S.remaining S.contents all.old all.new client.old client.new result.1 }
+    ensures hears { AreHeard S.remaining S.contents all.old all.new client.old client.new result.1 result.0 }
     ensures len { length all.new ≡ length all.old }
     ensures number { client.new.kept.receiver ≡ client.old.kept.receiver }
     ensures behind { AreEachBehind all.old client.old.kept.receiver.newest.number client.old.kept.receiver.newest.state
@@ -133,8 +137,7 @@ fn rotate<S: Drop>(all: &mut [Terminal<S>])
 
 // How many milliseconds may be waited at most, after a line was so taken.
 fn wait_after(taking: Taking) -> u64
-    ensures again { taking ≡ Taking.Line → result ≡ 0 }
-    ensures soon { taking ≡ Taking.NoMemory → result ≡ 10 }
+    ensures wait { result ≡ wait_after taking }
 {
     match taking {
         Taking::Nothing | Taking::Waits => u64::MAX,
@@ -147,12 +150,12 @@ impl<S: Duplex + Drop> SharedStart<S> {
     /// A client start; no terminal is there yet.
     pub fn new(alloc: Global, client: Client) -> SharedStart<S>
         ensures client { result.client ≡ client }
-        ensures none { (result.all ≡ []) × (result.is_ending ≡ false) }
+        ensures none { (result.all ≡ []) × (result.ending ≡ None) }
     {
         SharedStart {
             client,
             all: Vec::new(alloc),
-            is_ending: false,
+            ending: None,
         }
     }
 
@@ -172,9 +175,19 @@ impl<S: Duplex + Drop> SharedStart<S> {
 
     /// Whether one of them asked for the start's end.
     pub fn is_ending(&self) -> bool
-        ensures ending { result ≡ self.now.is_ending }
+        ensures ending { result ≡ is_some self.now.ending }
     {
-        self.is_ending
+        self.ending.is_some()
+    }
+
+    /// Whether it is over at a moment, as one of them asked: all acts that were typed are acknowledged, or a second passed since.
+    pub fn is_over(&self, silence: Silence) -> bool
+        ensures over { IsTrue result ↔ IsOver self.now silence.moment }
+    {
+        match self.ending {
+            None => false,
+            Some(since) => self.client.is_settled() || silence.has_passed(since, LONGEST_END),
+        }
     }
 
     /// Adds a terminal at the other end of a stream. `Busy` where 16 are there, `OutOfMemory`; then the stream is closed.
@@ -195,29 +208,47 @@ impl<S: Duplex + Drop> SharedStart<S> {
     }
 
     // Whether something waits to be written to one of them.
-    fn is_waiting(&self) -> bool {
+    fn is_waiting(&self) -> bool
+        ensures waits { result ≡ is_any_waiting self.now.all }
+    {
         self.all.iter().any(|terminal| terminal.is_waiting())
     }
 
+    // Whether something is guessed of what one of them is to show.
+    fn is_guessing(&self) -> bool
+        ensures guesses { result ≡ list_any is_guessing self.now.all }
+    {
+        self.all.iter().any(|terminal| terminal.is_guessing())
+    }
+
     // How many milliseconds may be waited at most, where it is no longer than a wait. In a silence no guess is shown.
-    fn wait_for(&self, wait: u64, silence: Silence) -> u64 {
+    fn wait_for(&self, wait: u64, silence: Silence) -> u64
+        ensures wait { result ≡ wait_for wait silence self.now.all }
+    {
         if self.is_waiting() {
             wait.min(LATER)
-        } else if !silence.is_long() && self.all.iter().any(|terminal| terminal.is_guessing()) {
+        } else if !silence.is_long() && self.is_guessing() {
             wait.min(GUESSED)
         } else {
             wait
         }
     }
 
-    // Hears each terminal.
-    fn hear(&mut self, alloc: Global) -> u64
-        ensures hears { (ending : Bool) × HearsAll S.remaining S.contents self.old.all self.new.all self.old.client self.new.client ending
-            × (self.new.is_ending ≡ (self.old.is_ending || ending)) }
+    // Hears each terminal, and tells how long may be waited for more, and whether one asked for the end.
+    fn hear(&mut self, alloc: Global) -> (u64, bool)
+        ensures hears { AreHeard S.remaining S.contents self.old.all self.new.all self.old.client self.new.client result.1 result.0 }
+        ensures others { self.new ≡ record self.old { client = self.new.client; all = self.new.all } }
     {
-        let (wait, is_ending) = hear_all(alloc, &mut self.all, &mut self.client);
-        self.is_ending = is_either(self.is_ending, is_ending);
-        wait
+        hear_all(alloc, &mut self.all, &mut self.client)
+    }
+
+    // At a moment one of them asked for the end, or none did.
+    fn end_from(&mut self, is_ending: bool, moment: u64)
+        ensures ends { self.new ≡ record self.old { ending = ending_after is_ending moment self.old.ending } }
+    {
+        if is_ending && self.ending.is_none() {
+            self.ending = Some(moment);
+        }
     }
 
     // Takes a turn of the start that shows nothing.
@@ -257,18 +288,20 @@ impl<S: Duplex + Drop> SharedStart<S> {
         ports: &mut Listening<P>,
         to: Addr,
     ) -> u64
-        ensures rounds { Rounds S.remaining S.contents to ports.new.silence (P.told ports.old.ports) (P.told ports.new.ports)
+        ensures rounds { Rounds S.remaining S.contents to ports.new.silence result (P.told ports.old.ports) (P.told ports.new.ports)
             self.old self.new }
     {
-        let wait = self.hear(alloc);
+        let (wait, is_ending) = self.hear(alloc);
         let was_flooded = self.is_waiting();
         self.turn(alloc, ports, to);
-        self.paint(alloc, ports.silence());
-        self.write(alloc, ports.silence());
+        let silence = ports.silence();
+        self.end_from(is_ending, silence.moment());
+        self.paint(alloc, silence);
+        self.write(alloc, silence);
         if was_flooded && !self.is_waiting() {
             0
         } else {
-            self.wait_for(wait, ports.silence())
+            self.wait_for(wait, silence)
         }
     }
 }

@@ -2,7 +2,7 @@
 ghost use Rattle.std.specs.Prelude.{◌≡◌, ◌++◌, List, ℕ, [], true, false, not, None};
 ghost use Rattle.roam_terminals.specs.Hearing.{IsRefusal, IsRefused};
 ghost use Rattle.roam_terminals.specs.Painted.{is_here};
-ghost use Rattle.roam_terminals.specs.Sharing.{is_gone};
+ghost use Rattle.roam_terminals.specs.Sharing.{is_gone, is_guessing};
 ghost use Rattle.roam_terminals.specs.Writing.{is_empty, once_written, unwritten};
 ghost use Rattle.roam_typing.specs.Lines.{nothing_came};
 
@@ -131,7 +131,9 @@ impl<S: Duplex + Drop> Terminal<S> {
     }
 
     /// Whether something is guessed of what it is to show.
-    pub(crate) fn is_guessing(&self) -> bool {
+    pub(crate) fn is_guessing(&self) -> bool
+        ensures guesses { result ≡ is_guessing self.now }
+    {
         match &self.guessing {
             Some(overlay) => overlay.len() > 0,
             None => false,

@@ -1,57 +1,51 @@
-use Rattle.roam_terminals.proofs.Joined.{runs_joined, runs_none, runs_round, runs_still}
+use Rattle.std.proofs.Common.{◌≡◌, None, Some, refl, rules, subst}
+use Rattle.roam_terminals.specs.Running.{TakesTurn, TakesTurns}
+use Rattle.roam_terminals.specs.Running.RunsOut.{counted, ended}
+use Rattle.roam_terminals.proofs.Joined.{one_more_turn, runs_joined, runs_none}
 use Rattle.roam_terminals.proofs.running.run_shared.Goals as goal
 
 pub loop-init : goal.loop-init
-loop-init g c =
-    runs_none g.S.Read.remaining g.S.Write.contents c.args.to (g.D.Ports.told c.args.door.now.ports) c.args.shared.now
+loop-init g c = record {
+  runs = runs_none g.S.Read.remaining g.S.Write.contents c.args.to (g.D.Ports.told c.args.door.now.ports) c.args.shared.now;
+  turns = (refl, refl);
+}
 
-pub returns-then-has_ended : goal.returns-then-has_ended
-returns-then-has_ended g c =
-    let remaining = g.S.Read.remaining in
-    let contents = g.S.Write.contents in
-    let first = g.D.Ports.told c.args.door.now.ports in
-    let came = g.D.Ports.told c.take_in.new.door.ports in
-    let took = g.D.Ports.told c.round-wait.new.ports.ports in
-    record {
-      runs = runs_still remaining contents c.args.to first took _ c.args.shared.now c.round-wait.new.self c.has_ended.ensures.told
-          (runs_round remaining contents c.args.to c.round-wait.new.ports.silence first came took c.args.shared.now c.take_in.new.shared
-          c.round-wait.new.self
-          (runs_joined remaining contents c.args.to first (g.D.Ports.told c.loop.door.ports) came c.args.shared.now c.loop.shared
-          c.take_in.new.shared c.loop.invariant c.take_in.ensures.runs)
-          c.round-wait.ensures.rounds);
-    }
+pub returns-in-Some-clause-runs : goal.returns-in-Some-clause-runs
+returns-in-Some-clause-runs g c =
+    runs_joined g.S.Read.remaining g.S.Write.contents c.args.to (g.D.Ports.told c.args.door.now.ports) (g.D.Ports.told c.loop.door.ports)
+    (g.D.Ports.told c.take_turn.new.door.ports) c.args.shared.now c.loop.shared c.take_turn.new.shared c.loop.invariant.runs
+    c.take_turn.ensures.runs
 
-pub returns-then-is_over : goal.returns-then-is_over
-returns-then-is_over g c =
-    let remaining = g.S.Read.remaining in
-    let contents = g.S.Write.contents in
-    let first = g.D.Ports.told c.args.door.now.ports in
-    let came = g.D.Ports.told c.take_in.new.door.ports in
-    let took = g.D.Ports.told c.round-wait.new.ports.ports in
-    record {
-      runs = runs_still remaining contents c.args.to first took _ c.args.shared.now c.round-wait.new.self c.has_ended.ensures.told
-          (runs_round remaining contents c.args.to c.round-wait.new.ports.silence first came took c.args.shared.now c.take_in.new.shared
-          c.round-wait.new.self
-          (runs_joined remaining contents c.args.to first (g.D.Ports.told c.loop.door.ports) came c.args.shared.now c.loop.shared
-          c.take_in.new.shared c.loop.invariant c.take_in.ensures.runs)
-          c.round-wait.ensures.rounds);
-    }
+pub returns-in-Some-clause-out : goal.returns-in-Some-clause-out
+returns-in-Some-clause-out g c =
+    let before = g.D.Ports.told c.loop.door.ports in
+    let after = g.D.Ports.told c.take_turn.new.door.ports in
+    let some : c.take_turn.result ≡ Some c.in-Some.end = search rules in
+    ended c.loop.counter before c.loop.shared (search rules) c.loop.invariant.turns
+    (subst (λ r. TakesTurn g.S.Read.remaining g.S.Write.contents c.args.to c.args.rounds c.take_turn.new.door.silence r before after
+    c.loop.shared c.take_turn.new.shared) some c.take_turn.ensures.takes)
 
 pub loop-preserved : goal.loop-preserved
 loop-preserved g c =
-    let remaining = g.S.Read.remaining in
-    let contents = g.S.Write.contents in
     let first = g.D.Ports.told c.args.door.now.ports in
-    let came = g.D.Ports.told c.take_in.new.door.ports in
-    let took = g.D.Ports.told c.round-wait.new.ports.ports in
-    let asked = g.D.Ports.told c.has_ended.new.self.ports in
-    runs_still remaining contents c.args.to first asked _ c.args.shared.now c.round-wait.new.self c.rest.ensures.told
-    (runs_still remaining contents c.args.to first took asked c.args.shared.now c.round-wait.new.self c.has_ended.ensures.told
-    (runs_round remaining contents c.args.to c.round-wait.new.ports.silence first came took c.args.shared.now c.take_in.new.shared
-    c.round-wait.new.self
-    (runs_joined remaining contents c.args.to first (g.D.Ports.told c.loop.door.ports) came c.args.shared.now c.loop.shared
-    c.take_in.new.shared c.loop.invariant c.take_in.ensures.runs)
-    c.round-wait.ensures.rounds))
+    let before = g.D.Ports.told c.loop.door.ports in
+    let after = g.D.Ports.told c.take_turn.new.door.ports in
+    let none : c.take_turn.result ≡ None = search rules in
+    record {
+      runs = runs_joined g.S.Read.remaining g.S.Write.contents c.args.to first before after c.args.shared.now c.loop.shared
+          c.take_turn.new.shared c.loop.invariant.runs c.take_turn.ensures.runs;
+      turns = one_more_turn g.S.Read.remaining g.S.Write.contents c.args.to c.args.rounds c.loop.counter c.take_turn.new.door.silence first
+          before after c.args.shared.now c.loop.shared c.take_turn.new.shared c.loop.invariant.turns
+          (subst (λ r. TakesTurn g.S.Read.remaining g.S.Write.contents c.args.to c.args.rounds c.take_turn.new.door.silence r before after
+          c.loop.shared c.take_turn.new.shared) none c.take_turn.ensures.takes);
+    }
 
 pub returns : goal.returns
-returns g c = record { runs = c.loop.invariant }
+returns g c =
+    let all : c.loop.counter ≡ c.args.rounds = search rules in
+    record {
+      runs = c.loop.invariant.runs;
+      out = counted (subst (λ n. TakesTurns g.S.Read.remaining g.S.Write.contents c.args.to c.args.rounds n
+          (g.D.Ports.told c.args.door.now.ports) (g.D.Ports.told c.loop.door.ports) c.args.shared.now c.loop.shared) all
+          c.loop.invariant.turns) (search rules);
+    }

@@ -1,8 +1,7 @@
-use Rattle.std.proofs.Common.{◌≡◌, ◌++◌, List, None, Some, refl, sym, ap, ◌∙◌, subst, rules}
-use Rattle.roam_records.specs.declared.records.Record.{Record}
+use Rattle.std.proofs.Common.{◌≡◌, ◌++◌, Some, sym, ap, rules}
 use Rattle.roam_screens.specs.Shown.{shown_by}
 use Rattle.roam_turns.specs.declared.outer.Noted.{Noted}
-use Rattle.roam_terminals.specs.Painted.{TellsNoted, shown_screen}
+use Rattle.roam_terminals.specs.Painted.{shown_screen}
 use Rattle.roam_terminals.proofs.Said.{noted_told, texts_more}
 use Rattle.roam_terminals.proofs.telling.tell_noted.Goals as goal
 

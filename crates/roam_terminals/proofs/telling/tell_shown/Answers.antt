@@ -1,7 +1,5 @@
-use Rattle.std.proofs.Common.{◌≡◌, ◌++◌, List, sym, ap, ◌∙◌, subst, rules}
-use Rattle.roam_records.specs.declared.records.Record.{Record}
+use Rattle.std.proofs.Common.{◌≡◌, sym, ap, ◌∙◌, subst}
 use Rattle.roam_screens.specs.Shown.{shown_by}
-use Rattle.roam_telling.specs.Saying.{texts_of}
 use Rattle.roam_telling.specs.Telling.{Tells}
 use Rattle.roam_terminals.proofs.telling.tell_shown.Goals as goal
 

@@ -17,6 +17,7 @@ returns-then-not-is_heard-clause-hears g c =
         takes = unheard refl not_heard refl refl;
       },
       refl,
+      refl,
     )
 
 pub returns-in_default-clause-hears : goal.returns-in_default-clause-hears
@@ -32,6 +33,7 @@ returns-in_default-clause-hears g c =
         takes = nothing refl heard (c.first.ensures.none none) refl refl;
       },
       refl,
+      refl,
     )
 
 pub returns-in-Ok-clause-hears : goal.returns-in-Ok-clause-hears
@@ -46,6 +48,7 @@ returns-in-Ok-clause-hears g c =
       taken.0,
       record { read = mid; reads = c.read_line.ensures.reads; apart = c.read_line.ensures.apart; is_read = c.read_line.ensures.others; takes = taken.1 },
       taken.2,
+      taken.3,
     )
 
 pub returns-in-Err-clause-hears : goal.returns-in-Err-clause-hears
@@ -63,5 +66,6 @@ returns-in-Err-clause-hears g c =
         is_read = c.read_line.ensures.others;
         takes = refused refl heard why c.refuse.ensures.refused refl;
       },
+      refl,
       refl,
     )
