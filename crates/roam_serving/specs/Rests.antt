@@ -6,8 +6,10 @@ use Rattle.roam_hub.specs.Servers.{ServerView, Stands, is_server_due}
 use Rattle.roam_hub.specs.Waits.{IsQuiet, has_come}
 use Rattle.roam_pane_list.specs.declared.pane_list.PaneList.{PaneList}
 use Rattle.roam_hub.specs.declared.addresses.Addr.{Addr}
+use Rattle.roam_sockets.specs.Clients.{Accepts, AnswersOf, KeepsOpen}
 use Rattle.roam_sockets.specs.Lanes.{SendsTo, is_any_waiting}
 use Rattle.roam_sockets.specs.Waits.{wait_for}
+use Rattle.roam_sockets.specs.declared.clients.Clients.{Clients}
 use Rattle.roam_sockets.specs.declared.udp.Udp.{Udp}
 use Rattle.roam_serving.specs.Following.{AreAllTold, ArePanesOf}
 use Rattle.roam_serving.specs.Tellings.{AreToldBeside, sooner}
@@ -24,6 +26,13 @@ abbrev pub SendsBy : ℕ → Addr → Option Udp → Option Udp → List ℕ →
 SendsBy now to None new datagram result = (new ≡ None) × (result ≡ false)
 SendsBy now to (Some old) None datagram result = ⊥
 SendsBy now to (Some old) (Some new) datagram result = SendsTo now to old.paced.lanes.items new.paced.lanes.items datagram result None None
+
+-- What waited for client starts was written, some of it or all that goes at this moment, as is noted; then some may have come.
+pub record Flushes (answers : AnswersOf UnixStream) (old new : Clients) : Type 0 where
+  pub mid : Clients
+  pub keeps : KeepsOpen answers old.all.items mid.all.items mid.is_flushed
+  pub accepts : Accepts mid new
+  pub noted : new.is_flushed ≡ mid.is_flushed
 
 -- those that followed before and those that came were told the panes of a server
 pub record HasTold (contents : UnixStream → Option (List ℕ)) (server : ServerView) (followers : List (Follower UnixStream)) : Type 0 where
@@ -49,9 +58,11 @@ pub record IsNextDue (server : ServerView) (due : Option ℕ) : Type 0 where
 abbrev pub is_for_good : ℕ → Bool
 is_for_good turns = turns == 2 ^ 64 - 1
 
--- Where it waited, it was until something is due, or what stands beside the panes' terminals is to be told, or only a millisecond where
--- datagrams are kept back; where the turns are counted, for the shortest wait.
-pub record HasRested (turns : ℕ) (server : ServerView) (now : ℕ) (udp : Option Udp) (telling : Option ℕ) (longest : Option ℕ) : Type 0 where
+-- Where it waited, all that goes to client starts at this moment was written, and it was until something is due, or what stands beside the
+-- panes' terminals is to be told, or only a millisecond where datagrams are kept back; where the turns are counted, for the shortest wait.
+pub record HasRested (turns : ℕ) (server : ServerView) (now : ℕ) (clients : Clients) (udp : Option Udp) (telling : Option ℕ)
+    (longest : Option ℕ) : Type 0 where
   pub due : Option ℕ
   pub is_due : MatchBool (is_for_good turns) (IsNextDue server due) (due ≡ Some 0)
+  pub flushed : IfSome longest (λ _. clients.is_flushed ≡ true)
   pub waited : IfSome longest (λ long. long ≡ wait_for (sooner due telling) now (is_paced udp))

@@ -9,7 +9,7 @@ ghost use Rattle.roam_sockets.specs.Waits.{wait_for};
 ghost use Rattle.roam_serving.specs.Asking.{IsAsked, Settles};
 ghost use Rattle.roam_serving.specs.Closing.{GivesOwn, HearsAnswer, own_address};
 ghost use Rattle.roam_serving.specs.Following.{AreAllTold, HaveCome, most_taken, panes_path};
-ghost use Rattle.roam_serving.specs.Rests.{SendsBy, is_paced};
+ghost use Rattle.roam_serving.specs.Rests.{Flushes, SendsBy, is_paced};
 ghost use Rattle.roam_serving.specs.declared.closing.Closer.{Closer as CloserOf};
 ghost use Rattle.roam_serving.specs.Tellings.{AreToldBeside, sooner};
 ghost use Rattle.roam_serving.specs.Panes.{IsPortOf, clients_path, paths_of};
@@ -245,6 +245,7 @@ impl<R: Clock + Drop> ServerPorts<R> {
     // Takes client starts that wait at their socket, once in 20 milliseconds and after each wait; so it is with those who follow the panes.
     fn look(&mut self, alloc: Global, has_waited: bool)
         ensures clients { Accepts self.old.clients self.new.clients }
+        ensures flushed { self.new.clients.is_flushed ≡ self.old.clients.is_flushed }
         ensures others { self.new ≡ record self.old { clients = self.new.clients; looked = self.new.looked; may_come = self.new.may_come } }
     {
         if has_waited || self.moment.wrapping_sub(self.looked) >= LOOKS {
@@ -258,8 +259,11 @@ impl<R: Clock + Drop> ServerPorts<R> {
     /// stands beside the panes' terminals is to be told, where nothing came since the last call and no datagram of its own start waits.
     pub fn rest(&mut self, due: Option<u64>)
         ensures quiet { self.new.waits.quiet ≡ true }
+        // A wait leaves nothing of what waits for a client start whose stream would take more.
         ensures waited { IfSome self.new.waits.longest (λ longest. (self.old.waits.quiet ≡ true) × (self.old.closer.closing ≡ None)
+            × (self.new.clients.is_flushed ≡ true)
             × (longest ≡ wait_for (sooner due self.old.telling.due) self.old.moment (is_paced self.new.udp))) }
+        ensures flushed { Flushes ⟦<UnixStream as Stream>⟧.answers self.old.clients self.new.clients }
         ensures telling { self.new.telling ≡ self.old.telling }
         ensures panes { self.new.panes ≡ self.old.panes }
         ensures followers { self.new.followers ≡ self.old.followers }
