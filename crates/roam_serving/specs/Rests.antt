@@ -11,10 +11,13 @@ use Rattle.roam_sockets.specs.Lanes.{SendsTo, is_any_waiting}
 use Rattle.roam_sockets.specs.Waits.{wait_for}
 use Rattle.roam_sockets.specs.declared.clients.Clients.{Clients}
 use Rattle.roam_sockets.specs.declared.udp.Udp.{Udp}
+use Rattle.roam_serving.specs.Clipping.{AreToldClips}
 use Rattle.roam_serving.specs.Following.{AreAllTold, ArePanesOf}
 use Rattle.roam_serving.specs.Tellings.{AreToldBeside, sooner}
+use Rattle.roam_serving.specs.declared.clipping.ClipTimes.{ClipTimes}
 use Rattle.roam_serving.specs.declared.following.Follower.{Follower}
 use Rattle.roam_serving.specs.declared.panes.Pane.{Pane}
+use Rattle.roam_serving.specs.declared.tellings.AsideTimes.{AsideTimes}
 
 -- datagrams are kept back so that they go at a pace
 abbrev pub is_paced : Option Udp → Bool
@@ -41,13 +44,19 @@ pub record HasTold (contents : UnixStream → Option (List ℕ)) (server : Serve
   pub before : List (Follower UnixStream)
   pub told : AreAllTold contents panes before followers
 
--- so they were, and then what is new of what stands beside the panes' terminals, as far as that was to be told
+-- So they were, and then what is new of what stands beside the panes' terminals, as far as that was to be told, and of texts for the
+-- clipboard.
 pub record HasToldAll (contents : UnixStream → Option (List ℕ)) (server : ServerView) (moment : ℕ) (panes : List Pane)
     (followers : List (Follower UnixStream)) : Type 0 where
   pub mid : List (Follower UnixStream)
   pub told : HasTold contents server mid
-  pub last : Option ℕ
-  pub beside : AreToldBeside contents last moment panes mid followers
+  pub telling : AsideTimes
+  pub told_telling : AsideTimes
+  pub later : List (Follower UnixStream)
+  pub beside : AreToldBeside contents telling told_telling moment panes mid later
+  pub clipping : ClipTimes
+  pub told_clipping : ClipTimes
+  pub clips : AreToldClips contents clipping told_clipping moment panes later followers
 
 -- a server next has something due at a moment, or never: before it a tick does nothing, and at it one does something
 pub record IsNextDue (server : ServerView) (due : Option ℕ) : Type 0 where
