@@ -5,7 +5,7 @@ ghost use Rattle.roam_serving.specs.Panes.{path_of, paths_of};
 ghost use Rattle.roam_serving.specs.Asides.{AreBeside, pane_beside, shown_bells, title_of};
 ghost use Rattle.roam_serving.specs.Clips.{AreClips, clip_of, pane_clips};
 ghost use Rattle.roam_serving.specs.Inflows.{IsFreshInflow};
-ghost use Rattle.roam_serving.specs.Peers.{Changes, Lives, Asks, Hears};
+ghost use Rattle.roam_serving.specs.Peers.{Changes, Lives, Asks, Hears, has_peer, inflow_in};
 ghost use Rattle.roam_serving.specs.Sieves.{bytes_given};
 
 use crate::inflows::Inflow;
@@ -72,6 +72,7 @@ impl Pane {
     fn read(&mut self, registry: &Registry, buf: &mut [u8]) -> Option<usize>
         ensures within { IfSome result (λ n. n ≤ length buf.new) }
         ensures hears { Hears (is_some result) (bytes_given result buf.new) self.old self.new }
+        ensures none { result ≡ None → self.new.inflow ≡ self.old.inflow }
     {
         read(
             &mut self.making,
@@ -211,6 +212,8 @@ impl Panes {
     pub(crate) fn read(&mut self, registry: &Registry, pane: u8, buf: &mut [u8]) -> Option<usize>
         ensures within { IfSome result (λ n. n ≤ length buf.new) }
         ensures hears { Changes (Hears (is_some result) (bytes_given result buf.new)) pane self.old.all.items self.new.all.items }
+        ensures none { result ≡ None → 1 ≤ pane
+            → inflow_in (slice_get self.new.all.items (pane - 1)) ≡ inflow_in (slice_get self.old.all.items (pane - 1)) }
     {
         let at = usize::from(pane);
         if at < 1 || self.all.len() < at {
@@ -289,7 +292,9 @@ impl Panes {
     }
 
     /// Whether a peer came to a pane that is there.
-    pub(crate) fn has_peer(&self, pane: u8) -> bool {
+    pub(crate) fn has_peer(&self, pane: u8) -> bool
+        ensures peer { 1 ≤ pane → result ≡ has_peer (slice_get self.now.all.items (pane - 1)) }
+    {
         let at = usize::from(pane);
         if at < 1 || self.all.len() < at {
             return false;
@@ -301,6 +306,8 @@ impl Panes {
     pub(crate) fn write(&mut self, registry: &Registry, pane: u8, bytes: &[u8]) -> usize
         ensures within { result ≤ length bytes.now }
         ensures asks { Changes (Asks (nat_lt 0 result)) pane self.old.all.items self.new.all.items }
+        ensures inflow { 1 ≤ pane
+            → inflow_in (slice_get self.new.all.items (pane - 1)) ≡ inflow_in (slice_get self.old.all.items (pane - 1)) }
     {
         let at = usize::from(pane);
         if at < 1 || self.all.len() < at {

@@ -15,7 +15,7 @@ ghost use Rattle.roam_serving.specs.declared.closing.Closer.{Closer as CloserOf}
 ghost use Rattle.roam_serving.specs.Tellings.{AreToldBeside, sooner};
 ghost use Rattle.roam_serving.specs.Panes.{IsPortOf, clients_path, paths_of};
 ghost use Rattle.roam_serving.specs.Inflows.{IsFreshInflow};
-ghost use Rattle.roam_serving.specs.Peers.{Asks, Changes, Hears, Lives};
+ghost use Rattle.roam_serving.specs.Peers.{Asks, Changes, Hears, IsStill, Lives};
 ghost use Rattle.roam_serving.specs.Sieves.{bytes_given};
 
 use crate::clipping::ClipTimes;
@@ -448,6 +448,7 @@ impl<R: Clock + Drop> Ports for ServerPorts<R> {
         ensures hears { Changes (Hears (is_some result) (bytes_given result buf.new)) pane self.old.panes.all.items
             self.new.panes.all.items }
         ensures stirs { IfSome result (λ _. self.new.waits.quiet ≡ false) }
+        ensures still { self.new.waits.quiet ≡ true → 1 ≤ pane → IsStill pane self.old.panes.all.items self.new.panes.all.items }
     {
         let had_peer = self.panes.has_peer(pane);
         let count = self.panes.read(self.waits.registry(), pane, buf);
@@ -462,9 +463,12 @@ impl<R: Clock + Drop> Ports for ServerPorts<R> {
         ensures within { result ≤ length bytes.now }
         ensures asks { Changes (Asks (nat_lt 0 result)) pane self.old.panes.all.items self.new.panes.all.items }
         ensures stirs { 0 < result → self.new.waits.quiet ≡ false }
+        ensures still { self.new.waits.quiet ≡ true → 1 ≤ pane → IsStill pane self.old.panes.all.items self.new.panes.all.items }
     {
+        let had_peer = self.panes.has_peer(pane);
         let count = self.panes.write(self.waits.registry(), pane, bytes);
-        if count > 0 {
+        // Where a peer is gone the next may wait.
+        if count > 0 || had_peer != self.panes.has_peer(pane) {
             self.waits.stir();
         }
         count
