@@ -20,6 +20,7 @@ from roam_live.places import BESIDE, Places
 TYPE_CHECKING = False
 if TYPE_CHECKING:
     from roam_live.any_session import AnySession
+    from roam_live.shells_link import ShellsLink
 
 # An escape that nothing follows for so many seconds is the key.
 ESCAPE_WAIT = 0.025
@@ -48,8 +49,9 @@ class Commands:
 
     def __init__(self, session: AnySession, panes: PanesFollower, link: StartLink, display: Display, loop: Loop,
                  leave: Callable[[str | None], None], is_new: Callable[[Places | None], bool] = lambda places: False,
-                 is_whole: bool = False) -> None:
+                 is_whole: bool = False, shells: ShellsLink | None = None) -> None:
         self.session, self.panes, self.link, self.display, self.loop, self.leave = session, panes, link, display, loop, leave
+        self.shells = shells
         # Whether the session is shown whole where it has room, with its own status row.
         self.is_whole = is_whole
         self.keys = Keys()
@@ -261,26 +263,50 @@ class Commands:
 
     def resized(self) -> None:
         """Takes note of what was shown before the terminal had another size, the first of many where it is drawn by hand."""
-        if "size" not in self.loop.due:
+        if not self.loop.due.keys() & {"size", "others"}:
             self.showed_all = self.given is not None or self.display.shows_all()
 
+    def has_others(self) -> bool:
+        """Whether somebody else types, as the keeper of the shells tells it; else by the notes in the session's folder."""
+        told = self.shells.has_others() if self.shells else None
+        return has_others(self.session.folder) if told is None else told
+
     def is_alone(self) -> bool:
-        """Whether it is known that nobody else types: who is there isn't told of another machine's session, nor without a folder."""
-        return self.session.folder is not None and self.session.served == "server" and not has_others(self.session.folder)
+        """Whether it is known that nobody else types: where no keeper tells it, it isn't known of another machine's session, nor without a
+        folder."""
+        told = self.shells.has_others() if self.shells else None
+        if told is None:
+            return self.session.folder is not None and self.session.served == "server" and not has_others(self.session.folder)
+        return not told
 
     def fit(self) -> None:
-        """Has the session grow to this terminal's size, where nobody else types; a lone terminal that showed all of it is followed to any
-        size, and a new session goes by each. Nothing else makes one smaller."""
+        """Fits the session to this terminal, as far as that may be: a new session goes by each size. Who else is there has to be known for
+        the rest, and may be told soon."""
         size, own = self.given or self.session_size(), terminal.largest(self.display.outer.size())
-        is_followed, self.showed_all = self.showed_all, False
+        if self.shells:
+            self.shells.say_here()
         if self.is_fresh():
             self.ask_size()
-        elif self.link.watches or size in (NO_SIZE, own) or not terminal.is_large_enough(own):
-            return
-        elif own[0] < size[0] or own[1] < size[1]:
-            if is_followed and self.is_alone():
+        elif not (self.link.watches or size in (NO_SIZE, own) or not terminal.is_large_enough(own)):
+            if self.shells and self.shells.is_awaited():
+                self.loop.later("others", FITS_AGAIN, self.fit)
+                return
+            self.follow(size, own)
+        self.showed_all = False
+
+    def others_told(self) -> None:
+        """Does at once what waited until it is known who else is there."""
+        if "others" in self.loop.due:
+            self.loop.drop("others")
+            self.fit()
+
+    def follow(self, size: terminal.Size, own: terminal.Size) -> None:
+        """Has the session grow to this terminal's size, where nobody else types; a lone terminal that showed all of it is followed to any
+        size. Nothing else makes one smaller."""
+        if own[0] < size[0] or own[1] < size[1]:
+            if self.showed_all and self.is_alone():
                 self.ask_size()
-        elif has_others(self.session.folder):
+        elif self.has_others():
             self.display.tell(f"{size[0]} by {size[1]}, as another terminal has it; {self.prefix} r fits this one", FITS_TOLD)
         else:
             self.ask_size()

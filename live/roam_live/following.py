@@ -42,8 +42,11 @@ STANDS = 1.0
 
 
 class Following:
-    """Follows a socket `panes`, which a call connects to: a call for the lines that came, and one where the connection is lost. It is had
-    again then after pauses, for as long as this is there."""
+    """Follows a socket, as `panes`, which a call connects to: a call for the lines that came, and one where the connection is lost. It is
+    had again then after pauses, for as long as this is there."""
+
+    # What the moment is called at which it is had again.
+    again = "follow panes"
 
     def __init__(self, connects: Callable[[], socket.socket], loop: Loop, hears: Callable[[list[str]], object],
                  loses: Callable[[], object]) -> None:
@@ -86,7 +89,7 @@ class Following:
             self.soon = self.soon + 1 if self.loop.clock() < self.since + SOUND else 1
         self.leave()
         self.why = why
-        self.loop.later("follow panes", PAUSES[min(self.pauses(), len(PAUSES) - 1)], self.connect)
+        self.loop.later(self.again, PAUSES[min(self.pauses(), len(PAUSES) - 1)], self.connect)
         self.faults += 1
         self.loses()
 

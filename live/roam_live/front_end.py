@@ -13,6 +13,7 @@ from roam_live.following import AWAITED, PanesFollower
 from roam_live.links import Keeper, StartLink
 from roam_live.loops import Loop
 from roam_live.program import noted_front_end, opened_process, read, woken, write
+from roam_live.shells_link import ShellsLink
 from roam_live.watches import ShellsWatch
 
 TYPE_CHECKING = False
@@ -53,7 +54,8 @@ class FrontEnd:
         self.display = Display(self.loop, self.say)
         self.panes = PanesFollower(session.folder, self.loop, lambda: self.commands.told(), self.untold)
         self.keeper = Keeper(session, self.link, self.panes.is_full)
-        self.commands = Commands(session, self.panes, self.link, self.display, self.loop, self.leave, is_new, is_whole)
+        keeper = ShellsLink(session.folder, self.loop, self.display.outer.size, watches, lambda: self.commands.others_told())
+        self.commands = Commands(session, self.panes, self.link, self.display, self.loop, self.leave, is_new, is_whole, keeper)
         self.commands.choose(prefix)
         self.loop.later("untold", AWAITED, self.commands.show_known)
         self.bells = BellFollower(session.folder, self.loop, self.commands.ring, lambda words: self.display.tell(words, LOSS_TOLD))

@@ -46,6 +46,8 @@ KNOWN = {
     ("roam_live/keys.py", "WHOLE", "re"): TYPED,
     ("roam_live/keys.py", "WHOLE", "ESC"): TYPED,
     ("roam_live/places.py", "TOLD", "re"): LINES,
+    ("roam_live/presence.py", "HERE", "re"): LINES,
+    ("roam_live/presence.py", "TOLD", "re"): LINES,
     ("roam_live/relayed.py", "GREETING", "re"): RELAY,
     ("roam_live/remote.py", "host_of", "re"): WORDS,
     ("roam_live/remote.py", "near_session", "re"): NAMES,

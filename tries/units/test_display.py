@@ -117,17 +117,38 @@ def painting(rows, cols, text="x"):
     return b"\x1bc\x1b[?25l\x1b[2J" + b"".join(f"\x1b[{row};1H{text[:cols]}".encode() for row in range(1, rows + 1)) + b"\x1b[1;1H\x1b[?25h"
 
 
+class PlayedShells:
+    """What the keeper of the shells tells of who else is at the session."""
+
+    def __init__(self, types=None, awaited=False):
+        self.types, self.awaited, self.said = types, awaited, 0
+
+    def say_here(self):
+        """Counts how often the terminal's size was looked at."""
+        self.said += 1
+
+    def is_awaited(self):
+        """Whether it may be known soon."""
+        return self.awaited
+
+    def has_others(self):
+        """Whether somebody else types, where that is known."""
+        return self.types
+
+
 class Person:
     """A person at a terminal, without the processes. The session shows a text, by the size that it has, where the front end asks for it."""
 
-    def __init__(self, rows, cols, watches=False, is_new=False, told=None, folder=None, is_whole=False):
+    def __init__(self, rows, cols, watches=False, is_new=False, told=None, folder=None, is_whole=False, shells=None):
         self.loop, self.link, self.place = Loop(), StartLink(watches), AnySession(folder)
         self.place.told = told
         self.left, self.heard = None, 0
         with mock.patch.object(display, "OuterTerminal", lambda: OuterTerminal(rows, cols)):
             self.display = Display(self.loop, self.link.say)
         self.panes = PlayedPanes(self.place)
-        self.commands = Commands(self.place, self.panes, self.link, self.display, self.loop, self.leave, lambda places: is_new, is_whole)
+        self.shells = shells
+        self.commands = Commands(self.place, self.panes, self.link, self.display, self.loop, self.leave, lambda places: is_new, is_whole,
+                                 shells)
         self.commands.choose("C-b")
         self.display.begin()
         self.commands.show_known()
@@ -332,6 +353,45 @@ class Sizes(unittest.TestCase):
         self.assertEqual((small.sizes(), small.said()), ([], ["part 9 30"]))
         small.resize(30, 90)
         self.assertEqual(small.sizes(), ["size 30 90"])
+
+    def test_resized_as_told(self):
+        """Where the keeper of the shells tells who else types that alone is gone by, of another machine's session too."""
+        for types, sizes in ((False, ["size 20 70"]), (True, []), (None, [])):
+            person = Person(24, 80, told=places(24, 80), shells=PlayedShells(types))
+            person.place.served = "relay"
+            person.answers()
+            person.resize(20, 70)
+            self.assertEqual((person.sizes(), person.shells.said > 1), (sizes, True), types)
+        with mock.patch("roam_live.commands.has_others", return_value=True):
+            self.assertEqual(Person(50, 132, told=places(24, 80), shells=PlayedShells(False)).sizes(), ["size 50 132"])
+            self.assertEqual(Person(50, 132, told=places(24, 80), shells=PlayedShells(None)).sizes(), [])
+        person = Person(50, 132, told=places(24, 80), shells=PlayedShells(True))
+        self.assertEqual((person.sizes(), person.display.told), ([], "24 by 80, as another terminal has it; C-b r fits this one"))
+        small = Person(12, 40, told=places(24, 80), shells=PlayedShells(False))
+        small.answers()
+        small.resize(10, 30)
+        self.assertEqual(small.sizes(), [])
+
+    def test_resized_before_told(self):
+        """What hangs on who else is there waits until that is told, but for a new session, and for no longer than it may be."""
+        shells = PlayedShells(awaited=True)
+        person = Person(24, 80, told=places(24, 80), shells=shells)
+        person.answers()
+        person.resize(20, 70)
+        self.assertEqual((person.sizes(), "others" in person.loop.due), ([], True))
+        person.resize(18, 60)
+        shells.awaited, shells.types = False, False
+        person.commands.others_told()
+        self.assertEqual((person.sizes(), "others" in person.loop.due), (["size 18 60"], False))
+        person.commands.others_told()
+        self.assertEqual(person.sizes(), ["size 18 60"])
+        shells.awaited = True
+        self.assertEqual(Person(20, 60, is_new=True, shells=shells).sizes(), ["size 20 60"])
+        late = Person(50, 132, told=places(24, 80), shells=shells)
+        self.assertEqual(late.sizes(), [])
+        shells.awaited, shells.types = False, None
+        late.loop.due["others"][1]()
+        self.assertEqual(late.sizes(), ["size 50 132"])
 
     def test_left_and_shown_small(self):
         """A session of 24 by 100 that is left, shown by 12 by 40 alone and then by 24 by 100 keeps its size."""

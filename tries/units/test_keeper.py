@@ -3,6 +3,7 @@ import argparse
 import os
 import shutil
 import signal
+import socket
 import struct
 from unittest import mock
 
@@ -40,6 +41,7 @@ class Keeper(Case):
     def leave(self, keeper):
         """Closes what a keeper has."""
         keeper.bells.close()
+        keeper.socket.close()
         for number in list(keeper.panes):
             keeper.drop(number)
         for spare in (keeper.spare, keeper.voice):
@@ -109,6 +111,16 @@ class Panes(Keeper):
         """An earlier server tells no places."""
         with self.assertRaisesRegex(Fault, "^the server is of an earlier roam: it doesn't tell where panes are$"):
             self.tell("1 23 80")
+
+    def test_there(self):
+        """Who is at the session is told at the socket `shells`."""
+        one = socket.socket(socket.AF_UNIX, socket.SOCK_STREAM)
+        self.addCleanup(one.close)
+        one.connect(str(self.folder / "shells"))
+        one.send(b"here a:/dev/pts/1 24 80 edits\nwho\n")
+        one.setblocking(False)
+        self.turn()
+        self.assertEqual(read_now(one), b"others 0\n")
 
     def test_rung(self):
         """A bell is told."""

@@ -1,0 +1,129 @@
+"""The socket `shells` of a session's folder, at which who keeps the shells knows who is at the session."""
+from __future__ import annotations
+
+import os
+import socket
+
+from roam_live.listeners import Listener
+from roam_live.loops import Loop
+from roam_live.presence import WHO, Presence, presence_said
+from roam_live.program import Fault, read, reason, say, write
+
+# So many are connected at most: front ends of this machine and of others.
+MOST_PEERS = 64
+
+# No line that comes has so many bytes, and so many at most wait for one who is told something: who takes them not is let go.
+LONGEST_LINE = 256
+MOST_WAITING = 1 << 16
+
+BAD_LINE = "bad line"
+
+
+class ShellsPeer:
+    """One who is connected, by a number of its own: what came of its lines, what waits for it, and whether it is at a terminal."""
+
+    def __init__(self, end: socket.socket, number: int) -> None:
+        self.end, self.number = end, number
+        self.came, self.waiting = bytearray(), bytearray()
+        self.presence: Presence | None = None
+        # Whether it asked who else is there; and the others, as it was told last.
+        self.asks = False
+        self.told: dict[int, Presence] | None = None
+
+    def news(self, others: dict[int, Presence]) -> list[str]:
+        """The lines that tell it of the others, where it wasn't told so yet."""
+        told, self.told = self.told, others
+        lines = [f"gone {number}" for number in told or () if number not in others]
+        lines += [f"there {number} {one}" for number, one in others.items() if (told or {}).get(number) != one]
+        return [*lines, f"others {len(others)}"] if lines or told is None else []
+
+
+class ShellsSocket:
+    """The socket: lines of those who connect, and lines back. Where it can't be had that is told, and nobody is known to be there."""
+
+    def __init__(self, folder: str | os.PathLike[str], loop: Loop) -> None:
+        self.loop = loop
+        self.peers: list[ShellsPeer] = []
+        self.last = 0
+        # Whether something is new of who is there.
+        self.is_new = False
+        self.listener: Listener | None = None
+        try:
+            self.listener = Listener(loop, os.path.join(folder, "shells"), self.take, self.has_room, lambda fault: None)
+        except (Fault, OSError) as fault:
+            say(f"who is at the session isn't told: {reason(fault)}")
+        loop.each(self.tell_news)
+
+    def has_room(self) -> bool:
+        """Whether another may connect."""
+        return len(self.peers) < MOST_PEERS
+
+    def take(self, end: socket.socket) -> None:
+        """Takes one who came."""
+        self.last += 1
+        peer = ShellsPeer(end, self.last)
+        self.peers.append(peer)
+        self.loop.add(end, lambda: self.hear(peer), lambda: self.write(peer), has_more=lambda: peer.waiting)
+
+    # ---- what comes
+
+    def hear(self, peer: ShellsPeer) -> None:
+        """Takes what came of one; who has left, or says what is no line, is let go."""
+        piece = read(peer.end.fileno())
+        if piece == b"":
+            self.drop(peer)
+            return
+        peer.came += piece or b""
+        *lines, rest = peer.came.split(b"\n")
+        peer.came = rest
+        for line in lines:
+            self.take_line(peer, line.decode("utf-8", "replace"))
+        if len(rest) >= LONGEST_LINE:
+            self.drop(peer)
+
+    def take_line(self, peer: ShellsPeer, line: str) -> None:
+        """Takes a line of one who is there."""
+        presence = presence_said(line)
+        if presence:
+            peer.presence, self.is_new = presence, True
+        elif line == WHO:
+            peer.asks = self.is_new = True
+        else:
+            self.send(peer, [BAD_LINE])
+
+    # ---- what goes
+
+    def tell_news(self) -> None:
+        """Tells each who asked what is new of the others, all that came at once together."""
+        if not self.is_new:
+            return
+        self.is_new = False
+        there = {peer.number: peer.presence for peer in self.peers if peer.presence}
+        for peer in [peer for peer in self.peers if peer.asks]:
+            self.send(peer, peer.news({number: one for number, one in there.items() if number != peer.number}))
+
+    def send(self, peer: ShellsPeer, lines: list[str]) -> None:
+        """Has lines go to one, who is let go where too much waits for it."""
+        peer.waiting += "".join(f"{line}\n" for line in lines).encode("ascii", "replace")
+        if len(peer.waiting) > MOST_WAITING:
+            self.drop(peer)
+
+    def write(self, peer: ShellsPeer) -> None:
+        """Writes what one takes."""
+        if not write(peer.end.fileno(), peer.waiting):
+            self.drop(peer)
+
+    def drop(self, peer: ShellsPeer) -> None:
+        """Lets one go."""
+        if peer in self.peers:
+            self.loop.remove(peer.end)
+            peer.end.close()
+            self.peers.remove(peer)
+            self.is_new = self.is_new or peer.presence is not None
+
+    def close(self) -> None:
+        """Closes the socket, and removes it."""
+        for peer in list(self.peers):
+            self.drop(peer)
+        if self.listener:
+            self.listener.close()
