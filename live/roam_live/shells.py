@@ -1,8 +1,9 @@
-"""The socket `shells` of a session's folder, at which who keeps the shells knows who is at the session."""
+"""The socket `shells` of a session's folder, at which who keeps the shells knows who is at the session, and tells what runs in its panes."""
 from __future__ import annotations
 
 import os
 import socket
+from collections.abc import Callable
 
 from roam_live.listeners import Listener
 from roam_live.loops import Loop
@@ -15,6 +16,9 @@ MOST_PEERS = 64
 # No line that comes has so many bytes, and so many at most wait for one who is told something: who takes them not is let go.
 LONGEST_LINE = 256
 MOST_WAITING = 1 << 16
+
+# What one says that is to be told what runs in front in the panes.
+COMMANDS = "commands"
 
 BAD_LINE = "bad line"
 
@@ -29,6 +33,9 @@ class ShellsPeer:
         # Whether it asked who else is there; and the others, as it was told last.
         self.asks = False
         self.told: dict[int, Presence] | None = None
+        # The same of what runs in front in panes.
+        self.asks_commands = False
+        self.commands: dict[int, tuple[int, str]] = {}
 
     def news(self, others: dict[int, Presence]) -> list[str]:
         """The lines that tell it of the others, where it wasn't told so yet."""
@@ -39,10 +46,11 @@ class ShellsPeer:
 
 
 class ShellsSocket:
-    """The socket: lines of those who connect, and lines back. Where it can't be had that is told, and nobody is known to be there."""
+    """The socket: lines of those who connect, and lines back. Where it can't be had that is told, and nobody is known to be there. A call
+    is for one more who asks what runs in front in the panes."""
 
-    def __init__(self, folder: str | os.PathLike[str], loop: Loop) -> None:
-        self.loop = loop
+    def __init__(self, folder: str | os.PathLike[str], loop: Loop, asked_commands: Callable[[], object] = lambda: None) -> None:
+        self.loop, self.asked_commands = loop, asked_commands
         self.peers: list[ShellsPeer] = []
         self.last = 0
         # Whether something is new of who is there.
@@ -88,6 +96,9 @@ class ShellsSocket:
             peer.presence, self.is_new = presence, True
         elif line == WHO:
             peer.asks = self.is_new = True
+        elif line == COMMANDS:
+            peer.asks_commands = True
+            self.asked_commands()
         else:
             self.send(peer, [BAD_LINE])
 
@@ -102,9 +113,19 @@ class ShellsSocket:
         for peer in [peer for peer in self.peers if peer.asks]:
             self.send(peer, peer.news({number: one for number, one in there.items() if number != peer.number}))
 
+    def has_asked_commands(self) -> bool:
+        """Whether somebody is there who asked what runs in front in the panes."""
+        return any(peer.asks_commands for peer in self.peers)
+
+    def tell_command(self, pane: int, life: int, name: str) -> None:
+        """Tells those who asked what runs in front in that making of a pane, where it wasn't told so yet."""
+        for peer in [peer for peer in self.peers if peer.asks_commands and peer.commands.get(pane) != (life, name)]:
+            peer.commands[pane] = life, name
+            self.send(peer, [f"command {pane} {life} {name}"])
+
     def send(self, peer: ShellsPeer, lines: list[str]) -> None:
         """Has lines go to one, who is let go where too much waits for it."""
-        peer.waiting += "".join(f"{line}\n" for line in lines).encode("ascii", "replace")
+        peer.waiting += "".join(f"{line}\n" for line in lines).encode("utf-8", "replace")
         if len(peer.waiting) > MOST_WAITING:
             self.drop(peer)
 

@@ -122,6 +122,27 @@ class Panes(Keeper):
         self.turn()
         self.assertEqual(read_now(one), b"others 0\n")
 
+    def test_commands(self):
+        """What runs in front is told there, and looked up again after something was typed or written."""
+        names = {1: "sh", 2: "vi"}
+        self.patch_of(shells.Fronts, "look", lambda fronts, pane: fronts.tells(pane.number, pane.life, names[pane.number]))
+        panes = self.begin()
+        one = socket.socket(socket.AF_UNIX, socket.SOCK_STREAM)
+        self.addCleanup(one.close)
+        one.connect(str(self.folder / "shells"))
+        one.setblocking(False)
+        one.send(b"commands\n")
+        self.turn(4)
+        self.assertEqual(read_now(one), b"command 1 4 sh\ncommand 2 5 vi\n")
+        names.update({1: "less", 2: "mc"})
+        self.turn()
+        panes[0].send(b"x")
+        self.made[1].send(b"y")
+        self.turn()
+        self.now += 0.1
+        self.turn()
+        self.assertEqual(sorted(read_now(one).splitlines()), [b"command 1 4 less", b"command 2 5 mc"])
+
     def test_rung(self):
         """A bell is told."""
         self.begin()

@@ -5,7 +5,7 @@ import unittest
 from unittest import mock
 
 from aids import Case, StillLoop, read_now
-from roam_live import presence
+from roam_live import fronts, presence
 from roam_live.following import PAUSES
 from roam_live.presence import MOST_OTHERS, Presence, ToldOthers, presence_said, terminal_name
 from roam_live.shells import LONGEST_LINE, MOST_PEERS, MOST_WAITING, ShellsSocket
@@ -92,6 +92,95 @@ class Told(Sockets):
         self.assertEqual(len(self.socket.peers), 1)
         self.say(one, b"x")
         self.assertEqual((one.recv(1), self.socket.peers), (b"", []))
+
+
+class Commands(Sockets):
+    """What runs in front in panes."""
+
+    def setUp(self):
+        super().setUp()
+        self.asked = []
+        self.socket.asked_commands = lambda: self.asked.append(self.socket.has_asked_commands())
+
+    def test_told(self):
+        """Who asks is told, each name of a making once; others aren't."""
+        other, first = self.connect(b"who\n"), self.connect(b"commands\n")
+        read_now(other)
+        self.assertEqual((self.asked, read_now(first)), ([True], b""))
+        for told in ((1, 4, "sh"), (2, 9, "vi"), (1, 4, "sh"), (1, 4, "less a"), (1, 5, "less a")):
+            self.socket.tell_command(*told)
+        self.loop.turn()
+        self.assertEqual(read_now(first), b"command 1 4 sh\ncommand 2 9 vi\ncommand 1 4 less a\ncommand 1 5 less a\n")
+        late = self.connect(b"commands\n")
+        self.socket.tell_command(1, 5, "less a")
+        self.loop.turns(2)
+        self.assertEqual((read_now(late), read_now(first), read_now(other), len(self.asked)), (b"command 1 5 less a\n", b"", b"", 2))
+
+    def test_wanted(self):
+        """It isn't wanted where nobody asked, nor once those have left."""
+        one = self.connect(b"who\n")
+        self.assertFalse(self.socket.has_asked_commands())
+        self.say(one, b"commands\n")
+        self.assertTrue(self.socket.has_asked_commands())
+        one.close()
+        self.loop.turns(2)
+        self.assertFalse(self.socket.has_asked_commands())
+
+
+class Fronts(Case):
+    """When it is looked up what runs in front."""
+
+    def setUp(self):
+        self.loop, self.told = StillLoop(lambda: self.now), []
+        self.fronts = fronts.Fronts(self.loop, lambda *words: self.told.append(words))
+        self.fronts.is_wanted = True
+        self.pane = mock.Mock(number=3, life=7, terminal=5)
+        self.looks = self.patch_of(fronts, "group_in_front", return_value=70)
+        self.patch_of(fronts, "name_of", side_effect=lambda group: f"a{group}")
+
+    def touch(self, seconds=0.0):
+        """Has something be typed in a pane, and so many seconds pass."""
+        self.fronts.touched(self.pane)
+        self.now += seconds
+        self.loop.do_due()
+
+    def test_looks(self):
+        """A tenth of a second after something came, twice a second at most, and never while nothing comes."""
+        self.touch(0.09)
+        self.assertEqual(self.told, [])
+        self.touch(0.011)
+        self.assertEqual(self.told, [(3, 7, "a70")])
+        for _ in range(100):
+            self.touch(0.1)
+        self.assertLessEqual(self.looks.call_count, 21)
+        self.assertGreaterEqual(self.looks.call_count, 16)
+        self.now += 1
+        self.loop.do_due()
+        count = self.looks.call_count
+        self.now += 100
+        self.assertIsNone(self.loop.wait_time())
+        self.loop.do_due()
+        self.assertEqual(self.looks.call_count, count)
+
+    def test_unwanted(self):
+        """Where nobody wants it nothing is looked up; and nothing is told of a pane that has no terminal, or in which none is in front."""
+        self.fronts.is_wanted = False
+        self.touch(1)
+        self.assertEqual((self.looks.call_count, self.loop.due), (0, {}))
+        self.fronts.is_wanted = True
+        self.looks.return_value = None
+        self.touch(1)
+        self.pane.terminal = None
+        self.touch(1)
+        self.assertEqual((self.looks.call_count, self.told), (1, []))
+
+    def test_gone(self):
+        """A pane that is gone isn't looked at."""
+        self.touch()
+        self.fronts.drop(3)
+        self.now += 1
+        self.loop.do_due()
+        self.assertEqual((self.looks.call_count, self.fronts.looked), (0, {}))
 
 
 class Bounds(Sockets):
