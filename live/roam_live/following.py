@@ -126,8 +126,8 @@ class AsideFollowing(Following):
 
 
 class KeeperFollowing(Following):
-    """Follows the panes of a folder's server, of this machine, for what keeps their shells: it says so, and what is wrong is told in words,
-    once, and that it is over."""
+    """Follows the panes of a folder's server, of this machine, and what stands beside their terminals, for what keeps their shells: it says
+    so, and what is wrong is told in words, once, and that it is over."""
 
     def __init__(self, path: str, loop: Loop, hears: Callable[[list[str]], object], loses: Callable[[], object],
                  tells: Callable[[str], None] = say) -> None:
@@ -143,6 +143,7 @@ class KeeperFollowing(Following):
         super().begin(peer)
         if runs_program(peer):
             self.ask(KEEPER)
+            self.ask(ASIDE)
         self.loop.later("panes are quiet", QUIET, lambda: self.tell(TELLS_NOTHING))
 
     def heard(self, lines: list[str]) -> None:

@@ -27,9 +27,11 @@ TOLD = re.compile(r"(?P<pane>[1-9])((?: \d{1,4}){4}) (?P<life>\d{1,19})|(?P<gone
                   r"|shape (?P<shaped>[1-9] \d{1,19}) (?P<shape>[0-6])|title (?P<titled>[1-9] \d{1,19}) (?P<title>(?:[0-9a-f]{2}){0,800})"
                   r"|bell [1-9] \d{1,19}", re.ASCII)
 
-# What a server is asked for by who goes by what stands beside the panes' terminals; that a program wants what is pasted between brackets.
+# What a server is asked for by who goes by what stands beside the panes' terminals; that a program wants what is pasted between brackets,
+# and reports of the focus.
 ASIDE = "beside"
 BRACKETED = "paste"
+FOCUS = "focus"
 
 # So many seconds a server has for what it is asked once, and what is told behind the focus for coming.
 ASKED = 1.0

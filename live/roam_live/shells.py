@@ -1,10 +1,13 @@
-"""The socket `shells` of a session's folder, at which who keeps the shells knows who is at the session, and tells what runs in its panes."""
+"""The socket `shells` of a session's folder, at which who keeps the shells knows who is at the session, is given texts that are pasted, and
+tells what runs in the panes."""
 from __future__ import annotations
 
 import os
+import re
 import socket
 from collections.abc import Callable
 
+from roam_live.given import KEPT, LOST, GivenText, GivenTexts
 from roam_live.listeners import Listener
 from roam_live.loops import Loop
 from roam_live.presence import WHO, Presence, presence_said
@@ -20,7 +23,31 @@ MOST_WAITING = 1 << 16
 # What one says that is to be told what runs in front in the panes.
 COMMANDS = "commands"
 
+# How one gives a text, whose bytes follow, and asks for one that it gave.
+GIVE = re.compile(r"give ([0-9a-f]{16}) ([1-9]\d{0,8})( plain)?", re.ASCII)
+ASK = re.compile(r"ask ([0-9a-f]{16})", re.ASCII)
+
+# Of so many texts one is told at most what becomes of them.
+MOST_NAMES = 64
+
 BAD_LINE = "bad line"
+
+
+class Giving:
+    """A text whose bytes come: they are kept, or passed over where the text is known already, or refused."""
+
+    def __init__(self, name: str, length: int, is_plain: bool, is_kept: bool, refusal: str) -> None:
+        self.name, self.length, self.is_plain, self.is_kept, self.refusal = name, length, is_plain, is_kept, refusal
+        self.left = length
+        self.data = bytearray()
+
+    def take(self, came: bytearray) -> None:
+        """Takes those of its bytes that are there, off what came."""
+        count = min(self.left, len(came))
+        if self.is_kept:
+            self.data += came[:count]
+        del came[:count]
+        self.left -= count
 
 
 class ShellsPeer:
@@ -36,6 +63,16 @@ class ShellsPeer:
         # The same of what runs in front in panes.
         self.asks_commands = False
         self.commands: dict[int, tuple[int, str]] = {}
+        # The text that it gives now, and the names of those of which it wants to know what becomes of them.
+        self.giving: Giving | None = None
+        self.names: dict[str, None] = {}
+
+    def wants(self, name: str) -> None:
+        """Notes that it wants to know what becomes of a text."""
+        self.names.pop(name, None)
+        self.names[name] = None
+        if len(self.names) > MOST_NAMES:
+            del self.names[next(iter(self.names))]
 
     def news(self, others: dict[int, Presence]) -> list[str]:
         """The lines that tell it of the others, where it wasn't told so yet."""
@@ -53,6 +90,7 @@ class ShellsSocket:
         self.loop, self.asked_commands = loop, asked_commands
         self.peers: list[ShellsPeer] = []
         self.last = 0
+        self.texts = GivenTexts(loop, self.tell_text)
         # Whether something is new of who is there.
         self.is_new = False
         self.listener: Listener | None = None
@@ -82,16 +120,24 @@ class ShellsSocket:
             self.drop(peer)
             return
         peer.came += piece or b""
-        *lines, rest = peer.came.split(b"\n")
-        peer.came = rest
-        for line in lines:
+        while peer in self.peers:
+            if peer.giving:
+                peer.giving.take(peer.came)
+                if peer.giving.left:
+                    self.wait_for(peer)
+                    return
+                self.take_given(peer, peer.giving)
+            line, line_end, _ = peer.came.partition(b"\n")
+            if not line_end:
+                break
+            del peer.came[: len(line) + 1]
             self.take_line(peer, line.decode("utf-8", "replace"))
-        if len(rest) >= LONGEST_LINE:
+        if len(peer.came) >= LONGEST_LINE:
             self.drop(peer)
 
     def take_line(self, peer: ShellsPeer, line: str) -> None:
         """Takes a line of one who is there."""
-        presence = presence_said(line)
+        presence, gives, asks = presence_said(line), GIVE.fullmatch(line), ASK.fullmatch(line)
         if presence:
             peer.presence, self.is_new = presence, True
         elif line == WHO:
@@ -99,8 +145,47 @@ class ShellsSocket:
         elif line == COMMANDS:
             peer.asks_commands = True
             self.asked_commands()
+        elif gives:
+            self.begin_giving(peer, gives[1], int(gives[2]), bool(gives[3]))
+        elif asks:
+            peer.wants(asks[1])
+            self.send(peer, [f"{self.texts.state(asks[1])} {asks[1]}"])
         else:
             self.send(peer, [BAD_LINE])
+
+    # ---- texts that are given
+
+    def begin_giving(self, peer: ShellsPeer, name: str, length: int, is_plain: bool) -> None:
+        """Takes a text, whose bytes follow, where there is room; one that was given before is known."""
+        is_known = self.texts.state(name) != LOST
+        refusal = "" if is_known else self.texts.refusal(length)
+        peer.giving = Giving(name, length, is_plain, not is_known and not refusal, refusal)
+        self.texts.coming += length if peer.giving.is_kept else 0
+        peer.wants(name)
+
+    def wait_for(self, peer: ShellsPeer) -> None:
+        """Waits for more of a text; one of which nothing more comes takes its room no longer than others."""
+        self.loop.later(f"given by {peer.number}", KEPT, lambda: self.drop(peer))
+
+    def take_given(self, peer: ShellsPeer, given: Giving) -> None:
+        """Has a text wait whose bytes are all there, and answers."""
+        self.end_giving(peer)
+        if given.is_kept:
+            self.texts.take(GivenText(given.name, bytes(given.data), given.is_plain))
+        self.send(peer, [f"refused {given.name} {given.refusal}" if given.refusal else f"{self.texts.state(given.name)} {given.name}"])
+
+    def end_giving(self, peer: ShellsPeer) -> None:
+        """Waits for no more of a text."""
+        if peer.giving and peer.giving.is_kept:
+            self.texts.coming -= peer.giving.length
+        peer.giving = None
+        self.loop.drop(f"given by {peer.number}")
+
+    def tell_text(self, name: str, word: str) -> None:
+        """Tells what became of a text to who gave it, or asked for it."""
+        for peer in [peer for peer in self.peers if name in peer.names]:
+            del peer.names[name]
+            self.send(peer, [f"{word} {name}"])
 
     # ---- what goes
 
@@ -137,6 +222,7 @@ class ShellsSocket:
     def drop(self, peer: ShellsPeer) -> None:
         """Lets one go."""
         if peer in self.peers:
+            self.end_giving(peer)
             self.loop.remove(peer.end)
             peer.end.close()
             self.peers.remove(peer)
