@@ -118,10 +118,14 @@ class AsideFollowing(Following):
     """Follows the panes, and what stands beside their terminals where the server is of this machine: an earlier one, or a relay, doesn't
     know the word."""
 
+    # Whether it was asked.
+    has_asked = False
+
     def begin(self, peer: socket.socket) -> None:
         """Follows a connection that is there."""
         super().begin(peer)
-        if runs_program(peer):
+        self.has_asked = runs_program(peer)
+        if self.has_asked:
             self.ask(ASIDE)
 
 
@@ -196,6 +200,10 @@ class PanesFollower:
     def wants_brackets(self) -> bool:
         """Whether the program in the pane in focus is known to want what is pasted between brackets."""
         return self.places is not None and self.told.has_set(self.places.focus, BRACKETED)
+
+    def knows_modes(self) -> bool:
+        """Whether it is told here which modes the panes' programs have set."""
+        return self.places is not None and self.following.has_asked
 
     def is_full(self) -> bool:
         """Whether the server is known to have had as many starts as it ever has."""

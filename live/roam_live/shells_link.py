@@ -2,6 +2,7 @@
 from __future__ import annotations
 
 import os
+import re
 import socket
 from collections.abc import Callable
 
@@ -13,6 +14,12 @@ from roam_live.program import connected_now
 TYPE_CHECKING = False
 if TYPE_CHECKING:
     from roam_live.terminal import Size
+
+# What a keeper tells of a text that it was given.
+ANSWER = re.compile(r"(held|put|lost|refused) ([0-9a-f]{16})(?: ([ -~]{1,200}))?", re.ASCII)
+
+# What is told here of one where no keeper is there that takes any.
+UNTOLD = "untold"
 
 # So many seconds a keeper that took the connection has for telling who else is there: the one of another machine takes a round trip.
 KNOWS = 2.0
@@ -32,6 +39,13 @@ class ShellsLink(Following):
         # What was said of this terminal, and what was told of the others.
         self.said = ""
         self.others = ToldOthers()
+        # Whether a keeper was there that tells so much.
+        self.is_known = False
+        # Texts that aren't held yet, by their names, and those that are, and aren't known to be put; a call tells what becomes of one, as
+        # by the word of the keeper, with more words or none.
+        self.giving: dict[str, bytes] = {}
+        self.given: dict[str, None] = {}
+        self.answers: Callable[[str, str, str], object] = lambda name, word, more: None
         if folder:
             self.connect()
 
@@ -41,6 +55,10 @@ class ShellsLink(Following):
         self.said = ""
         self.say_here()
         self.ask(WHO)
+        for name, data in self.giving.items():
+            self.ask_to_take(name, data)
+        for name in self.given:
+            self.ask(f"ask {name}")
 
     def say_here(self) -> None:
         """Says that this terminal is there, where that, or its size, wasn't said."""
@@ -52,13 +70,53 @@ class ShellsLink(Following):
     def take(self, lines: list[str]) -> None:
         """Takes what was told."""
         for line in lines:
-            self.others.take(line)
+            answer = ANSWER.fullmatch(line)
+            if answer:
+                self.answered(answer[2], answer[1], answer[3] or "")
+            else:
+                self.others.take(line)
         if self.others.is_whole:
+            self.is_known = True
             self.knows()
 
     def forget(self) -> None:
-        """Knows no more who is there."""
+        """Knows no more who is there. Where no keeper was known before, none is there that takes texts."""
         self.others = ToldOthers()
+        for name in list(self.giving) if not self.is_known else ():
+            del self.giving[name]
+            self.answers(name, UNTOLD, "")
+
+    # ---- texts
+
+    def takes_texts(self) -> bool:
+        """Whether a keeper takes texts, as far as is known: one was there, or may tell soon."""
+        return self.is_known or self.is_awaited()
+
+    def give(self, name: str, data: bytes) -> None:
+        """Has the keeper hold a text: it is given again, where the connection is lost, until it does."""
+        self.giving[name] = data
+        if self.peer:
+            self.ask_to_take(name, data)
+
+    def ask_to_take(self, name: str, data: bytes) -> None:
+        """Gives a text to the keeper that is there."""
+        self.ask(f"give {name} {len(data)}")
+        self.waiting += data
+
+    def cancel(self, name: str) -> None:
+        """Gives a text no more. One that is half given is given whole, since its bytes are awaited."""
+        self.giving.pop(name, None)
+        self.given.pop(name, None)
+
+    def answered(self, name: str, word: str, more: str) -> None:
+        """Takes what becomes of a text that was given."""
+        if name not in self.giving and name not in self.given:
+            return
+        if self.giving.pop(name, None) is None:
+            del self.given[name]
+        if word == "held":
+            self.given[name] = None
+        self.answers(name, word, more)
 
     def is_awaited(self) -> bool:
         """Whether it isn't known yet who else is there, and may be soon."""

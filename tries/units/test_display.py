@@ -85,6 +85,7 @@ class PlayedPanes:
     """What is told of a session's panes."""
 
     awaited = full = brackets = False
+    modes = True
     aside = ("", 0)
 
     def __init__(self, place):
@@ -106,6 +107,10 @@ class PlayedPanes:
     def is_full(self):
         """Whether the server hears no other start."""
         return self.full
+
+    def knows_modes(self):
+        """Whether it is told which modes programs have set."""
+        return self.modes
 
     def wants_brackets(self):
         """Whether the program in focus wants what is pasted between brackets."""
@@ -646,8 +651,7 @@ class UnderCover(unittest.TestCase):
         self.assertEqual((person.display.cover, person.types(b"\x1b[201~x")), ("", ["char 78"]))
 
     def test_brackets(self):
-        """A paste stands between brackets where the program in focus wants that as it begins, and ends with them whatever comes between;
-        nothing in it ends them."""
+        """A paste stands between brackets where the program in focus wants that as it ends, and nothing in it ends them."""
         begin, end = BRACKETS
         person = Person(24, 80, told=places(24, 80))
         person.answers()
@@ -657,21 +661,23 @@ class UnderCover(unittest.TestCase):
         self.assertEqual(person.types(b"\x1b[200~\x9b201~\xc2\x9b201~\x1b\x7f\x07\t\x1b[201~"),
                          [*begin, "char fffd", *[f"char {ord(letter):x}" for letter in "201~201~"], "char 9", *end])
         self.assertEqual(person.types(b"\x1b[200~\x1b[A\x1b[201~"), [*begin, "char 5b", "char 41", *end])
-        self.assertEqual(person.types(b"\x1b[200~x"), [*begin, "char 78"])
+        self.assertEqual(person.types(b"\x1b[200~x"), [])
+        self.assertEqual(person.types(b"y\x1b[201~"), [*begin, "char 78", "char 79", *end])
         person.commands.panes.brackets = False
-        self.assertEqual(person.types(b"y\x1b[201~"), ["char 79", *end])
         self.assertEqual(person.types(b"\x1b[200~a\r\x1b[201~"), ["char 61", "key return"])
+        # An end without a beginning is nothing, and so is a paste of nothing.
+        self.assertEqual(person.types(b"a\x1b[201~b\x1b[200~\x1b[201~\x1b[200~\x03\x1b[201~c"), ["char 61", "char 62", "char 63"])
 
     def test_brackets_end(self):
-        """Of a paste over which something comes to stand the rest isn't typed, but its end is; of one that begins there nothing is."""
-        begin, end = BRACKETS
+        """Of a paste over which something comes to stand nothing is typed, nor its brackets; nor of one that begins there."""
         person = Person(24, 80, told=places(24, 80))
         person.answers()
         person.commands.panes.brackets = True
-        self.assertEqual(person.types(b"\x1b[200~a"), [*begin, "char 61"])
+        self.assertEqual(person.types(b"\x1b[200~a"), [])
         person.resize(2, 80)
-        self.assertEqual(person.types(b"b\x1b[201~"), end)
+        self.assertEqual(person.types(b"b\x1b[201~"), [])
         self.assertEqual(person.types(b"\x1b[200~a\x1b[201~"), [])
+        self.assertEqual(person.display.told, "nothing is pasted where the session isn't shown")
 
     def test_help(self):
         person = Person(24, 80, told=places(24, 80))
@@ -683,7 +689,7 @@ class UnderCover(unittest.TestCase):
         person.types(b"\x02d")
         self.assertEqual((person.left, person.link.acts), ("[detached]", []))
         person.types(b"\x02?")
-        self.assertEqual(person.types(b"\x1b[200~a\x02x\x1b[201~"), ["char 61", "char 2", "char 78"])
+        self.assertEqual(person.types(b"\x1b[200~a\x02x\x1b[201~"), ["char 61", "char 78"])
 
     def test_paused(self):
         person = Person(24, 80, told=places(24, 80))
