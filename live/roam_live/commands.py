@@ -16,7 +16,7 @@ from roam_live.pastes import Pastes
 from roam_live.program import has_others
 from roam_live.programs import told
 from roam_live.following import PanesFollower
-from roam_live.places import BESIDE, Places
+from roam_live.places import BESIDE, MOVES, Places
 
 TYPE_CHECKING = False
 if TYPE_CHECKING:
@@ -26,9 +26,6 @@ if TYPE_CHECKING:
 
 # An escape that nothing follows for so many seconds is the key.
 ESCAPE_WAIT = 0.025
-
-# Acts after which another pane may be in focus.
-MOVES = ("focus", "next", "split", "close")
 
 # The wishes that are granted while something stands in the session's place. Nothing is typed then, since nobody would see where it goes.
 UNDER_COVER = ("detach", "suspend", "repaint", "help", "no", "scrolled")

@@ -11,6 +11,9 @@ from roam_live.program import Lines, connected_in, read
 
 BESIDE = {"left": (0, -1), "right": (0, 1), "up": (-1, 0), "down": (1, 0)}
 
+# Acts after which another pane may be in focus.
+MOVES = ("focus", "next", "split", "close")
+
 # A session has so many panes at most; one that is split has room for two and the border between.
 MOST_PANES = 9
 ROOM = {"right": (0, 9), "down": (5, 0)}
