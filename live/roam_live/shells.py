@@ -12,6 +12,7 @@ from roam_live.listeners import Listener
 from roam_live.loops import Loop
 from roam_live.presence import WHO, Presence, presence_said
 from roam_live.program import Fault, read, reason, say, write
+from roam_live.texts import random_name
 
 # So many are connected at most: front ends of this machine and of others.
 MOST_PEERS = 64
@@ -90,6 +91,8 @@ class ShellsSocket:
         self.loop, self.asked_commands = loop, asked_commands
         self.peers: list[ShellsPeer] = []
         self.last = 0
+        # By it those who come again know whether this is the keeper that was there before.
+        self.name = random_name()
         self.texts = GivenTexts(loop, self.tell_text)
         # Whether something is new of who is there.
         self.is_new = False
@@ -142,6 +145,7 @@ class ShellsSocket:
             peer.presence, self.is_new = presence, True
         elif line == WHO:
             peer.asks = self.is_new = True
+            self.send(peer, [f"keeper {self.name}"])
         elif line == COMMANDS:
             peer.asks_commands = True
             self.asked_commands()

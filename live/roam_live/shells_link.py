@@ -18,6 +18,9 @@ if TYPE_CHECKING:
 # What a keeper tells of a text that it was given.
 ANSWER = re.compile(r"(held|put|lost|refused) ([0-9a-f]{16})(?: ([ -~]{1,200}))?", re.ASCII)
 
+# By what another keeper is known.
+KEEPER = re.compile(r"keeper ([0-9a-f]{16})", re.ASCII)
+
 # What is told here of one where no keeper is there that takes any.
 UNTOLD = "untold"
 
@@ -39,8 +42,10 @@ class ShellsLink(Following):
         # What was said of this terminal, and what was told of the others.
         self.said = ""
         self.others = ToldOthers()
-        # Whether a keeper was there that tells so much.
+        # Whether a keeper was there that tells so much, by which name it is known, and whether it is there now.
         self.is_known = False
+        self.keeper = ""
+        self.is_there = False
         # Texts that aren't held yet, by their names, and those that are, and aren't known to be put; a call tells what becomes of one, as
         # by the word of the keeper, with more words or none.
         self.giving: dict[str, bytes] = {}
@@ -55,10 +60,6 @@ class ShellsLink(Following):
         self.said = ""
         self.say_here()
         self.ask(WHO)
-        for name, data in self.giving.items():
-            self.ask_to_take(name, data)
-        for name in self.given:
-            self.ask(f"ask {name}")
 
     def say_here(self) -> None:
         """Says that this terminal is there, where that, or its size, wasn't said."""
@@ -70,9 +71,11 @@ class ShellsLink(Following):
     def take(self, lines: list[str]) -> None:
         """Takes what was told."""
         for line in lines:
-            answer = ANSWER.fullmatch(line)
+            answer, keeper = ANSWER.fullmatch(line), KEEPER.fullmatch(line)
             if answer:
                 self.answered(answer[2], answer[1], answer[3] or "")
+            elif keeper:
+                self.meet(keeper[1])
             else:
                 self.others.take(line)
         if self.others.is_whole:
@@ -81,12 +84,31 @@ class ShellsLink(Following):
 
     def forget(self) -> None:
         """Knows no more who is there. Where no keeper was known before, none is there that takes texts."""
-        self.others = ToldOthers()
-        for name in list(self.giving) if not self.is_known else ():
-            del self.giving[name]
-            self.answers(name, UNTOLD, "")
+        self.others, self.is_there = ToldOthers(), False
+        if not self.is_known:
+            self.lose(UNTOLD)
 
     # ---- texts
+
+    def meet(self, name: str) -> None:
+        """Goes on with a keeper: what the one before doesn't hold yet is given again. Of another one all is lost that was given before: what
+        was pasted into a program isn't put into the shell that is in its place."""
+        is_other = self.keeper not in ("", name)
+        self.keeper, self.is_there = name, True
+        if is_other:
+            self.lose("lost")
+        for text, data in self.giving.items():
+            self.ask_to_take(text, data)
+        for text in self.given:
+            self.ask(f"ask {text}")
+
+    def lose(self, word: str) -> None:
+        """Gives no more of what was to be given, and tells why."""
+        names = [*self.given, *self.giving]
+        self.given.clear()
+        self.giving.clear()
+        for name in names:
+            self.answers(name, word, "")
 
     def takes_texts(self) -> bool:
         """Whether a keeper takes texts, as far as is known: one was there, or may tell soon."""
@@ -95,7 +117,7 @@ class ShellsLink(Following):
     def give(self, name: str, data: bytes) -> None:
         """Has the keeper hold a text: it is given again, where the connection is lost, until it does."""
         self.giving[name] = data
-        if self.peer:
+        if self.is_there:
             self.ask_to_take(name, data)
 
     def ask_to_take(self, name: str, data: bytes) -> None:

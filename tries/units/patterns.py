@@ -67,6 +67,7 @@ KNOWN = {
     ("roam_live/shells.py", "ASK", "re"): LINES,
     ("roam_live/shells.py", "GIVE", "re"): LINES,
     ("roam_live/shells_link.py", "ANSWER", "re"): LINES,
+    ("roam_live/shells_link.py", "KEEPER", "re"): LINES,
     ("roam_live/targets.py", "PANE", "re"): NAMES,
     ("roam_live/texts.py", "BRACKET_ENDS", "ESC"): BRACKETS,
     ("roam_live/texts.py", "", "ESC"): BRACKETS,

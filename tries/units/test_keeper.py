@@ -127,7 +127,7 @@ class Panes(Keeper):
         one.send(b"here a:/dev/pts/1 24 80 edits\nwho\n")
         one.setblocking(False)
         self.turn()
-        self.assertEqual(read_now(one), b"others 0\n")
+        self.assertEqual(read_now(one), f"keeper {self.keeper.socket.name}\nothers 0\n".encode())
 
     def test_commands(self):
         """What runs in front is told there, and looked up again after something was typed or written."""

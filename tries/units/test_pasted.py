@@ -10,7 +10,7 @@ from roam_live import given, texts, typed
 from roam_live.given import HELD, KEPT, LOST, MOST_SPENT, MOST_TEXTS, PUT, TOO_LONG, TOO_MANY, GivenText, GivenTexts
 from roam_live.texts import CLOSES, MOST_BYTES, OPENS, cleaned, mark_acts, random_name, without_brackets
 from roam_live.typed import Marks, TypedQueue
-from test_shells_socket import Sockets
+from test_shells_socket import NAMED, Sockets
 
 NAME, OTHER = "0123456789abcdef", "fedcba9876543210"
 
@@ -281,7 +281,7 @@ class Given(Sockets):
         for cut in range(len(text)):
             one = self.connect(text[:cut])
             self.say(one, text[cut:])
-            self.assertEqual(read_now(one), f"held {NAME}\nothers 0\n".encode(), cut)
+            self.assertEqual(read_now(one), f"held {NAME}\nkeeper {NAMED}\nothers 0\n".encode(), cut)
             self.assertEqual(self.socket.texts.placed(NAME).data, b"two\nlines")
             self.loop.turn()
             self.assertEqual(read_now(one), f"put {NAME}\n".encode())

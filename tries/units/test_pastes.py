@@ -108,6 +108,13 @@ class Handed(Case):
         self.tell(2, "lost")
         self.assertEqual(self.said, [LOST])
 
+    def test_lost_before_held(self):
+        """One that is lost before it is held is told of, and nothing is typed of it."""
+        self.paste(LONG)
+        self.pastes.type("char 61")
+        self.tell(1, "lost")
+        self.assertEqual((self.link.lines, self.said, self.loop.due), (["char 61"], [LOST], {}))
+
     def test_refused(self):
         """What is refused is told in words, and what was typed behind it goes."""
         self.paste(LONG)
@@ -205,7 +212,7 @@ class Given(Sockets):
         self.addCleanup(self.made_link.leave)
         self.names = [f"{number:016x}" for number in range(5)]
 
-    def turn(self, count=8):
+    def turn(self, count=16):
         """Turns of both."""
         for _ in range(count):
             self.made_link.loop.turn()
@@ -250,17 +257,22 @@ class Given(Sockets):
         self.assertEqual(self.socket.texts.texts[self.names[1]].data, b"two" * 100000)
 
     def test_another_keeper(self):
-        """Another keeper knows nothing of what one before held: that is lost."""
+        """What one before held, or was given, is lost to another keeper, which isn't given it."""
         self.turn()
         self.made_link.give(self.names[0], b"one")
         self.turn()
+        self.made_link.give(self.names[1], b"two")
         self.socket.close()
         self.turn(2)
         self.socket = type(self.socket)(self.folder, self.loop)
         self.addCleanup(self.socket.close)
         self.now += PAUSES[0]
         self.turn()
-        self.assertEqual(self.told, [(self.names[0], "held", ""), (self.names[0], "lost", "")])
+        self.assertEqual(self.told, [(self.names[0], "held", ""), *((name, "lost", "") for name in self.names[:2])])
+        self.assertEqual((self.socket.texts.texts, self.made_link.giving, self.made_link.given), ({}, {}, {}))
+        self.made_link.give(self.names[2], b"three")
+        self.turn()
+        self.assertEqual(self.told[3:], [(self.names[2], "held", "")])
 
     def test_none(self):
         """A socket that ends the connection before it tells anything takes no text, which is told at once."""
@@ -279,6 +291,7 @@ class Given(Sockets):
         """One that isn't wanted any more isn't given again; what was begun of it goes on."""
         self.turn()
         self.made_link.give(self.names[0], b"one")
+        self.assertEqual(self.made_link.waiting, f"give {self.names[0]} 3\none".encode())
         self.made_link.cancel(self.names[0])
         self.made_link.cancel(self.names[0])
         self.turn()

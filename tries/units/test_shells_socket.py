@@ -14,13 +14,17 @@ from roam_live.shells_link import KNOWS, ShellsLink
 A, B = "here:/dev/pts/1 24 80 edits", "there:/dev/pts/2 12 40 watches"
 
 
+NAMED = "00112233445566aa"
+
+
 class Sockets(Case):
-    """The socket in a folder of its own."""
+    """The socket in a folder of its own, at which the keeper has a name."""
 
     def setUp(self):
         self.folder = self.made_folder()
         self.loop = StillLoop(lambda: self.now)
         self.socket = ShellsSocket(self.folder, self.loop)
+        self.socket.name = NAMED
         self.addCleanup(self.socket.close)
 
     def connect(self, text=b""):
@@ -45,12 +49,12 @@ class Told(Sockets):
     def test_others(self):
         """Who asks is told who else is there, and each change; itself it isn't told of, nor who has said nothing."""
         first = self.connect(f"here {A}\nwho\n".encode())
-        self.assertEqual(read_now(first), b"others 0\n")
+        self.assertEqual(read_now(first), f"keeper {NAMED}\nothers 0\n".encode())
         self.connect()
         second = self.connect(f"here {B}\n".encode())
         self.assertEqual((read_now(first), read_now(second)), (f"there 3 {B}\nothers 1\n".encode(), b""))
         self.say(second, b"who\n")
-        self.assertEqual(read_now(second), f"there 1 {A}\nothers 1\n".encode())
+        self.assertEqual(read_now(second), f"keeper {NAMED}\nthere 1 {A}\nothers 1\n".encode())
         self.say(first, b"here here:/dev/pts/1 20 80 edits\n")
         self.assertEqual((read_now(first), read_now(second)), (b"", b"there 1 here:/dev/pts/1 20 80 edits\nothers 1\n"))
         self.say(first, b"here here:/dev/pts/1 20 80 edits\n")
@@ -63,7 +67,7 @@ class Told(Sockets):
         """Of what comes at once the newest is told, and each number once."""
         first = self.connect(b"who\n")
         self.connect("".join(f"here {A.replace('24', str(rows))}\n" for rows in range(1, 31)).encode())
-        self.assertEqual(read_now(first), b"others 0\n" + f"there 2 {A.replace('24', '30')}\nothers 1\n".encode())
+        self.assertEqual(read_now(first), f"keeper {NAMED}\nothers 0\n".encode() + f"there 2 {A.replace('24', '30')}\nothers 1\n".encode())
 
     def test_cut(self):
         """Lines come in any pieces."""
@@ -71,7 +75,7 @@ class Told(Sockets):
         for cut in range(len(text)):
             one = self.connect(text[:cut])
             self.say(one, text[cut:])
-            self.assertEqual(read_now(one), b"others 0\n")
+            self.assertEqual(read_now(one), f"keeper {NAMED}\nothers 0\n".encode())
             one.close()
             self.loop.turns(2)
 
@@ -240,7 +244,7 @@ class Bounds(Sockets):
         self.assertEqual(read_now(one), b"")
         self.now += 1
         self.loop.turns(4)
-        self.assertEqual(read_now(one), b"others 0\n")
+        self.assertEqual(read_now(one), f"keeper {NAMED}\nothers 0\n".encode())
 
     def test_taken(self):
         """Where another listens there it is left to it, which is told, and nobody is known to be there."""
