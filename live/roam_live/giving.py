@@ -90,7 +90,7 @@ def type_text(session: FolderSession, text: str, pane: int, is_plain: bool) -> i
 
 
 def read_text(is_raw: bool) -> str:
-    """What of standard input is pasted: its control characters are dropped but TAB, CR and, where it is raw, ESC; no bracket is left in it."""
+    """What of standard input is pasted: of control characters TAB and CR alone, and ESC where it is raw; then no bracket is left in it."""
     data = sys.stdin.buffer.read(MOST_BYTES + 1)
     if len(data) > MOST_BYTES:
         raise Fault(f"a text has {MOST_BYTES >> 20} MB at most; nothing was typed")

@@ -53,7 +53,8 @@ class Pastes:
     """Pastes and acts, in the order in which they come: a short paste as acts, a longer one as a mark, of which the text is handed to the
     keeper. What a person is to know is told by a call."""
 
-    def __init__(self, link: StartLink, panes: PanesFollower, shells: ShellsLink | None, loop: Loop, tells: Callable[[str], object]) -> None:
+    def __init__(self, link: StartLink, panes: PanesFollower, shells: ShellsLink | None, loop: Loop,
+                 tells: Callable[[str], object]) -> None:
         self.link, self.panes, self.shells, self.loop, self.tells = link, panes, shells, loop, tells
         # What came of a paste, and why nothing of it is typed.
         self.pieces: list[str] = []

@@ -91,8 +91,8 @@ class ShellsLink(Following):
     # ---- texts
 
     def meet(self, name: str) -> None:
-        """Goes on with a keeper: what the one before doesn't hold yet is given again. Of another one all is lost that was given before: what
-        was pasted into a program isn't put into the shell that is in its place."""
+        """Goes on with a keeper: what it doesn't hold yet is given again. To another one all is lost that was given before: what was pasted
+        into a program isn't put into the shell that is in its place."""
         is_other = self.keeper not in ("", name)
         self.keeper, self.is_there = name, True
         if is_other:

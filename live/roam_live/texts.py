@@ -45,5 +45,6 @@ def random_name() -> str:
 
 
 def mark_acts(name: str) -> list[str]:
-    """The acts that type the mark of a text: APC, its name and ST, in forms that no key sends. They stand in one line, which is taken whole."""
+    """The acts that type the mark of a text: APC, its name and ST, in forms that no key sends. They stand in one line, so that nothing
+    comes between."""
     return [f"char {ord(letter):x}" for letter in f"\x9f{name}\x9c"]

@@ -89,8 +89,8 @@ class TypedQueue:
         return self.typed + sum(len(part) for part in self.parts if isinstance(part, PlacedText))
 
     def take(self, typed: bytes) -> bool:
-        """Has what was typed wait, a text in the place of its mark, and tells whether all of it was kept. A mark of which no text is known is
-        nothing."""
+        """Has what was typed wait, a text in the place of its mark, and tells whether all of it was kept. A mark of a text that isn't known
+        is nothing."""
         is_kept = True
         for place, part in enumerate(self.marks.fed(typed)):
             if place % 2:
@@ -108,7 +108,7 @@ class TypedQueue:
             self.parts.append(placed)
 
     def add(self, typed: bytes) -> bool:
-        """Has bytes wait, as far as there is room, and tells whether all were kept. An interrupt drops what still waits of texts before it."""
+        """Has bytes wait, as far as there is room, and tells whether all were kept. An interrupt drops what waits of texts before it."""
         if INTERRUPT in typed:
             self.stop()
         if not self.parts or not isinstance(self.parts[-1], bytearray):

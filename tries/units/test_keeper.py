@@ -159,8 +159,10 @@ class Panes(Keeper):
         one.connect(str(self.folder / "shells"))
         one.send("".join(f"give {name} 4\ntext" for name in names).encode())
         self.turn(4)
-        for number, (lines, wanted) in enumerate((("", b"text"), ("modes 1 4 paste\n", b"\x1b[200~text\x1b[201~"), ("modes 1 4 sgr\n", b"text"),
-                                                  ("modes 1 4 sgr buttons focus paste keys1\n", b"\x1b[200~text\x1b[201~"), ("modes 1 3 paste\n", b"text"))):
+        plain, bracketed = b"text", b"\x1b[200~text\x1b[201~"
+        told = (("", plain), ("modes 1 4 paste\n", bracketed), ("modes 1 4 sgr\n", plain),
+                ("modes 1 4 sgr buttons focus paste keys1\n", bracketed), ("modes 1 3 paste\n", plain))
+        for number, (lines, wanted) in enumerate(told):
             # Both are there at once; what is told of the panes is read first, wherever it stands among what is waited for.
             self.server.send(lines.encode())
             panes[0].send(f"a\u009f{names[number]}\u009cb".encode())

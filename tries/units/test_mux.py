@@ -173,7 +173,8 @@ class Starts(Mux):
     def test_texts(self):
         """A text is sent by -l, and standard input pasted, in one piece; acts and a text aren't sent at once."""
         self.runs.add("main")
-        with mock.patch.object(giving, "type_text", return_value=3) as types, mock.patch.object(giving, "read_text", lambda is_raw: f"raw {is_raw}"):
+        with mock.patch.object(giving, "type_text", return_value=3) as types, \
+                mock.patch.object(giving, "read_text", lambda is_raw: f"raw {is_raw}"):
             self.assertEqual(self.mux("send", "-l", "a\nb\x1b", "main.2"), 3)
             self.assertEqual((types.call_args[0][1:], types.call_args[1]), (("a\rb", 2), {"is_plain": True}))
             self.assertEqual(self.mux("paste", "main"), 3)

@@ -79,8 +79,8 @@ class Found(unittest.TestCase):
     def test_others(self):
         """C2 9F with anything else behind is handed on as it was typed; what may be a mark waits for what follows."""
         whole = mark(NAME)
-        for text in (whole[:5] + b"x", whole[:-2] + b"x", whole[:-1] + b"x", whole[:-2] + b"0" + whole[-2:], whole.upper(), b"\xc2\x9c", b"\x9f" + whole[2:],
-                     b"\xc2\x9f\x1b", whole.replace(b"a", b"g")):
+        for text in (whole[:5] + b"x", whole[:-2] + b"x", whole[:-1] + b"x", whole[:-2] + b"0" + whole[-2:], whole.upper(), b"\xc2\x9c",
+                     b"\x9f" + whole[2:], b"\xc2\x9f\x1b", whole.replace(b"a", b"g")):
             self.assertEqual(self.found([text]), ([text], b""), text)
             self.assertEqual(self.found([text[:7], text[7:]]), ([text], b""), text)
         for cut in range(1, len(whole)):
@@ -172,7 +172,7 @@ class Queues(Case):
             self.assertTrue(text.startswith(b"a") and text.endswith(b"bcd\x03e"), (count, text))
             inside = text[1:-5]
             self.assertTrue(not inside or inside.startswith(OPENS) and inside.endswith(CLOSES), (count, text))
-            self.assertTrue("\u4e2d\u00e9x\u4e2d\u00e9x\u4e2d\u00e9x\u4e2d\u00e9x\u4e2d\u00e9x".startswith(inside[6:-6].decode()), (count, text))
+            self.assertTrue(waiting.startswith(inside[6:-6]) and inside[6:-6].decode() is not None, (count, text))
             self.assertLessEqual(len(text), 1 + count + 12 + 3 + 6, count)
 
     def test_typed_room(self):
@@ -317,8 +317,8 @@ class Given(Sockets):
     def test_bad(self):
         """What is no such line is told so."""
         one = self.connect()
-        for line in (f"give {NAME} 0", f"give {NAME}", f"give {NAME} 1 plainly", f"give {NAME.upper()} 1", f"give {NAME[1:]} 1", f"give {NAME} -1",
-                     f"give {NAME} 1000000000", f"ask {NAME}0", "ask"):
+        for line in (f"give {NAME} 0", f"give {NAME}", f"give {NAME} 1 plainly", f"give {NAME.upper()} 1", f"give {NAME[1:]} 1",
+                     f"give {NAME} -1", f"give {NAME} 1000000000", f"ask {NAME}0", "ask"):
             self.say(one, f"{line}\n".encode())
             self.assertEqual(read_now(one), b"bad line\n", line)
 

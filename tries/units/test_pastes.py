@@ -310,7 +310,8 @@ class Persons(unittest.TestCase):
     def test_watches(self):
         """At a terminal that watches nothing is pasted, and it says so."""
         person = self.person(watches=True)
-        self.assertEqual((person.types(b"\x1b[200~ab\x1b[201~"), person.display.told), ([], "nothing is pasted: this terminal only watches"))
+        acts = person.types(b"\x1b[200~ab\x1b[201~")
+        self.assertEqual((acts, person.display.told), ([], "nothing is pasted: this terminal only watches"))
 
     def test_asked(self):
         """At a question a paste is a no, and nothing of it is typed, nor an answer."""

@@ -83,8 +83,8 @@ class Told(Sockets):
         """What is no line is answered so, and the connection goes on."""
         one = self.connect(b"who\n")
         read_now(one)
-        for line in ("", "whom", "here", f"here {A} x", "here a\x1b[2J 24 80 edits", "here a 0 80 edits", "here a 24 80 reads", "here  24 80 edits",
-                     f"here {'a' * 65} 24 80 edits", "here a 100000 80 edits", "here \u00e9 24 80 edits"):
+        for line in ("", "whom", "here", f"here {A} x", "here a\x1b[2J 24 80 edits", "here a 0 80 edits", "here a 24 80 reads",
+                     "here  24 80 edits", f"here {'a' * 65} 24 80 edits", "here a 100000 80 edits", "here \u00e9 24 80 edits"):
             self.say(one, f"{line}\n".encode())
             self.assertEqual(read_now(one), b"bad line\n", line)
         self.say(one, b"here \xff\xfe 24 80 edits\n")
@@ -361,8 +361,8 @@ class Lines(unittest.TestCase):
     def test_told(self):
         """What can't be told is nothing, all is known once as many were told as there are, and no more are kept than may be."""
         told = ToldOthers()
-        for line in (f"there 0 {A}", f"there 1 {A} 1", "there 1 a 24 80 wants", "gone", "gone 0", "others", "others 100", "others -1", "other 1",
-                     f"there \u00b2 {A}"):
+        for line in (f"there 0 {A}", f"there 1 {A} 1", "there 1 a 24 80 wants", "gone", "gone 0", "others", "others 100", "others -1",
+                     "other 1", f"there \u00b2 {A}"):
             self.assertFalse(told.take(line), line)
         self.assertEqual((told.has_typing(), told.take("others 1"), told.has_typing()), (None, True, None))
         for number in range(1, 200):

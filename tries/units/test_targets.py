@@ -28,8 +28,8 @@ class Names(unittest.TestCase):
     """What a word names."""
 
     def test_target(self):
-        for word, target in (("main", ("main", 0)), ("main.2", ("main", 2)), ("ssh:a.b.2:work.9", ("ssh:a.b.2:work", 9)), ("a.0", ("a.0", 0)),
-                             ("a.10", ("a.10", 0)), (".1", (".1", 0)), ("ssh:h.1:work", ("ssh:h.1:work", 0))):
+        for word, target in (("main", ("main", 0)), ("main.2", ("main", 2)), ("ssh:a.b.2:work.9", ("ssh:a.b.2:work", 9)),
+                             ("a.0", ("a.0", 0)), ("a.10", ("a.10", 0)), (".1", (".1", 0)), ("ssh:h.1:work", ("ssh:h.1:work", 0))):
             self.assertEqual(target_of(word), Target(*target), word)
 
     def test_pane(self):
@@ -218,7 +218,8 @@ class Given(Sockets):
 
     def test_refused(self):
         """What can't be is told, and nothing is typed: no text, too much of it, no room, no such pane, a keeper that takes nothing."""
-        for text, pane, why in (("", 0, "there is nothing to be typed"), ("x" * (MOST_BYTES + 1), 0, "a text has 16 MB at most; nothing was typed"),
+        for text, pane, why in (("", 0, "there is nothing to be typed"),
+                                ("x" * (MOST_BYTES + 1), 0, "a text has 16 MB at most; nothing was typed"),
                                 ("x", 3, "session main has no pane 3")):
             with self.assertRaisesRegex(Fault, f"^{why}$"):
                 giving.type_text(self.session, text, pane, False)
