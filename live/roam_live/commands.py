@@ -68,7 +68,7 @@ class Commands:
         # another size itself.
         self.given: terminal.Size | None = None
         self.showed_all = False
-        self.pastes = Pastes(link, panes, shells, loop, lambda line: display.tell(line, PASTE_TOLD))
+        self.pastes = Pastes(link, panes, shells, loop, self.unpasted, lambda line: display.tell(line, PASTE_TOLD))
         # The session's size and the labels of its panes, as they were told last.
         self.known: tuple[terminal.Size, str] = (NO_SIZE, "")
         # Where a command of this person moved the focus, since it was told: to a pane, or to one that isn't known, 0; and what was told
@@ -120,9 +120,9 @@ class Commands:
         if was_pasting and is_pasting:
             self.pastes.add(key.text)
         elif was_pasting:
-            self.pastes.end(self.unpasted())
+            self.pastes.end()
         elif is_pasting:
-            self.pastes.begin(NO_ANSWER if before == self.typing.answering else self.unpasted())
+            self.pastes.begin(NO_ANSWER if before == self.typing.answering else "")
 
     def unpasted(self) -> str:
         """Why nothing is pasted now; nothing where it is."""

@@ -51,11 +51,11 @@ class Paste:
 
 class Pastes:
     """Pastes and acts, in the order in which they come: a short paste as acts, a longer one as a mark, of which the text is handed to the
-    keeper. What a person is to know is told by a call."""
+    keeper. A call tells why nothing is pasted now, and another tells a person something."""
 
-    def __init__(self, link: StartLink, panes: PanesFollower, shells: ShellsLink | None, loop: Loop,
+    def __init__(self, link: StartLink, panes: PanesFollower, shells: ShellsLink | None, loop: Loop, refuses: Callable[[], str],
                  tells: Callable[[str], object]) -> None:
-        self.link, self.panes, self.shells, self.loop, self.tells = link, panes, shells, loop, tells
+        self.link, self.panes, self.shells, self.loop, self.refuses, self.tells = link, panes, shells, loop, refuses, tells
         # What came of a paste, and why nothing of it is typed.
         self.pieces: list[str] = []
         self.size = 0
@@ -67,8 +67,8 @@ class Pastes:
     # ---- what is pasted
 
     def begin(self, why: str = "") -> None:
-        """A paste begins; nothing of it is typed where it is told why."""
-        self.pieces, self.size, self.why = [], 0, why
+        """A paste begins; nothing of it is typed where it is told why, or nothing is pasted now, nor as it ends."""
+        self.pieces, self.size, self.why = [], 0, why or self.refuses()
 
     def add(self, text: str) -> None:
         """More of it comes."""
@@ -81,10 +81,10 @@ class Pastes:
             self.pieces.append(text)
         self.loop.later("paste", ENDS, self.end)
 
-    def end(self, why: str = "") -> None:
-        """It is whole; nothing of it is typed where it is told why."""
+    def end(self) -> None:
+        """It is whole."""
         self.loop.drop("paste")
-        text, why = cleaned("".join(self.pieces)), self.why or why
+        text, why = cleaned("".join(self.pieces)), self.why or self.refuses()
         self.pieces, self.size = [], 0
         if why:
             self.tells(why)
@@ -104,7 +104,7 @@ class Pastes:
             self.type(*pasted_acts(text, is_bracketed), is_pasted=True)
             return
         paste, data = Paste(text, is_bracketed), text.encode("utf-8", "replace")
-        if len(data) > MOST_BYTES:
+        if len(data) > MOST_BYTES or not self.shells.has_room(len(data)):
             self.tells(TOO_LONG)
             return
         self.waiting.append(paste)

@@ -130,11 +130,12 @@ class ShellsSocket:
                     self.wait_for(peer)
                     return
                 self.take_given(peer, peer.giving)
-            line, line_end, _ = peer.came.partition(b"\n")
-            if not line_end:
+            end = peer.came.find(b"\n", 0, LONGEST_LINE)
+            if end < 0:
                 break
-            del peer.came[: len(line) + 1]
-            self.take_line(peer, line.decode("utf-8", "replace"))
+            line = peer.came[:end].decode("utf-8", "replace")
+            del peer.came[: end + 1]
+            self.take_line(peer, line)
         if len(peer.came) >= LONGEST_LINE:
             self.drop(peer)
 

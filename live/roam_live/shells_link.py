@@ -10,6 +10,7 @@ from roam_live.following import Following
 from roam_live.loops import Loop
 from roam_live.presence import WHO, Presence, ToldOthers, terminal_name
 from roam_live.program import connected_now
+from roam_live.texts import MOST_BYTES
 
 TYPE_CHECKING = False
 if TYPE_CHECKING:
@@ -23,6 +24,9 @@ KEEPER = re.compile(r"keeper ([0-9a-f]{16})", re.ASCII)
 
 # What is told here of one where no keeper is there that takes any.
 UNTOLD = "untold"
+
+# So many bytes wait for a keeper at most.
+MOST_GIVING = 2 * MOST_BYTES
 
 # So many seconds a keeper that took the connection has for telling who else is there: the one of another machine takes a round trip.
 KNOWS = 2.0
@@ -113,6 +117,10 @@ class ShellsLink(Following):
     def takes_texts(self) -> bool:
         """Whether a keeper takes texts, as far as is known: one was there, or may tell soon."""
         return self.is_known or self.is_awaited()
+
+    def has_room(self, length: int) -> bool:
+        """Whether a text of so many bytes may wait here: where a keeper is stopped nothing goes, not even of those that aren't wanted now."""
+        return len(self.waiting) + length <= MOST_GIVING
 
     def give(self, name: str, data: bytes) -> None:
         """Has the keeper hold a text: it is given again, where the connection is lost, until it does."""

@@ -172,6 +172,16 @@ class Panes(Keeper):
         one.setblocking(False)
         self.assertEqual(read_now(one).decode(), "".join(f"held {name}\n" for name in names) + "".join(f"put {name}\n" for name in names))
 
+    def test_gone_while_typed(self):
+        """What was typed into a pane that is told to be gone is nothing."""
+        panes = self.begin()
+        pane = self.keeper.panes[1]
+        pane.is_settling = True
+        panes[0].send(b"typed")
+        self.server.send(b"1 gone\nfocus 2\n")
+        pane.hear()
+        self.assertEqual((list(self.keeper.panes), pane.terminal, [name for name in self.keeper.loop.due if "1" in name]), ([2], None, []))
+
     def test_focus_reported(self):
         """A program that asked for it is told once that the focus comes and goes; what stands beside panes is no pane."""
         panes = self.begin("modes 1 4 focus", "modes 2 5 focus sgr paste drags other", "title 1 4 6162", "shape 1 4 5", "bell 1 4")

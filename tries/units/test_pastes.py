@@ -7,7 +7,7 @@ from roam_live import pastes
 from roam_live.following import PAUSES
 from roam_live.keys import BRACKETS
 from roam_live.pastes import DROPPED, ENDS, HANDING, LOST, MOST_BEHIND, NOT_TAKEN, SHORT, TOO_LONG, Pastes
-from roam_live.shells_link import UNTOLD, ShellsLink
+from roam_live.shells_link import MOST_GIVING, UNTOLD, ShellsLink
 from roam_live.texts import MOST_BYTES, mark_acts
 from test_display import Person, PlayedPanes, StartLink, places
 from test_shells_socket import Sockets
@@ -27,7 +27,7 @@ class Shells:
     """What the keeper is asked for, and what it tells is told by hand."""
 
     def __init__(self):
-        self.takes, self.gave, self.cancelled, self.answers = True, {}, [], None
+        self.takes, self.gave, self.cancelled, self.answers, self.room = True, {}, [], None, None
 
     def takes_texts(self):
         """Whether it takes texts."""
@@ -36,6 +36,10 @@ class Shells:
     def give(self, name, data):
         """Keeps what is given."""
         self.gave[name] = data
+
+    def has_room(self, length):
+        """Whether so many bytes more may wait."""
+        return self.room is None or length <= self.room
 
     def cancel(self, name):
         """Keeps what isn't given any more."""
@@ -48,7 +52,8 @@ class Handed(Case):
     def setUp(self):
         self.loop, self.link, self.shells, self.said = StillLoop(lambda: self.now), Line(), Shells(), []
         self.panes = PlayedPanes(mock.Mock(told=None))
-        self.pastes = Pastes(self.link, self.panes, self.shells, self.loop, self.said.append)
+        self.why = ""
+        self.pastes = Pastes(self.link, self.panes, self.shells, self.loop, lambda: self.why, self.said.append)
         self.names = iter(f"{number:016x}" for number in range(1, 1000))
         self.patch_of(pastes, "random_name", side_effect=lambda: next(self.names))
 
@@ -151,7 +156,7 @@ class Handed(Case):
         """Where no keeper takes texts a long one goes as acts too."""
         self.panes.brackets, self.shells.takes = True, False
         self.paste(LONG)
-        alone = Pastes(self.link, self.panes, None, self.loop, self.said.append)
+        alone = Pastes(self.link, self.panes, None, self.loop, lambda: "", self.said.append)
         alone.begin()
         alone.add(LONG)
         alone.end()
@@ -164,10 +169,13 @@ class Handed(Case):
         self.pastes.add(LONG)
         self.assertEqual(self.pastes.pieces, [])
         self.pastes.end()
-        self.pastes.begin()
-        self.pastes.add(LONG)
-        self.pastes.end("not now")
-        self.assertEqual((self.said, self.link.lines, self.shells.gave), (["not here", "not now"], [], {}))
+        for before, behind in (("not now", ""), ("", "not then")):
+            self.why = before
+            self.pastes.begin()
+            self.pastes.add(LONG)
+            self.why = behind
+            self.pastes.end()
+        self.assertEqual((self.said, self.link.lines, self.shells.gave), (["not here", "not now", "not then"], [], {}))
 
     def test_unended(self):
         """One of which nothing more comes for five seconds is typed; what comes later is a paste of its own."""
@@ -189,6 +197,10 @@ class Handed(Case):
             self.pastes.add(text)
             self.pastes.end()
         self.assertEqual((self.said, len(self.shells.gave), self.pastes.size), ([TOO_LONG] * 3, 1, 0))
+        self.shells.room = len(LONG)
+        self.paste(LONG)
+        self.paste(LONG + "x")
+        self.assertEqual((self.said[3:], len(self.shells.gave)), ([TOO_LONG], 2))
 
     def test_full(self):
         """So much may be typed behind one before no more is read."""
@@ -294,6 +306,8 @@ class Given(Sockets):
         self.assertEqual(self.made_link.waiting, f"give {self.names[0]} 3\none".encode())
         self.made_link.cancel(self.names[0])
         self.made_link.cancel(self.names[0])
+        room = MOST_GIVING - len(self.made_link.waiting)
+        self.assertEqual([self.made_link.has_room(length) for length in (room + 1, room)], [False, True])
         self.turn()
         self.assertEqual((self.told, list(self.socket.texts.texts)), ([], [self.names[0]]))
 

@@ -96,6 +96,8 @@ class Told(Sockets):
         self.assertEqual(len(self.socket.peers), 1)
         self.say(one, b"x")
         self.assertEqual((one.recv(1), self.socket.peers), (b"", []))
+        self.connect(b"who\n" + b"x" * LONGEST_LINE + b"\nwho\n")
+        self.assertEqual(self.socket.peers, [])
 
 
 class Commands(Sockets):
