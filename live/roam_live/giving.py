@@ -9,9 +9,10 @@ from roam_live.links import opened
 from roam_live.loops import READ, WRITE, ready
 from roam_live.program import Fault, Lines, connected_in, read, write
 from roam_live.sending import lines_in_pane, type_lines
-from roam_live.shells_link import ANSWER
+from roam_live.shells_link import HELD, PUT, REFUSED
 from roam_live.targets import pane_places, wants_brackets
 from roam_live.texts import MOST_BYTES, cleaned, mark_acts, random_name, without_brackets
+from roam_live.words import printable
 
 TYPE_CHECKING = False
 if TYPE_CHECKING:
@@ -47,17 +48,19 @@ class TextGiver:
             piece = read(self.fileno()) if events & READ else None
             if piece == b"":
                 return False
-            for found in filter(None, map(ANSWER.fullmatch, self.lines.fed(piece or b""))):
-                if found[1] == "refused":
-                    raise Fault(f"session {self.session.name}: {found[3]}. Nothing was typed")
-                if found[2] == self.name:
-                    return found[1] == word
+            for line in self.lines.fed(piece or b""):
+                told, _, rest = line.partition(" ")
+                name, _, more = rest.partition(" ")
+                if name == self.name and told == REFUSED:
+                    raise Fault(f"session {self.session.name}: {printable(more)}. Nothing was typed")
+                if name == self.name:
+                    return told == word
         raise Fault(f"session {self.session.name}: what keeps its shells doesn't take the text")
 
     def is_held(self, data: bytes, is_plain: bool) -> bool:
         """Gives a text, and tells whether the keeper holds it; False where none is there that takes any."""
         self.waiting += f"give {self.name} {len(data)}{' plain' if is_plain else ''}\n".encode() + data
-        return self.answer("held")
+        return self.answer(HELD)
 
 
 def given(session: FolderSession, data: bytes, is_plain: bool) -> TextGiver | None:
@@ -84,7 +87,7 @@ def type_text(session: FolderSession, text: str, pane: int, is_plain: bool) -> i
     giver = given(session, data, is_plain)
     acts = mark_acts(giver.name) if giver else pasted_acts(text, not is_plain and wants_brackets(session, pane))
     type_lines(session, opened(session, False), lines_in_pane(acts, pane, focus, "paste ; "))
-    if giver and not giver.answer("put"):
+    if giver and not giver.answer(PUT):
         raise Fault(f"session {session.name}: what keeps its shells ended, and nothing was typed")
     return 0
 

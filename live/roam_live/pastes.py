@@ -6,7 +6,7 @@ from collections.abc import Callable
 
 from roam_live.keys import pasted_acts
 from roam_live.loops import Loop
-from roam_live.shells_link import UNTOLD
+from roam_live.shells_link import HELD, LOST, REFUSED, UNTOLD
 from roam_live.texts import MOST_BYTES, cleaned, mark_acts, random_name
 
 TYPE_CHECKING = False
@@ -30,7 +30,7 @@ INTERRUPT = "char 3"
 
 NOT_TAKEN = "nothing is pasted: what keeps the shells takes nothing"
 DROPPED = "what was pasted and still waited is dropped"
-LOST = "what was pasted last is lost: what keeps the shells ended, or had it for too long"
+LOST_WORDS = "what was pasted last is lost: what keeps the shells ended, or had it for too long"
 TOO_LONG = f"nothing is pasted: it has more than {MOST_BYTES >> 20} MB, or waits behind others that have"
 
 
@@ -116,18 +116,18 @@ class Pastes:
     def answered(self, name: str, word: str, more: str) -> None:
         """Takes what the keeper tells of a text."""
         paste = next((one for one in self.waiting if isinstance(one, Paste) and one.name == name), None)
-        if word == "lost":
-            self.tells(LOST)
+        if word == LOST:
+            self.tells(LOST_WORDS)
         if not paste:
             return
-        if word == "held":
+        if word == HELD:
             paste.is_held = True
         elif word == UNTOLD:
             place = self.waiting.index(paste)
             self.waiting[place] = Behind(tuple(pasted_acts(paste.text, paste.is_bracketed)), True)
         else:
             self.waiting.remove(paste)
-            if word == "refused":
+            if word == REFUSED:
                 self.tells(f"nothing is pasted: {more}")
         self.loop.drop(f"hand {name}")
         self.type_waiting()

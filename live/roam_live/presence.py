@@ -2,18 +2,18 @@
 from __future__ import annotations
 
 import os
-import re
 from collections import namedtuple
 
-# How a terminal is told: its name, its rows and columns, and whether it edits or watches.
-FORM = r"(?P<name>[!-~]{1,64}) (?P<rows>[1-9]\d{0,4}) (?P<cols>[1-9]\d{0,4}) (?P<kind>edits|watches)"
-
-# The line by which one says that it is there, or that its size is another; and that by which it asks to be told of the others.
-HERE = re.compile(rf"here {FORM}", re.ASCII)
-WHO = "who"
+# The word by which a terminal says that it is there, or that its size is another; and that by which it asks to be told of the others.
+HERE, WHO = "here", "who"
 
 # What is told then: that another is there, or has another size, that it has left, and, behind these, how many others there are.
-TOLD = re.compile(rf"there (?P<number>[1-9]\d{{0,9}}) {FORM}|gone (?P<gone>[1-9]\d{{0,9}})|others (?P<count>\d{{1,2}})", re.ASCII)
+THERE, GONE, OTHERS = "there", "gone", "others"
+
+# The longest name of a terminal, what one does, and the highest numbers of its rows and columns, and of terminals.
+LONGEST_NAME = 64
+KINDS = ("edits", "watches")
+MOST_SIZE, MOST_NUMBER = 99999, 9999999999
 
 # So many others are told of at most; they may be told from another machine.
 MOST_OTHERS = 64
@@ -31,15 +31,24 @@ class Presence(namedtuple("Presence", "name rows cols kind")):
         return f"{self.name} {self.rows} {self.cols} {self.kind}"
 
 
-def presence_in(found: re.Match[str]) -> Presence:
-    """The terminal that a line tells."""
-    return Presence(found["name"], int(found["rows"]), int(found["cols"]), found["kind"])
+def number_in(word: str, most: int) -> int:
+    """The number of a word, from 1 to the most, without a zero before it; else 0."""
+    is_one = word.isascii() and word.isdigit() and word[0] != "0" and len(word) <= len(str(most))
+    return int(word) if is_one and int(word) <= most else 0
+
+
+def presence_in(words: list[str]) -> Presence | None:
+    """The terminal that four words tell; None where they don't."""
+    if len(words) != 4 or words[3] not in KINDS or not 0 < len(words[0]) <= LONGEST_NAME or not all("!" <= one <= "~" for one in words[0]):
+        return None
+    rows, cols = (number_in(word, MOST_SIZE) for word in words[1:3])
+    return Presence(words[0], rows, cols, words[3]) if rows and cols else None
 
 
 def presence_said(line: str) -> Presence | None:
     """The terminal that says by a line that it is there; None where that isn't such a line."""
-    found = HERE.fullmatch(line)
-    return presence_in(found) if found else None
+    word, *words = line.split(" ")
+    return presence_in(words) if word == HERE else None
 
 
 def terminal_name() -> str:
@@ -62,15 +71,18 @@ class ToldOthers:
 
     def take(self, line: str) -> bool:
         """Takes a line, and tells whether it can be one of these."""
-        found = TOLD.fullmatch(line)
-        if not found:
+        word, *words = line.split(" ")
+        number = number_in(words[0], MOST_NUMBER) if words else 0
+        presence = presence_in(words[1:])
+        if word == THERE and number and presence:
+            if len(self.there) < MOST_OTHERS or number in self.there:
+                self.there[number] = presence
+        elif word == GONE and number and len(words) == 1:
+            self.there.pop(number, None)
+        elif word == OTHERS and (words == ["0"] or 0 < number <= MOST_OTHERS) and len(words) == 1:
+            self.is_whole = number == len(self.there)
+        else:
             return False
-        if found["gone"]:
-            self.there.pop(int(found["gone"]), None)
-        elif found["count"]:
-            self.is_whole = int(found["count"]) == len(self.there)
-        elif len(self.there) < MOST_OTHERS or int(found["number"]) in self.there:
-            self.there[int(found["number"])] = presence_in(found)
         return True
 
     def has_typing(self) -> bool | None:

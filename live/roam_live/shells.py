@@ -10,7 +10,7 @@ from collections.abc import Callable
 from roam_live.given import KEPT, LOST, GivenText, GivenTexts
 from roam_live.listeners import Listener
 from roam_live.loops import Loop
-from roam_live.presence import WHO, Presence, presence_said
+from roam_live.presence import GONE, OTHERS, THERE, WHO, Presence, presence_said
 from roam_live.program import Fault, read, reason, say, write
 from roam_live.texts import random_name
 
@@ -78,9 +78,9 @@ class ShellsPeer:
     def news(self, others: dict[int, Presence]) -> list[str]:
         """The lines that tell it of the others, where it wasn't told so yet."""
         told, self.told = self.told, others
-        lines = [f"gone {number}" for number in told or () if number not in others]
-        lines += [f"there {number} {one}" for number, one in others.items() if (told or {}).get(number) != one]
-        return [*lines, f"others {len(others)}"] if lines or told is None else []
+        lines = [f"{GONE} {number}" for number in told or () if number not in others]
+        lines += [f"{THERE} {number} {one}" for number, one in others.items() if (told or {}).get(number) != one]
+        return [*lines, f"{OTHERS} {len(others)}"] if lines or told is None else []
 
 
 class ShellsSocket:

@@ -2,13 +2,12 @@
 from __future__ import annotations
 
 import os
-import re
 import socket
 from collections.abc import Callable
 
 from roam_live.following import Following
 from roam_live.loops import Loop
-from roam_live.presence import WHO, Presence, ToldOthers, terminal_name
+from roam_live.presence import HERE, WHO, Presence, ToldOthers, terminal_name
 from roam_live.program import connected_now
 from roam_live.texts import MOST_BYTES
 
@@ -16,11 +15,9 @@ TYPE_CHECKING = False
 if TYPE_CHECKING:
     from roam_live.terminal import Size
 
-# What a keeper tells of a text that it was given.
-ANSWER = re.compile(r"(held|put|lost|refused) ([0-9a-f]{16})(?: ([ -~]{1,200}))?", re.ASCII)
-
-# By what another keeper is known.
-KEEPER = re.compile(r"keeper ([0-9a-f]{16})", re.ASCII)
+# What a keeper tells of a text that it was given, in words behind the text's name where it refuses it; and by what another is known.
+HELD, PUT, LOST, REFUSED = ANSWERS = ("held", "put", "lost", "refused")
+KEEPER = "keeper"
 
 # What is told here of one where no keeper is there that takes any.
 UNTOLD = "untold"
@@ -67,7 +64,7 @@ class ShellsLink(Following):
 
     def say_here(self) -> None:
         """Says that this terminal is there, where that, or its size, wasn't said."""
-        line = f"here {Presence(self.name, *self.size(), self.kind)}"
+        line = f"{HERE} {Presence(self.name, *self.size(), self.kind)}"
         if line != self.said:
             self.said = line
             self.ask(line)
@@ -75,11 +72,12 @@ class ShellsLink(Following):
     def take(self, lines: list[str]) -> None:
         """Takes what was told."""
         for line in lines:
-            answer, keeper = ANSWER.fullmatch(line), KEEPER.fullmatch(line)
-            if answer:
-                self.answered(answer[2], answer[1], answer[3] or "")
-            elif keeper:
-                self.meet(keeper[1])
+            word, _, rest = line.partition(" ")
+            if word in ANSWERS:
+                name, _, more = rest.partition(" ")
+                self.answered(name, word, more)
+            elif word == KEEPER:
+                self.meet(rest)
             else:
                 self.others.take(line)
         if self.others.is_whole:
@@ -100,7 +98,7 @@ class ShellsLink(Following):
         is_other = self.keeper not in ("", name)
         self.keeper, self.is_there = name, True
         if is_other:
-            self.lose("lost")
+            self.lose(LOST)
         for text, data in self.giving.items():
             self.ask_to_take(text, data)
         for text in self.given:
@@ -144,7 +142,7 @@ class ShellsLink(Following):
             return
         if self.giving.pop(name, None) is None:
             del self.given[name]
-        if word == "held":
+        if word == HELD:
             self.given[name] = None
         self.answers(name, word, more)
 

@@ -6,7 +6,7 @@ from aids import Case, StillLoop
 from roam_live import pastes
 from roam_live.following import PAUSES
 from roam_live.keys import BRACKETS
-from roam_live.pastes import DROPPED, ENDS, HANDING, LOST, MOST_BEHIND, NOT_TAKEN, SHORT, TOO_LONG, Pastes
+from roam_live.pastes import DROPPED, ENDS, HANDING, LOST_WORDS, MOST_BEHIND, NOT_TAKEN, SHORT, TOO_LONG, Pastes
 from roam_live.shells_link import MOST_GIVING, UNTOLD, ShellsLink
 from roam_live.texts import MOST_BYTES, mark_acts
 from test_display import Person, PlayedPanes, StartLink, places
@@ -111,14 +111,14 @@ class Handed(Case):
         self.tell(1, "put")
         self.assertEqual(self.said, [])
         self.tell(2, "lost")
-        self.assertEqual(self.said, [LOST])
+        self.assertEqual(self.said, [LOST_WORDS])
 
     def test_lost_before_held(self):
         """One that is lost before it is held is told of, and nothing is typed of it."""
         self.paste(LONG)
         self.pastes.type("char 61")
         self.tell(1, "lost")
-        self.assertEqual((self.link.lines, self.said, self.loop.due), (["char 61"], [LOST], {}))
+        self.assertEqual((self.link.lines, self.said, self.loop.due), (["char 61"], [LOST_WORDS], {}))
 
     def test_refused(self):
         """What is refused is told in words, and what was typed behind it goes."""
