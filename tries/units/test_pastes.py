@@ -8,7 +8,7 @@ from roam_live.following import PAUSES
 from roam_live.keys import BRACKETS
 from roam_live.pastes import DROPPED, ENDS, HANDING, LOST_WORDS, MOST_BEHIND, NOT_TAKEN, SHORT, TOO_LONG, Pastes
 from roam_live.shells_link import MOST_GIVING, UNTOLD, ShellsLink
-from roam_live.texts import MOST_BYTES, mark_acts
+from roam_live.texts import mark_acts
 from test_display import Person, PlayedPanes, StartLink, places
 from test_shells_socket import Sockets
 
@@ -190,7 +190,9 @@ class Handed(Case):
 
     def test_too_long(self):
         """More than 16 MB is told of, and not kept; so is what is that long in UTF-8, or with what waits."""
-        for text, before in (("x" * (MOST_BYTES + 1), 0), ("\u4e2d" * (MOST_BYTES // 2), 0), ("x" * (MOST_BYTES - 9), 1)):
+        self.assertEqual((pastes.MOST_BYTES, MOST_GIVING), (1 << 24, 1 << 25))
+        self.patch_of(pastes, "MOST_BYTES", 1000)
+        for text, before in (("x" * 1001, 0), ("\u4e2d" * 500, 0), ("x" * 990, 1)):
             if before:
                 self.paste(LONG)
             self.pastes.begin()
