@@ -4,7 +4,7 @@ import subprocess
 import unittest
 from unittest import mock
 
-from aids import Case, StillLoop, read_now
+from aids import Case, read_now
 from roam_live import captures, giving, sending, targets
 from roam_live.cells import cells_of, part_of, sgr_of
 from roam_live.given import PUT
