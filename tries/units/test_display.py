@@ -85,7 +85,7 @@ class PlayedPanes:
     """What is told of a session's panes."""
 
     awaited = full = brackets = False
-    modes = True
+    knows = True
     aside = ("", 0)
 
     def __init__(self, place):
@@ -110,7 +110,7 @@ class PlayedPanes:
 
     def knows_modes(self):
         """Whether it is told which modes programs have set."""
-        return self.modes
+        return self.knows
 
     def wants_brackets(self):
         """Whether the program in focus wants what is pasted between brackets."""

@@ -86,7 +86,7 @@ class Handed(Case):
 
     def test_modes_unknown(self):
         """Where it isn't told here whether the program wants brackets, as of another machine's, a short one is handed over too."""
-        self.panes.modes = False
+        self.panes.knows = False
         self.paste("ab")
         self.assertEqual((self.link.lines, list(self.shells.gave.values())), ([], [b"ab"]))
         self.shells.takes = False
