@@ -8,6 +8,7 @@ from unittest import mock
 from aids import Case, StillLoop, read_now
 from roam_live import given, texts, typed
 from roam_live.given import HELD, KEPT, LOST, MOST_SPENT, MOST_TEXTS, PUT, TOO_LONG, TOO_MANY, GivenText, GivenTexts
+from roam_live.shells import LONGEST_LINE
 from roam_live.texts import CLOSES, MOST_BYTES, OPENS, cleaned, mark_acts, random_name, without_brackets
 from roam_live.typed import Marks, TypedQueue
 from test_shells_socket import NAMED, Sockets
@@ -337,6 +338,25 @@ class Given(Sockets):
         self.connect(f"give {NAME} 100\n".encode()).close()
         self.loop.turns(2)
         self.assertEqual((self.socket.texts.coming, self.loop.due), (0, {}))
+
+    def test_chance(self):
+        """Whatever comes, in whatever pieces, is taken or told to be no line, or its sender let go; nothing is kept without bound."""
+        chance = random.Random(11)
+        words = (b"give ", NAME.encode(), b" 7", b" 700", b" plain", b"\n", b"\n", b"who", b"here a 1 2 edits", b"ask ", b"commands",
+                 b"\xff\x00\x1b", b"x" * 300)
+        one = self.connect()
+        for _ in range(3000):
+            if not self.socket.peers:
+                one = self.connect()
+            one.send(b"".join(chance.choice(words) for _ in range(chance.randint(1, 6))))
+            self.loop.turn()
+            read_now(one)
+            self.now += chance.random()
+            self.assertLessEqual(sum(len(peer.came) for peer in self.socket.peers), LONGEST_LINE)
+            self.assertLessEqual(len(self.socket.texts.texts), 1)
+        one.close()
+        self.loop.turns(3)
+        self.assertEqual((self.socket.peers, self.socket.texts.coming), ([], 0))
 
     def test_names(self):
         """Of 64 texts at most one is told what becomes of them."""
