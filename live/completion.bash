@@ -6,7 +6,7 @@ _roam_mux_names() {
     "$@" ls 2> /dev/null | while read -r name _; do echo "$name"; done
 }
 
-_roam_mux_words="attach new ls list watch kill send capture ssh help --help --version"
+_roam_mux_words="attach new ls list watch kill send paste capture ssh help --help --version"
 
 # The acts that a client types, a line each; a number, a size or a character is left to the person.
 _roam_acts() {
@@ -37,17 +37,24 @@ _roam_mux() {
     local word=${COMP_WORDS[COMP_CWORD]} words= mux=("${COMP_WORDS[0]}") first=1
     [ "${COMP_WORDS[1]}" != mux ] || { mux+=(mux) first=2; }
     if [ "${COMP_WORDS[first]}" = send ] && [ "$COMP_CWORD" -gt "$((first + 1))" ]; then
-        _roam_act "$word"
+        # Behind -l stand a text and a session.
+        if [ "${COMP_WORDS[first + 1]}" != -l ]; then
+            _roam_act "$word"
+        elif [ "$COMP_CWORD" -eq "$((first + 3))" ]; then
+            mapfile -t COMPREPLY < <(compgen -W "$(_roam_mux_names "${mux[@]}")" -- "$word")
+        fi
         return
     fi
     case ${COMP_WORDS[COMP_CWORD - 1]} in
     ssh) mapfile -t COMPREPLY < <(compgen -A hostname -W "--ssh --far --guess --help" -- "$word") && return ;;
     mux | roam-mux | */mux | */roam-mux) words="$_roam_mux_words $(_roam_mux_names "${mux[@]}")" ;;
     attach) words="--guess --help $(_roam_mux_names "${mux[@]}")" ;;
-    watch | send) words="--help $(_roam_mux_names "${mux[@]}")" ;;
+    watch) words="--help $(_roam_mux_names "${mux[@]}")" ;;
+    send) words="-l --help $(_roam_mux_names "${mux[@]}")" ;;
+    paste) words="--raw --help $(_roam_mux_names "${mux[@]}")" ;;
     kill) words="-f --help $(_roam_mux_names "${mux[@]}")" ;;
     capture) words="--svg --help $(_roam_mux_names "${mux[@]}")" ;;
-    --svg | -f) words=$(_roam_mux_names "${mux[@]}") ;;
+    --svg | --raw | -f) words=$(_roam_mux_names "${mux[@]}") ;;
     new) words="-d --guess --help" ;;
     --guess) words="adaptive always never" ;;
     help) words=$_roam_mux_words ;;

@@ -75,8 +75,8 @@ class Typing:
         self.mode = self.answering
 
     def answering(self, key: Key, now: float, rows: int) -> Asked:
-        """The answer to what was asked: y, or any other key."""
-        self.mode = self.plain
+        """The answer to what was asked: y, or any other key; a paste is none, and nothing else."""
+        self.mode = self.pasting if key.name == "paste" else self.plain
         return [], "yes" if key.name in ("y", "Y") else "no"
 
     def left(self) -> list[str]:
@@ -89,8 +89,8 @@ class Typing:
 
     def plain(self, key: Key, now: float, rows: int) -> Asked:
         """A key that is typed, but for the prefix."""
-        if key.name == "paste":
-            self.mode = self.pasting
+        if key.name in ("paste", "pasted"):
+            self.mode = self.pasting if key.name == "paste" else self.plain
             return [], ""
         if key.name == self.prefix:
             self.mode = self.prefixed
@@ -100,15 +100,16 @@ class Typing:
         return acts_of(key), ""
 
     def pasting(self, key: Key, now: float, rows: int) -> Asked:
-        """What is pasted is typed as it is."""
+        """What is pasted means nothing else, and is kept until its end."""
         if key.name == "pasted":
             self.mode = self.plain
-            return [], ""
-        return acts_of(key), ""
+        return [], ""
 
     def prefixed(self, key: Key, now: float, rows: int) -> Asked:
         """A key after the prefix; one that has no meaning there is told of."""
         self.mode = self.plain
+        if key.name == "paste":
+            return self.plain(key, now, rows)
         if key.name == self.prefix:
             return acts_of(key), ""
         if key.name in GROWTH:

@@ -7,11 +7,13 @@ import time
 
 from roam_live.links import SILENT, opened
 from roam_live.program import TOOLS, Fault
+from roam_live.targets import pane_places
 from roam_live.told import NoRecord, screen_of
 
 TYPE_CHECKING = False
 if TYPE_CHECKING:
     from roam_live.links import StartLink
+    from roam_live.places import Rect
     from roam_live.sessions import FolderSession
 
 # So many seconds a screen is waited for, and so many pass until one is asked for again that the start hasn't heard of yet.
@@ -55,10 +57,23 @@ def asked_screen(link: StartLink, asks: str) -> bytes:
         link.close()
 
 
-def capture(session: FolderSession, is_drawn: bool) -> int:
-    """Prints what a session shows, or a picture of it, and tells the status."""
+def capture(session: FolderSession, is_drawn: bool, pane: int = 0) -> int:
+    """Prints what a session shows, or a pane of it, or a picture of that, and tells the status."""
+    rect = pane_places(session, pane).rects[pane] if pane else None
     data = asked_screen(opened(session, True), "look sgr" if is_drawn else "look")
+    if rect:
+        data = pane_of(data, rect, pane)
     if is_drawn:
         return subprocess.run([str(TOOLS / "picture")], input=data, check=False).returncode
     sys.stdout.buffer.write("".join(f"{row}\n" for row in screen_of(data).text()).encode("utf-8", "replace"))
     return 0
+
+
+def pane_of(data: bytes, rect: Rect, pane: int) -> bytes:
+    """The part of a screen in which a pane stands: it may have another size by now than was told."""
+    from roam_live.cells import part_of
+
+    screen = screen_of(data)
+    if rect.row + rect.rows > screen.rows or rect.col + rect.cols - 1 > screen.cols:
+        raise Fault(f"pane {pane} has just got another place")
+    return part_of(data, rect)

@@ -6,6 +6,10 @@ from typing import NamedTuple, Optional, Union
 
 from roam_live.told import NoRecord, screen_of
 
+TYPE_CHECKING = False
+if TYPE_CHECKING:
+    from roam_live.places import Rect
+
 FLAGS = {1: "bold", 2: "faint", 3: "italic", 4: "underline", 5: "blink", 7: "reverse", 8: "conceal", 9: "strike"}
 
 
@@ -60,6 +64,28 @@ def parted(text: str, style: Style) -> tuple[str, Style]:
             raise NoRecord("a style that is none")
         style = styled(style, [int(word or 0) for word in words])
     return text, style
+
+
+def sgr_of(text: str) -> str:
+    """The SGR that stands before what stands in a cell."""
+    found = ""
+    while text.startswith("\x1b["):
+        numbers, final, text = text.partition("m")
+        found += numbers + final
+    return found
+
+
+def part_of(data: bytes, rect: Rect) -> bytes:
+    """A part of a screen as a record tells it: its first cells have the style that was set before them."""
+    screen = screen_of(data)
+    row, col = screen.cursor[0] - rect.row + 1, screen.cursor[1] - rect.col + 1
+    is_visible = screen.visible and 1 <= row <= rect.rows and 1 <= col <= rect.cols
+    place = f"{row} {col} visible" if is_visible else "1 1 hidden"
+    lines = [f"{rect.rows} {rect.cols} {place}"]
+    for cells in screen.cells[rect.row - 1 : rect.row - 1 + rect.rows]:
+        before = "".join(map(sgr_of, cells[: rect.col - 1]))
+        lines.append(before + "\x1f".join(cells[rect.col - 1 : rect.col - 1 + rect.cols]))
+    return "".join(f"{line}\n" for line in lines).encode()
 
 
 def styled(style: Style, numbers: Iterable[int]) -> Style:

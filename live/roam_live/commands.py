@@ -9,23 +9,23 @@ from collections.abc import Callable
 from roam_live import terminal
 from roam_live.bindings import NEWEST, Typing, help_with, spelled
 from roam_live.display import NO_SIZE, Display
-from roam_live.keys import BRACKETS, Key, Keys, bracketed_acts
+from roam_live.keys import Key, Keys
 from roam_live.links import StartLink
 from roam_live.loops import Loop
+from roam_live.pastes import Pastes
 from roam_live.program import has_others
 from roam_live.programs import told
 from roam_live.following import PanesFollower
-from roam_live.places import BESIDE, Places
+from roam_live.places import BESIDE, MOVES, Places
 
 TYPE_CHECKING = False
 if TYPE_CHECKING:
     from roam_live.any_session import AnySession
+    from roam_live.bindings import Mode
+    from roam_live.shells_link import ShellsLink
 
 # An escape that nothing follows for so many seconds is the key.
 ESCAPE_WAIT = 0.025
-
-# Acts after which another pane may be in focus.
-MOVES = ("focus", "next", "split", "close")
 
 # The wishes that are granted while something stands in the session's place. Nothing is typed then, since nobody would see where it goes.
 UNDER_COVER = ("detach", "suspend", "repaint", "help", "no", "scrolled")
@@ -39,6 +39,10 @@ FITS_AGAIN = 0.3
 # A session that hasn't a size that it was given so many seconds ago, and took, has no room for its panes in that.
 REFUSES = 2.5
 
+# So many seconds a line stands that tells what became of a paste, and what is told of one with which a question was answered.
+PASTE_TOLD = 3.0
+NO_ANSWER = "nothing is pasted: a question was there"
+
 # For so many seconds a session is new, and goes by its terminal's size, whatever that is: a window may get its size once it is there.
 NEW = 2.0
 
@@ -48,8 +52,9 @@ class Commands:
 
     def __init__(self, session: AnySession, panes: PanesFollower, link: StartLink, display: Display, loop: Loop,
                  leave: Callable[[str | None], None], is_new: Callable[[Places | None], bool] = lambda places: False,
-                 is_whole: bool = False) -> None:
+                 is_whole: bool = False, shells: ShellsLink | None = None) -> None:
         self.session, self.panes, self.link, self.display, self.loop, self.leave = session, panes, link, display, loop, leave
+        self.shells = shells
         # Whether the session is shown whole where it has room, with its own status row.
         self.is_whole = is_whole
         self.keys = Keys()
@@ -62,9 +67,8 @@ class Commands:
         # The size that the session was given last, while it may still get it; and whether this terminal showed all of it before it had
         # another size itself.
         self.given: terminal.Size | None = None
-        # Whether what is pasted now stands between brackets, and its last letter.
-        self.is_bracketed, self.pasted = False, ""
         self.showed_all = False
+        self.pastes = Pastes(link, panes, shells, loop, self.unpasted, lambda line: display.tell(line, PASTE_TOLD))
         # The session's size and the labels of its panes, as they were told last.
         self.known: tuple[terminal.Size, str] = (NO_SIZE, "")
         # Where a command of this person moved the focus, since it was told: to a pane, or to one that isn't known, 0; and what was told
@@ -97,36 +101,40 @@ class Commands:
 
     def take(self, key: Key) -> None:
         """Takes a key. Under a cover nothing is typed; the prefix means there what it always does."""
-        is_pasted = self.typing.mode == self.typing.pasting
+        before = self.typing.mode
         acts, wish = self.typing.asked(key, time.monotonic(), self.display.outer.size()[0])
-        ends_paste = is_pasted and self.is_bracketed and key.name == "pasted"
-        if is_pasted and self.is_bracketed and not ends_paste:
-            acts, self.pasted = bracketed_acts(key, self.pasted), key.text[-1:]
+        self.take_pasted(key, before)
         if self.paused:
-            is_pasted = self.typing.mode == self.typing.pasting
+            is_pasted = before == self.typing.pasting
             self.leave("[left]" if wish == "detach" or key.name in ("\x03", "q") and not is_pasted else None)
             return
         if self.display.cover:
             acts = [act for act in acts if act == NEWEST]
             wish = "no" if wish == "yes" else wish if wish in UNDER_COVER else ""
-        self.act(*acts, is_pasted=is_pasted)
-        if ends_paste:
-            self.act(*BRACKETS[1], is_pasted=True)
-        elif not is_pasted and self.typing.mode == self.typing.pasting:
-            self.begin_paste()
+        self.act(*acts)
         self.grant(wish, key)
 
-    def begin_paste(self) -> None:
-        """A paste begins: between brackets where the program in the pane in focus wants that, and something is typed at all."""
-        self.is_bracketed, self.pasted = self.panes.wants_brackets() and not self.display.cover, ""
-        if self.is_bracketed:
-            self.act(*BRACKETS[0], is_pasted=True)
+    def take_pasted(self, key: Key, before: Mode) -> None:
+        """Takes what a key is of a paste, where a person was as told before it."""
+        was_pasting, is_pasting = before == self.typing.pasting, self.typing.mode == self.typing.pasting
+        if was_pasting and is_pasting:
+            self.pastes.add(key.text)
+        elif was_pasting:
+            self.pastes.end()
+        elif is_pasting:
+            self.pastes.begin(NO_ANSWER if before == self.typing.answering else "")
 
-    def act(self, *acts: str, is_pasted: bool = False) -> None:
-        """Has acts typed, by who doesn't only watch; what was pasted is never guessed."""
+    def unpasted(self) -> str:
+        """Why nothing is pasted now; nothing where it is."""
+        if self.link.watches:
+            return "nothing is pasted: this terminal only watches"
+        return "nothing is pasted where the session isn't shown" if self.paused or self.display.cover else ""
+
+    def act(self, *acts: str) -> None:
+        """Has acts typed, by who doesn't only watch."""
         if self.link.watches:
             return
-        self.link.type(*acts, is_pasted=is_pasted)
+        self.pastes.type(*acts)
         for act in acts:
             word, _, pane = act.partition(" ")
             if word in MOVES:
@@ -261,26 +269,50 @@ class Commands:
 
     def resized(self) -> None:
         """Takes note of what was shown before the terminal had another size, the first of many where it is drawn by hand."""
-        if "size" not in self.loop.due:
+        if not self.loop.due.keys() & {"size", "others"}:
             self.showed_all = self.given is not None or self.display.shows_all()
 
+    def has_others(self) -> bool:
+        """Whether somebody else types, as the keeper of the shells tells it; else by the notes in the session's folder."""
+        told = self.shells.has_others() if self.shells else None
+        return has_others(self.session.folder) if told is None else told
+
     def is_alone(self) -> bool:
-        """Whether it is known that nobody else types: who is there isn't told of another machine's session, nor without a folder."""
-        return self.session.folder is not None and self.session.served == "server" and not has_others(self.session.folder)
+        """Whether it is known that nobody else types: where no keeper tells it, it isn't known of another machine's session, nor without a
+        folder."""
+        told = self.shells.has_others() if self.shells else None
+        if told is None:
+            return self.session.folder is not None and self.session.served == "server" and not has_others(self.session.folder)
+        return not told
 
     def fit(self) -> None:
-        """Has the session grow to this terminal's size, where nobody else types; a lone terminal that showed all of it is followed to any
-        size, and a new session goes by each. Nothing else makes one smaller."""
+        """Fits the session to this terminal, as far as that may be: a new session goes by each size. Who else is there has to be known for
+        the rest, and may be told soon."""
         size, own = self.given or self.session_size(), terminal.largest(self.display.outer.size())
-        is_followed, self.showed_all = self.showed_all, False
+        if self.shells:
+            self.shells.say_here()
         if self.is_fresh():
             self.ask_size()
-        elif self.link.watches or size in (NO_SIZE, own) or not terminal.is_large_enough(own):
-            return
-        elif own[0] < size[0] or own[1] < size[1]:
-            if is_followed and self.is_alone():
+        elif not (self.link.watches or size in (NO_SIZE, own) or not terminal.is_large_enough(own)):
+            if self.shells and self.shells.is_awaited():
+                self.loop.later("others", FITS_AGAIN, self.fit)
+                return
+            self.follow(size, own)
+        self.showed_all = False
+
+    def others_told(self) -> None:
+        """Does at once what waited until it is known who else is there."""
+        if "others" in self.loop.due:
+            self.loop.drop("others")
+            self.fit()
+
+    def follow(self, size: terminal.Size, own: terminal.Size) -> None:
+        """Has the session grow to this terminal's size, where nobody else types; a lone terminal that showed all of it is followed to any
+        size. Nothing else makes one smaller."""
+        if own[0] < size[0] or own[1] < size[1]:
+            if self.showed_all and self.is_alone():
                 self.ask_size()
-        elif has_others(self.session.folder):
+        elif self.has_others():
             self.display.tell(f"{size[0]} by {size[1]}, as another terminal has it; {self.prefix} r fits this one", FITS_TOLD)
         else:
             self.ask_size()

@@ -17,7 +17,7 @@ from roam_live.program import Fault, connected_now, noted_front_end, opened_proc
 from roam_live.relayed import ENDED, KILLED, LEAVES, WANTS, RelayStream, Waiting
 from roam_live.sealed import PORTS, udp_end
 from roam_live.sessions import FolderSession
-from roam_live.streams import CARRIES
+from roam_live.streams import CARRIES, SHELLS
 from roam_live.watches import ShellsWatch
 from roam_live.ways import Ways, finish
 
@@ -238,6 +238,14 @@ class Far:
             with contextlib.suppress(OSError):
                 self.client.unlink()
 
+    def count_callers(self) -> None:
+        """Is counted while somebody calls; who calls no more, as where the other machine sleeps, is not at the session."""
+        path = self.ways.path
+        is_called = self.has_command() or path is not None and not path.is_asleep()
+        if self.is_counted and not is_called and path and path.streams:
+            path.streams.end_named(SHELLS)
+        self.count_itself(is_called)
+
     # ---- the server
 
     def join(self, peer: int, end: socket.socket | Carrier) -> None:
@@ -268,7 +276,7 @@ class Far:
         self.renew()
         self.ways.fill(self.waiting, self.has_command())
         self.end_alone()
-        self.count_itself(self.has_command() or self.ways.path is not None and not self.ways.path.is_asleep())
+        self.count_callers()
         alone_at = self.alone_at()
         return min([*self.ways.moments(), *([alone_at] if alone_at < math.inf else [])], default=None)
 

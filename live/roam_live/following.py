@@ -42,8 +42,11 @@ STANDS = 1.0
 
 
 class Following:
-    """Follows a socket `panes`, which a call connects to: a call for the lines that came, and one where the connection is lost. It is had
-    again then after pauses, for as long as this is there."""
+    """Follows a socket, as `panes`, which a call connects to: a call for the lines that came, and one where the connection is lost. It is
+    had again then after pauses, for as long as this is there."""
+
+    # What the moment is called at which it is had again.
+    again = "follow panes"
 
     def __init__(self, connects: Callable[[], socket.socket], loop: Loop, hears: Callable[[list[str]], object],
                  loses: Callable[[], object]) -> None:
@@ -86,7 +89,7 @@ class Following:
             self.soon = self.soon + 1 if self.loop.clock() < self.since + SOUND else 1
         self.leave()
         self.why = why
-        self.loop.later("follow panes", PAUSES[min(self.pauses(), len(PAUSES) - 1)], self.connect)
+        self.loop.later(self.again, PAUSES[min(self.pauses(), len(PAUSES) - 1)], self.connect)
         self.faults += 1
         self.loses()
 
@@ -115,16 +118,20 @@ class AsideFollowing(Following):
     """Follows the panes, and what stands beside their terminals where the server is of this machine: an earlier one, or a relay, doesn't
     know the word."""
 
+    # Whether it was asked.
+    has_asked = False
+
     def begin(self, peer: socket.socket) -> None:
         """Follows a connection that is there."""
         super().begin(peer)
-        if runs_program(peer):
+        self.has_asked = runs_program(peer)
+        if self.has_asked:
             self.ask(ASIDE)
 
 
 class KeeperFollowing(Following):
-    """Follows the panes of a folder's server, of this machine, for what keeps their shells: it says so, and what is wrong is told in words,
-    once, and that it is over."""
+    """Follows the panes of a folder's server, of this machine, and what stands beside their terminals, for what keeps their shells: it says
+    so, and what is wrong is told in words, once, and that it is over."""
 
     def __init__(self, path: str, loop: Loop, hears: Callable[[list[str]], object], loses: Callable[[], object],
                  tells: Callable[[str], None] = say) -> None:
@@ -140,6 +147,7 @@ class KeeperFollowing(Following):
         super().begin(peer)
         if runs_program(peer):
             self.ask(KEEPER)
+            self.ask(ASIDE)
         self.loop.later("panes are quiet", QUIET, lambda: self.tell(TELLS_NOTHING))
 
     def heard(self, lines: list[str]) -> None:
@@ -192,6 +200,10 @@ class PanesFollower:
     def wants_brackets(self) -> bool:
         """Whether the program in the pane in focus is known to want what is pasted between brackets."""
         return self.places is not None and self.told.has_set(self.places.focus, BRACKETED)
+
+    def knows_modes(self) -> bool:
+        """Whether it is told here which modes the panes' programs have set."""
+        return self.places is not None and self.following.has_asked
 
     def is_full(self) -> bool:
         """Whether the server is known to have had as many starts as it ever has."""

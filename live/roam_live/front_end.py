@@ -10,9 +10,10 @@ from roam_live.bindings import NEWEST
 from roam_live.commands import Commands
 from roam_live.display import Display
 from roam_live.following import AWAITED, PanesFollower
-from roam_live.links import Keeper, StartLink
+from roam_live.links import LAST_WAIT, Keeper, StartLink
 from roam_live.loops import Loop
 from roam_live.program import noted_front_end, opened_process, read, woken, write
+from roam_live.shells_link import ShellsLink
 from roam_live.watches import ShellsWatch
 
 TYPE_CHECKING = False
@@ -44,6 +45,7 @@ class FrontEnd:
                  loop: Loop | None = None, is_whole: bool = False) -> None:
         self.session, self.loop = session, loop or Loop()
         self.left: str | None = None
+        self.left_at: float | None = None
         self.status = 0
         self.wakeup = woken(signal.SIGWINCH, signal.SIGCONT, signal.SIGTSTP, *LEAVING)
         served = session.process(session.served)
@@ -53,7 +55,8 @@ class FrontEnd:
         self.display = Display(self.loop, self.say)
         self.panes = PanesFollower(session.folder, self.loop, lambda: self.commands.told(), self.untold)
         self.keeper = Keeper(session, self.link, self.panes.is_full)
-        self.commands = Commands(session, self.panes, self.link, self.display, self.loop, self.leave, is_new, is_whole)
+        keeper = ShellsLink(session.folder, self.loop, self.display.outer.size, watches, lambda: self.commands.others_told())
+        self.commands = Commands(session, self.panes, self.link, self.display, self.loop, self.leave, is_new, is_whole, keeper)
         self.commands.choose(prefix)
         self.loop.later("untold", AWAITED, self.commands.show_known)
         self.bells = BellFollower(session.folder, self.loop, self.commands.ring, lambda words: self.display.tell(words, LOSS_TOLD))
@@ -65,7 +68,7 @@ class FrontEnd:
         if self.server is not None:
             self.loop.add(self.server, lambda: self.leave(*self.session.ending()))
         self.loop.add(self.wakeup, self.signalled)
-        self.loop.add(0, self.typed, hears=lambda: len(link.waiting) < TYPED_LIMIT)
+        self.loop.add(0, self.typed, hears=lambda: len(link.waiting) < TYPED_LIMIT and not self.commands.pastes.is_full())
         self.loop.add(outer.end, None, self.show, has_more=lambda: outer.waiting)
 
     def leave(self, line: str | None, status: int = 0) -> None:
@@ -209,6 +212,17 @@ class FrontEnd:
         if not write(outer.end, outer.waiting):
             self.leave("", 1)
 
+    def hands_over(self) -> bool:
+        """Whether a paste is still handed over where the person has left: that is waited for, as for what was typed last."""
+        if self.left_at is None:
+            self.left_at = self.loop.clock()
+            self.loop.later("left", LAST_WAIT, lambda: None)
+        return self.commands.pastes.hands_over() and self.loop.clock() < self.left_at + LAST_WAIT
+
+    def unpasted(self) -> str:
+        """What is said of a paste that couldn't be handed over any more."""
+        return " what was pasted last isn't typed" if self.commands.pastes.hands_over() else ""
+
     def run(self) -> int:
         """Follows the session until the person leaves or it ends, and tells the status."""
         try:
@@ -216,11 +230,11 @@ class FrontEnd:
             self.connect()
             if self.server is None:
                 self.loop.later("probe", PROBES, self.probe)
-            while self.left is None:
+            while self.left is None or self.hands_over():
                 self.turn()
         finally:
             self.commands.left()
-            self.display.outer.leave(self.left)
+            self.display.outer.leave(self.left and self.left + self.unpasted())
             if self.left is not None:
                 self.link.part()
             self.link.close()

@@ -30,9 +30,10 @@ SPELLINGS = {
     **{f"\x1b[[{letter}": name for letter, name in LINUX.items()},
     **{f"\x1b[1;5{letter}": name for letter, name in CONTROLLED.items()},
     **{f"\x1bO{letter.lower()}": name for letter, name in CONTROLLED.items()},
-    "\x1b[200~": "paste",
-    "\x1b[201~": "pasted",
 }
+# A paste begins and ends so; what stands between is one key of the name `text`, or several, as it comes.
+PASTE, PASTED = "\x1b[200~", "\x1b[201~"
+SPELLINGS.update({PASTE: "paste", PASTED: "pasted"})
 ACTS = {name for name in SPELLINGS.values() if not name.startswith("C-") and not name.startswith("paste")}
 TYPED = {"\r": "key return", "\x7f": "key backspace"}
 
@@ -47,18 +48,42 @@ class Keys:
     def __init__(self) -> None:
         self.decoder = codecs.getincrementaldecoder("utf-8")("replace")
         self.rest = ""
+        self.is_pasting = False
 
     def fed(self, piece: bytes) -> list[Key]:
         """The keys that are whole now. An escape that may begin more waits."""
-        text = self.rest + self.decoder.decode(piece)
+        text, self.rest = self.rest + self.decoder.decode(piece), ""
+        keys: list[Key] = []
+        while text:
+            found, text = self.pasted(text) if self.is_pasting else self.typed(text)
+            keys += found
+        return keys
+
+    def typed(self, text: str) -> tuple[list[Key], str]:
+        """The keys of a text up to the beginning of a paste, and what stands behind that."""
+        before, begins, rest = text.partition(PASTE)
+        if begins:
+            self.is_pasting = True
+            return [*keys_in(before), Key("paste", PASTE)], rest
         cut = text.rfind("\x1b", max(0, len(text) - 32))
         is_cut = cut >= 0 and BEGUN.fullmatch(text, cut) is not None
         self.rest = text[cut:] if is_cut else ""
-        return keys_in(text[:cut] if is_cut else text)
+        return keys_in(text[:cut] if is_cut else text), ""
+
+    def pasted(self, text: str) -> tuple[list[Key], str]:
+        """What of a text is pasted, as one key, the end of the paste, and what stands behind that."""
+        before, ends, rest = text.partition(PASTED)
+        if ends:
+            self.is_pasting = False
+        else:
+            begun = next((length for length in range(len(PASTED) - 1, 0, -1) if text.endswith(PASTED[:length])), 0)
+            self.rest = text[len(text) - begun :]
+            before = text[: len(text) - begun]
+        return [Key("text", before)] * bool(before) + [Key("pasted", PASTED)] * bool(ends), rest
 
     def waits(self) -> bool:
         """Whether an escape waits for more."""
-        return self.rest != ""
+        return self.rest != "" and not self.is_pasting
 
     def ended(self) -> list[Key]:
         """The keys of what waits, where no more came in time."""
@@ -79,23 +104,15 @@ def acts_of(key: Key) -> list[str]:
 
 
 # What stands round a paste, to a program that asked for it (xterm, bracketed paste).
-BRACKETS = tuple([f"char {ord(letter):x}" for letter in text] for text in ("\x1b[200~", "\x1b[201~"))
-
-# The control characters that aren't pasted between brackets.
-CONTROLS = {*range(0x20), *range(0x7F, 0xA0)} - {0x09}
+BRACKETS = tuple([f"char {ord(letter):x}" for letter in text] for text in (PASTE, PASTED))
 
 
-def bracketed_acts(key: Key, before: str) -> list[str]:
-    """The acts of a key of a paste between brackets, behind this letter: no control character is typed but TAB, and CR, LF and CR LF are
-    one return each. So what is pasted never ends its brackets."""
-    acts = []
-    for letter in key.text:
-        if letter in "\r\n":
-            acts += [] if letter == "\n" and before == "\r" else ["char d"]
-        elif ord(letter) not in CONTROLS:
-            acts.append(f"char {ord(letter):x}")
-        before = letter
-    return acts
+def pasted_acts(text: str, is_bracketed: bool) -> list[str]:
+    """The acts of a text that is pasted, between brackets where the program wants that. No control character is in it but TAB and CR, so it
+    never ends its brackets."""
+    if not is_bracketed:
+        return acts_of(Key("text", text))
+    return [*BRACKETS[0], *(f"char {ord(letter):x}" for letter in text), *BRACKETS[1]]
 
 
 def acts_of_bytes(text: bytes) -> list[str]:

@@ -11,6 +11,7 @@ from roam_live.listeners import Listener
 from roam_live.loops import Loop
 from roam_live.places import ToldPanes
 from roam_live.program import Fault, read, reason, say, write
+from roam_live.streams import SHELLS
 
 TYPE_CHECKING = False
 if TYPE_CHECKING:
@@ -26,7 +27,7 @@ MOST_FOLLOWERS = 64
 MOST_WAITING = 1 << 16
 
 PANES = "panes"
-CARRIED = ("bells", "shells")
+CARRIED = ("bells", SHELLS)
 
 
 class CarriedSocket:

@@ -11,6 +11,9 @@ from roam_live.program import Lines, connected_in, read
 
 BESIDE = {"left": (0, -1), "right": (0, 1), "up": (-1, 0), "down": (1, 0)}
 
+# Acts after which another pane may be in focus.
+MOVES = ("focus", "next", "split", "close")
+
 # A session has so many panes at most; one that is split has room for two and the border between.
 MOST_PANES = 9
 ROOM = {"right": (0, 9), "down": (5, 0)}
@@ -27,9 +30,11 @@ TOLD = re.compile(r"(?P<pane>[1-9])((?: \d{1,4}){4}) (?P<life>\d{1,19})|(?P<gone
                   r"|shape (?P<shaped>[1-9] \d{1,19}) (?P<shape>[0-6])|title (?P<titled>[1-9] \d{1,19}) (?P<title>(?:[0-9a-f]{2}){0,800})"
                   r"|bell [1-9] \d{1,19}", re.ASCII)
 
-# What a server is asked for by who goes by what stands beside the panes' terminals; that a program wants what is pasted between brackets.
+# What a server is asked for by who goes by what stands beside the panes' terminals; that a program wants what is pasted between brackets,
+# and reports of the focus.
 ASIDE = "beside"
 BRACKETED = "paste"
+FOCUS = "focus"
 
 # So many seconds a server has for what it is asked once, and what is told behind the focus for coming.
 ASKED = 1.0

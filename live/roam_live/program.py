@@ -456,9 +456,10 @@ def write(target: int, waiting: bytearray) -> bool:
 UNREAD_LIMIT = 1 << 16
 
 
-def keep(waiting: bytearray, typed: bytes) -> bool:
-    """Has what was typed wait behind what does, as far as there is room, and tells whether all of it was kept. No character is cut."""
-    room = max(0, UNREAD_LIMIT - len(waiting))
+def keep(waiting: bytearray, typed: bytes, limit: int = UNREAD_LIMIT) -> bool:
+    """Has what was typed wait behind what does, as far as there is room for so much, and tells whether all of it was kept. No character is
+    cut."""
+    room = max(0, limit - len(waiting))
     while room < len(typed) and room and typed[room] & 0xC0 == 0x80:
         room -= 1
     waiting += typed[:room]

@@ -56,6 +56,11 @@ def foreground(process: str) -> str:
         return ""
     if state in "ZX":
         return ""
+    return name_of(group)
+
+
+def name_of(group: int | str) -> str:
+    """The printable name of the program that leads a process group."""
     try:
         name = pathlib.Path(f"/proc/{group}/comm").read_bytes()[:-1].decode("utf-8", "replace")
     except OSError:

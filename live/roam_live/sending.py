@@ -6,9 +6,10 @@ import re
 import subprocess
 import time
 
-from roam_live.links import opened
+from roam_live.links import MOST_ACTS, opened
 from roam_live.program import Fault, Home
-from roam_live.places import MOST_PANES, Places
+from roam_live.places import MOST_PANES, MOVES, Places
+from roam_live.targets import pane_places
 from roam_live.terminal import LEAST, MOST
 
 TYPE_CHECKING = False
@@ -136,19 +137,38 @@ def are_taken(link: StartLink) -> bool:
     return link.is_done()
 
 
-def send(session: FolderSession, acts: list[str]) -> int:
-    """Types acts into a session, and ends once it has taken all of them."""
-    acts = [act.replace("\n", "\\n") for act in acts]
-    demand_acts(session, acts)
-    demand_doable(session, acts)
-    link = opened(session, False)
-    link.type(*acts)
+def lines_in_pane(acts: list[str], pane: int, focus: int, leads: str = "") -> list[str]:
+    """The lines that type acts, so many in each as are typed together: of a pane that isn't in focus, which each has focused first, and the
+    one before again behind them, unless an act of them moves the focus. No pane is that in focus."""
+    is_moved = any(act.split()[0] in MOVES for act in acts)
+    begins = [f"focus {pane}"] if pane not in (0, focus) else []
+    ends = [f"focus {focus}"] if begins and not is_moved else []
+    if begins and is_moved:
+        acts, begins = [*begins, *acts], []
+    most = MOST_ACTS - len(begins) - len(ends)
+    return [leads + " ; ".join([*begins, *acts[place : place + most], *ends]) for place in range(0, len(acts), most)]
+
+
+def type_lines(session: FolderSession, link: StartLink, lines: list[str]) -> None:
+    """Types lines of acts, and returns once the session has taken all of them."""
+    for line in lines:
+        link.say(line)
     is_taken = are_taken(link)
     was_given, has_ended, why = not link.waiting, link.has_ended, link.loss()
     link.close()
     # An act may have ended the session, before that it was taken came back.
     if is_taken or has_ended and was_given and not session.runs():
-        return 0
+        return
     if has_ended:
         raise Fault(f"session {session.name}: {why}")
     raise Fault(f"session {session.name} takes no more acts; some may have been typed")
+
+
+def send(session: FolderSession, acts: list[str], pane: int = 0) -> int:
+    """Types acts into a session, in a pane where one is named, and ends once it has taken all of them."""
+    acts = [act.replace("\n", "\\n") for act in acts]
+    focus = pane_places(session, pane).focus if pane else 0
+    demand_acts(session, acts)
+    demand_doable(session, [f"focus {pane}", *acts] if pane else acts)
+    type_lines(session, opened(session, False), lines_in_pane(acts, pane, focus))
+    return 0

@@ -20,8 +20,9 @@ if TYPE_CHECKING:
     # How a socket of a name is connected to; OSError where it can't be.
     Opens = Callable[[str], socket.socket]
 
-# The sockets to which connections are carried, and how many connections at most.
-NAMES = ("panes", "bells", "shells")
+# The sockets to which connections are carried, that by which a terminal is known to be there, and how many connections at most.
+SHELLS = "shells"
+NAMES = ("panes", "bells", SHELLS)
 LONGEST_NAME = 32
 MOST_CARRIED = 64
 
@@ -53,6 +54,8 @@ class Carried:
 
     def __init__(self, number: int) -> None:
         self.number = number
+        # The name of the socket to which the far end connected it.
+        self.socket_name = ""
         self.peer: socket.socket | None = None
         self.going, self.coming = bytearray(), bytearray()
         # How many bytes went and may go; how many came and were taken, and how many of these the other end knows of.
@@ -185,6 +188,12 @@ class Streams(Generic[One]):
             if not one.has_ended:
                 self.end(one)
 
+    def end_named(self, name: str) -> None:
+        """Ends those that were connected here to a socket of a name: the other end is told."""
+        for one in [one for one in self.all.values() if one.socket_name == name and not one.has_ended]:
+            one.going.clear()
+            self.end(one)
+
     def close(self) -> None:
         """Ends all without a word."""
         for one in list(self.all.values()):
@@ -198,6 +207,7 @@ class Streams(Generic[One]):
             if name not in NAMES or not self.opens:
                 raise FileNotFoundError(name)
             self.join(one, self.opens(name))
+            one.socket_name = name
         except OSError:
             self.end(one)
 

@@ -222,3 +222,36 @@ def far_sizes(folder):
     alone.type(b"exit\r")
     for one in (alone, small):
         check("its end is told at each", one.shows("[the session has ended]") and one.ends(), one.rows)
+
+
+@scene
+def far_alone(folder):
+    """A lone terminal of another machine's session that is drawn smaller has that follow; beside a second one, here or there, it doesn't."""
+    folder = folder / "alone"
+    folder.mkdir()
+    far = folder / "far"
+    words = ssh_words(folder, far, folder / "asked")
+    outer = Outer(words)
+    outer.shows("$ ")
+    # For two seconds a new session goes by each size.
+    time.sleep(3)
+    outer.resize(20, 60)
+    check("a lone terminal that is drawn smaller has the session there follow", comes(lambda: listed()[1:4] == ["20", "by", "60"]), listed)
+    ways = (("here", words, {}), ("there", tool("mux", "attach", "other"), {"XDG_RUNTIME_DIR": str(far)}))
+    for where, more, environment in ways:
+        second = Outer(more, (20, 60), environment)
+        second.shows("$ ")
+        time.sleep(1)
+        outer.resize(18, 50)
+        check(f"beside one {where} it shows a part", outer.status("[1]".ljust(40) + "C-b r fits"), outer.rows)
+        time.sleep(1)
+        check("and nothing shrinks", listed()[1:4] == ["20", "by", "60"], listed)
+        outer.resize(20, 60)
+        outer.status("[1]".ljust(60))
+        second.type(b"\x02d")
+        check("the second leaves", second.ends() and second.is_restored(), second.rows)
+    time.sleep(1)
+    outer.resize(19, 58)
+    check("alone again it has it follow", comes(lambda: listed()[1:4] == ["19", "by", "58"]), listed)
+    outer.type(b"exit\r")
+    check("its end is told", outer.shows("[the session has ended]") and outer.ends(), outer.rows)

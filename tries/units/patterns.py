@@ -18,10 +18,13 @@ NAMES = "reads names of sessions and hosts"
 WORDS = "reads what a program of this machine says"
 RELAY = "reads what the other end of a relay says"
 CELLS = "reads the SGR before a cell, in the record that answers `look sgr`"
+BRACKETS = "is typed round a paste, and taken out of one"
+MARKS = "reads what was typed into a pane, for marks of texts that were given"
 BEGIN = "the reset with which the start itself begins a record `anew`; another clearing is written for it"
 
 # Each use: the file, the name that it is assigned to or the function that it stands in, and whether it is of `re` or of an escape.
 KNOWN = {
+    ("pane_shells", "", "ESC"): "is typed where the focus comes and goes, and reads nothing",
     ("roam_live/asides.py", "", "ESC"): WRITES,
     ("roam_live/asides.py", "shaped", "ESC"): WRITES,
     ("roam_live/asides.py", "titled", "ESC"): WRITES,
@@ -33,15 +36,16 @@ KNOWN = {
     ("roam_live/bells.py", "TOLD", "re"): LINES,
     ("roam_live/bindings.py", "SCROLL_ENDS", "ESC"): TYPED,
     ("roam_live/cells.py", "parted", "ESC"): CELLS,
+    ("roam_live/cells.py", "sgr_of", "ESC"): CELLS,
     ("roam_live/display.py", "Display.put_line", "ESC"): WRITES,
     ("roam_live/display.py", "Display.take_painting", "RESET"): BEGIN,
     ("roam_live/keypads.py", "ASKED", "re"): PROGRAM,
     ("roam_live/keypads.py", "ASKED", "ESC"): PROGRAM,
     ("roam_live/keypads.py", "Keypad.fed", "ESC"): PROGRAM,
-    ("roam_live/keys.py", "BRACKETS", "ESC"): "is typed round a paste, and reads nothing",
+    ("roam_live/keys.py", "", "ESC"): "reads what a person types, and is typed round a paste",
     ("roam_live/keys.py", "BEGUN", "re"): TYPED,
     ("roam_live/keys.py", "BEGUN", "ESC"): TYPED,
-    ("roam_live/keys.py", "Keys.fed", "ESC"): TYPED,
+    ("roam_live/keys.py", "Keys.typed", "ESC"): TYPED,
     ("roam_live/keys.py", "SPELLINGS", "ESC"): TYPED,
     ("roam_live/keys.py", "WHOLE", "re"): TYPED,
     ("roam_live/keys.py", "WHOLE", "ESC"): TYPED,
@@ -58,6 +62,13 @@ KNOWN = {
     ("roam_live/terminal.py", "LEFT", "ESC"): WRITES,
     ("roam_live/terminal.py", "RESET", "ESC"): BEGIN,
     ("roam_live/terminal.py", "unwrapped", "ESC"): WRITES,
+    ("roam_live/shells.py", "ASK", "re"): LINES,
+    ("roam_live/shells.py", "GIVE", "re"): LINES,
+    ("roam_live/targets.py", "PANE", "re"): NAMES,
+    ("roam_live/texts.py", "BRACKET_ENDS", "ESC"): BRACKETS,
+    ("roam_live/texts.py", "", "ESC"): BRACKETS,
+    ("roam_live/typed.py", "BEGUN", "re"): MARKS,
+    ("roam_live/typed.py", "MARK", "re"): MARKS,
     ("show_client", "", "ESC"): WRITES,
 }
 

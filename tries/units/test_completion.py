@@ -35,6 +35,14 @@ class Completion(unittest.TestCase):
         self.assertEqual(completed("_roam_mux", "mux", "send", "work", "focus 7"), ["focus 7"])
         self.assertIn("close", completed("_roam", "roam", "mux", "send", "work", ""))
         self.assertEqual(completed("_roam_mux", "mux", "send", "w"), ["work"])
+        self.assertEqual(completed("_roam_mux", "mux", "send", "-"), ["-l", "--help"])
+
+    def test_paste(self):
+        self.assertEqual(completed("_roam_mux", "mux", "pas"), ["paste"])
+        self.assertEqual(completed("_roam_mux", "mux", "paste", "--r"), ["--raw"])
+        self.assertEqual(completed("_roam_mux", "mux", "paste", "--raw", "m"), ["main"])
+        self.assertEqual(completed("_roam_mux", "mux", "send", "-l", ""), [])
+        self.assertEqual(completed("_roam_mux", "mux", "send", "-l", "text", "m"), ["main"])
 
     def test_every_act(self):
         """Each act that roam(1) lists is offered."""

@@ -85,6 +85,7 @@ class PlayedPanes:
     """What is told of a session's panes."""
 
     awaited = full = brackets = False
+    knows = True
     aside = ("", 0)
 
     def __init__(self, place):
@@ -107,6 +108,10 @@ class PlayedPanes:
         """Whether the server hears no other start."""
         return self.full
 
+    def knows_modes(self):
+        """Whether it is told which modes programs have set."""
+        return self.knows
+
     def wants_brackets(self):
         """Whether the program in focus wants what is pasted between brackets."""
         return self.brackets
@@ -117,17 +122,38 @@ def painting(rows, cols, text="x"):
     return b"\x1bc\x1b[?25l\x1b[2J" + b"".join(f"\x1b[{row};1H{text[:cols]}".encode() for row in range(1, rows + 1)) + b"\x1b[1;1H\x1b[?25h"
 
 
+class PlayedShells:
+    """What the keeper of the shells tells of who else is at the session."""
+
+    def __init__(self, types=None, awaited=False):
+        self.types, self.awaited, self.said = types, awaited, 0
+
+    def say_here(self):
+        """Counts how often the terminal's size was looked at."""
+        self.said += 1
+
+    def is_awaited(self):
+        """Whether it may be known soon."""
+        return self.awaited
+
+    def has_others(self):
+        """Whether somebody else types, where that is known."""
+        return self.types
+
+
 class Person:
     """A person at a terminal, without the processes. The session shows a text, by the size that it has, where the front end asks for it."""
 
-    def __init__(self, rows, cols, watches=False, is_new=False, told=None, folder=None, is_whole=False):
+    def __init__(self, rows, cols, watches=False, is_new=False, told=None, folder=None, is_whole=False, shells=None):
         self.loop, self.link, self.place = Loop(), StartLink(watches), AnySession(folder)
         self.place.told = told
         self.left, self.heard = None, 0
         with mock.patch.object(display, "OuterTerminal", lambda: OuterTerminal(rows, cols)):
             self.display = Display(self.loop, self.link.say)
         self.panes = PlayedPanes(self.place)
-        self.commands = Commands(self.place, self.panes, self.link, self.display, self.loop, self.leave, lambda places: is_new, is_whole)
+        self.shells = shells
+        self.commands = Commands(self.place, self.panes, self.link, self.display, self.loop, self.leave, lambda places: is_new, is_whole,
+                                 shells)
         self.commands.choose("C-b")
         self.display.begin()
         self.commands.show_known()
@@ -332,6 +358,45 @@ class Sizes(unittest.TestCase):
         self.assertEqual((small.sizes(), small.said()), ([], ["part 9 30"]))
         small.resize(30, 90)
         self.assertEqual(small.sizes(), ["size 30 90"])
+
+    def test_resized_as_told(self):
+        """Where the keeper of the shells tells who else types that alone is gone by, of another machine's session too."""
+        for types, sizes in ((False, ["size 20 70"]), (True, []), (None, [])):
+            person = Person(24, 80, told=places(24, 80), shells=PlayedShells(types))
+            person.place.served = "relay"
+            person.answers()
+            person.resize(20, 70)
+            self.assertEqual((person.sizes(), person.shells.said > 1), (sizes, True), types)
+        with mock.patch("roam_live.commands.has_others", return_value=True):
+            self.assertEqual(Person(50, 132, told=places(24, 80), shells=PlayedShells(False)).sizes(), ["size 50 132"])
+            self.assertEqual(Person(50, 132, told=places(24, 80), shells=PlayedShells(None)).sizes(), [])
+        person = Person(50, 132, told=places(24, 80), shells=PlayedShells(True))
+        self.assertEqual((person.sizes(), person.display.told), ([], "24 by 80, as another terminal has it; C-b r fits this one"))
+        small = Person(12, 40, told=places(24, 80), shells=PlayedShells(False))
+        small.answers()
+        small.resize(10, 30)
+        self.assertEqual(small.sizes(), [])
+
+    def test_resized_before_told(self):
+        """What hangs on who else is there waits until that is told, but for a new session, and for no longer than it may be."""
+        shells = PlayedShells(awaited=True)
+        person = Person(24, 80, told=places(24, 80), shells=shells)
+        person.answers()
+        person.resize(20, 70)
+        self.assertEqual((person.sizes(), "others" in person.loop.due), ([], True))
+        person.resize(18, 60)
+        shells.awaited, shells.types = False, False
+        person.commands.others_told()
+        self.assertEqual((person.sizes(), "others" in person.loop.due), (["size 18 60"], False))
+        person.commands.others_told()
+        self.assertEqual(person.sizes(), ["size 18 60"])
+        shells.awaited = True
+        self.assertEqual(Person(20, 60, is_new=True, shells=shells).sizes(), ["size 20 60"])
+        late = Person(50, 132, told=places(24, 80), shells=shells)
+        self.assertEqual(late.sizes(), [])
+        shells.awaited, shells.types = False, None
+        late.loop.due["others"][1]()
+        self.assertEqual(late.sizes(), ["size 50 132"])
 
     def test_left_and_shown_small(self):
         """A session of 24 by 100 that is left, shown by 12 by 40 alone and then by 24 by 100 keeps its size."""
@@ -586,8 +651,7 @@ class UnderCover(unittest.TestCase):
         self.assertEqual((person.display.cover, person.types(b"\x1b[201~x")), ("", ["char 78"]))
 
     def test_brackets(self):
-        """A paste stands between brackets where the program in focus wants that as it begins, and ends with them whatever comes between;
-        nothing in it ends them."""
+        """A paste stands between brackets where the program in focus wants that as it ends, and nothing in it ends them."""
         begin, end = BRACKETS
         person = Person(24, 80, told=places(24, 80))
         person.answers()
@@ -597,21 +661,23 @@ class UnderCover(unittest.TestCase):
         self.assertEqual(person.types(b"\x1b[200~\x9b201~\xc2\x9b201~\x1b\x7f\x07\t\x1b[201~"),
                          [*begin, "char fffd", *[f"char {ord(letter):x}" for letter in "201~201~"], "char 9", *end])
         self.assertEqual(person.types(b"\x1b[200~\x1b[A\x1b[201~"), [*begin, "char 5b", "char 41", *end])
-        self.assertEqual(person.types(b"\x1b[200~x"), [*begin, "char 78"])
+        self.assertEqual(person.types(b"\x1b[200~x"), [])
+        self.assertEqual(person.types(b"y\x1b[201~"), [*begin, "char 78", "char 79", *end])
         person.commands.panes.brackets = False
-        self.assertEqual(person.types(b"y\x1b[201~"), ["char 79", *end])
         self.assertEqual(person.types(b"\x1b[200~a\r\x1b[201~"), ["char 61", "key return"])
+        # An end without a beginning is nothing, and so is a paste of nothing.
+        self.assertEqual(person.types(b"a\x1b[201~b\x1b[200~\x1b[201~\x1b[200~\x03\x1b[201~c"), ["char 61", "char 62", "char 63"])
 
     def test_brackets_end(self):
-        """Of a paste over which something comes to stand the rest isn't typed, but its end is; of one that begins there nothing is."""
-        begin, end = BRACKETS
+        """Of a paste over which something comes to stand nothing is typed, nor its brackets; nor of one that begins there."""
         person = Person(24, 80, told=places(24, 80))
         person.answers()
         person.commands.panes.brackets = True
-        self.assertEqual(person.types(b"\x1b[200~a"), [*begin, "char 61"])
+        self.assertEqual(person.types(b"\x1b[200~a"), [])
         person.resize(2, 80)
-        self.assertEqual(person.types(b"b\x1b[201~"), end)
+        self.assertEqual(person.types(b"b\x1b[201~"), [])
         self.assertEqual(person.types(b"\x1b[200~a\x1b[201~"), [])
+        self.assertEqual(person.display.told, "nothing is pasted where the session isn't shown")
 
     def test_help(self):
         person = Person(24, 80, told=places(24, 80))
@@ -623,7 +689,7 @@ class UnderCover(unittest.TestCase):
         person.types(b"\x02d")
         self.assertEqual((person.left, person.link.acts), ("[detached]", []))
         person.types(b"\x02?")
-        self.assertEqual(person.types(b"\x1b[200~a\x02x\x1b[201~"), ["char 61", "char 2", "char 78"])
+        self.assertEqual(person.types(b"\x1b[200~a\x02x\x1b[201~"), ["char 61", "char 78"])
 
     def test_paused(self):
         person = Person(24, 80, told=places(24, 80))

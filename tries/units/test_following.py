@@ -175,7 +175,7 @@ class Follows(Played):
             self.turn()
             self.following.ask("close 1 1")
             self.turn()
-        self.assertEqual(self.taken().recv(64), b"keeper\nclose 1 1\n")
+        self.assertEqual(self.taken().recv(64), b"keeper\nbeside\nclose 1 1\n")
         self.assertEqual(self.following.server, os.getpid())
 
 
@@ -227,9 +227,9 @@ class FrontEnds(Played):
             self.lose_again()
         self.loop.turns(2)
         self.assertEqual(self.server.recv(64), b"beside\n")
-        self.assertFalse(self.panes.wants_brackets())
+        self.assertEqual((self.panes.wants_brackets(), self.panes.knows_modes()), (False, False))
         self.told(b"1 1 1 23 80 1\n2 1 1 23 80 1\nfocus 1\nmodes 1 1 paste\n")
-        self.assertTrue(self.panes.wants_brackets())
+        self.assertEqual((self.panes.wants_brackets(), self.panes.knows_modes()), (True, True))
         self.told(b"focus 2\n")
         self.assertFalse(self.panes.wants_brackets())
         before = self.changes
@@ -239,6 +239,8 @@ class FrontEnds(Played):
         self.assertEqual(self.changes, before + 1)
         self.lose_again()
         self.assertFalse(self.panes.wants_brackets())
+        self.told(b"1 1 1 23 80 1\nfocus 1\n")
+        self.assertFalse(self.panes.knows_modes())
 
     def test_let_go(self):
         """While nobody tells them the places aren't known; what comes next is told all anew."""

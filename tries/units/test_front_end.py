@@ -6,7 +6,7 @@ import termios
 from unittest import mock
 
 from aids import Case, StillLoop, closed, read_now, record
-from roam_live import display, front_end, terminal
+from roam_live import display, front_end, links, pastes, terminal
 from roam_live.front_end import FrontEnd
 from roam_live.program import Fault, begun
 from roam_live.places import Places, Rect
@@ -235,6 +235,21 @@ class Loop(Fronts):
         self.assertEqual(termios.tcgetattr(self.slave), self.before)
         self.front.leave("another", 5)
         self.assertEqual((self.front.left, self.front.status), ("[detached]", 0))
+
+    def test_left_behind_a_paste(self):
+        """Who leaves while a paste is handed over is waited for, for a second and a half at most."""
+        self.connect()
+        self.front.commands.pastes.waiting.append(pastes.Paste("text", False))
+        self.type(b"\x02d")
+        self.assertTrue(self.front.hands_over())
+        self.assertEqual(self.front.loop.due["left"][0], self.now + links.LAST_WAIT)
+        self.now += links.LAST_WAIT - 0.1
+        self.assertTrue(self.front.hands_over())
+        self.now += 0.1
+        self.assertFalse(self.front.hands_over())
+        self.front.left_at = None
+        self.front.commands.pastes.waiting.clear()
+        self.assertFalse(self.front.hands_over())
 
     def test_fault(self):
         """What nobody foresaw brings the terminal back too, from the moment on at which it is taken: that is none before it runs."""

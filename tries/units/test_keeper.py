@@ -3,14 +3,22 @@ import argparse
 import os
 import shutil
 import signal
+import socket
 import struct
 from unittest import mock
 
 from aids import Case, StillLoop, loaded, read_now
+from roam_live.given import GivenTexts
 from roam_live.loops import READ, WRITE
 from roam_live.program import Fault, begun
+from roam_live.typed import TypedQueue
 
 shells = loaded("pane_shells")
+
+
+def queue():
+    """A queue of what is typed into a pane, for which no text was given."""
+    return TypedQueue(GivenTexts(StillLoop(), lambda name, word: None), lambda: False)
 
 
 class Keeper(Case):
@@ -40,6 +48,7 @@ class Keeper(Case):
     def leave(self, keeper):
         """Closes what a keeper has."""
         keeper.bells.close()
+        keeper.socket.close()
         for number in list(keeper.panes):
             keeper.drop(number)
         for spare in (keeper.spare, keeper.voice):
@@ -110,6 +119,81 @@ class Panes(Keeper):
         with self.assertRaisesRegex(Fault, "^the server is of an earlier roam: it doesn't tell where panes are$"):
             self.tell("1 23 80")
 
+    def test_there(self):
+        """Who is at the session is told at the socket `shells`."""
+        one = socket.socket(socket.AF_UNIX, socket.SOCK_STREAM)
+        self.addCleanup(one.close)
+        one.connect(str(self.folder / "shells"))
+        one.send(b"here a:/dev/pts/1 24 80 edits\nwho\n")
+        one.setblocking(False)
+        self.turn()
+        self.assertEqual(read_now(one), f"keeper {self.keeper.socket.name}\nothers 0\n".encode())
+
+    def test_commands(self):
+        """What runs in front is told there, and looked up again after something was typed or written."""
+        names = {1: "sh", 2: "vi"}
+        self.patch_of(shells.Fronts, "look", lambda fronts, pane: fronts.tells(pane.number, pane.life, names[pane.number]))
+        panes = self.begin()
+        one = socket.socket(socket.AF_UNIX, socket.SOCK_STREAM)
+        self.addCleanup(one.close)
+        one.connect(str(self.folder / "shells"))
+        one.setblocking(False)
+        one.send(b"commands\n")
+        self.turn(4)
+        self.assertEqual(read_now(one), b"command 1 4 sh\ncommand 2 5 vi\n")
+        names.update({1: "less", 2: "mc"})
+        self.turn()
+        panes[0].send(b"x")
+        self.made[1].send(b"y")
+        self.turn()
+        self.now += 0.1
+        self.turn()
+        self.assertEqual(sorted(read_now(one).splitlines()), [b"command 1 4 less", b"command 2 5 mc"])
+
+    def test_pasted(self):
+        """A text that was given is put at its mark, between brackets where the server told, before it handed the mark out, that the program
+        wants them; of another making, or once it wants them no more, it has none."""
+        panes, names = self.begin(), [f"{number:016x}" for number in range(5)]
+        one = socket.socket(socket.AF_UNIX, socket.SOCK_STREAM)
+        self.addCleanup(one.close)
+        one.connect(str(self.folder / "shells"))
+        one.send("".join(f"give {name} 4\ntext" for name in names).encode())
+        self.turn(4)
+        plain, bracketed = b"text", b"\x1b[200~text\x1b[201~"
+        told = (("", plain), ("modes 1 4 paste\n", bracketed), ("modes 1 4 sgr\n", plain),
+                ("modes 1 4 sgr buttons focus paste keys1\n", bracketed), ("modes 1 3 paste\n", plain))
+        for number, (lines, wanted) in enumerate(told):
+            # Both are there at once; what is told of the panes is read first, wherever it stands among what is waited for.
+            self.server.send(lines.encode())
+            panes[0].send(f"a\u009f{names[number]}\u009cb".encode())
+            self.keeper.panes[1].hear()
+            self.turn()
+            self.assertEqual(read_now(self.made[0]), b"a" + wanted + b"b", lines)
+        one.setblocking(False)
+        self.assertEqual(read_now(one).decode(), "".join(f"held {name}\n" for name in names) + "".join(f"put {name}\n" for name in names))
+
+    def test_gone_while_typed(self):
+        """What was typed into a pane that is told to be gone is nothing."""
+        panes = self.begin()
+        pane = self.keeper.panes[1]
+        pane.is_settling = True
+        panes[0].send(b"typed")
+        self.server.send(b"1 gone\nfocus 2\n")
+        pane.hear()
+        self.assertEqual((list(self.keeper.panes), pane.terminal, [name for name in self.keeper.loop.due if "1" in name]), ([2], None, []))
+
+    def test_focus_reported(self):
+        """A program that asked for it is told once that the focus comes and goes; what stands beside panes is no pane."""
+        panes = self.begin("modes 1 4 focus", "modes 2 5 focus sgr paste drags other", "title 1 4 6162", "shape 1 4 5", "bell 1 4")
+        self.tell("focus 2")
+        self.tell("focus 2")
+        self.assertEqual([read_now(end) for end in self.made], [b"\x1b[O", b"\x1b[I"])
+        self.tell("modes 1 4", "focus 1", "modes 2 5")
+        self.assertEqual([read_now(end) for end in self.made], [b"", b"\x1b[O"])
+        self.tell("focus 2", "2 gone", "focus 1")
+        self.assertEqual((read_now(self.made[0]), list(self.keeper.panes)), (b"", [1]))
+        self.assertTrue(panes)
+
     def test_rung(self):
         """A bell is told."""
         self.begin()
@@ -128,13 +212,13 @@ class Panes(Keeper):
         self.assertEqual((peer.events(), terminal.events()), (READ | WRITE, 0))
         pane.to_pane.clear()
         self.assertEqual((peer.events(), terminal.events()), (READ, READ))
-        pane.to_terminal += b"x"
+        pane.to_terminal.take(b"x")
         self.assertEqual((peer.events(), terminal.events()), (READ, READ | WRITE))
         pane.to_pane += b"x"
         self.assertEqual((peer.events(), terminal.events()), (READ | WRITE, READ | WRITE))
         pane.is_dropping = True
         self.turn(1)
-        self.assertEqual((pane.to_terminal, pane.is_dropping, pane.written), (b"", False, 1))
+        self.assertEqual((len(pane.to_terminal), pane.is_dropping, pane.written), (0, False, 1))
 
     def test_no_reader(self):
         """What a pane's program doesn't read is taken from the server all the same, and dropped above a limit; other panes go on."""
@@ -188,7 +272,7 @@ class Panes(Keeper):
         self.assertEqual((self.keeper.panes[1].in_front(), self.keeper.panes[2].is_unread()), ([], False))
         panes[0].send(b"x")
         self.turn()
-        self.assertEqual(self.keeper.panes[1].to_terminal, b"")
+        self.assertEqual(len(self.keeper.panes[1].to_terminal), 0)
 
     def test_unread(self):
         """What the server doesn't read for three seconds is told of, once."""
@@ -484,7 +568,7 @@ class Words(Case):
     def test_child(self):
         """What is forked becomes the command, of the pane's size and in its folder, and ends where it can't."""
         asked = argparse.Namespace(dir="/d", command=["vi"], instead="/bin/sh")
-        pane = shells.PaneCommand(asked, StillLoop(), 3, 1, (5, 40), False, "/tmp")
+        pane = shells.PaneCommand(asked, StillLoop(), 3, 1, (5, 40), False, "/tmp", queue())
         with mock.patch.object(shells.terminal, "forked", return_value=(0, 0)) as forks, \
                 mock.patch.object(shells.terminal, "become") as becomes, \
                 mock.patch.object(shells.os, "_exit", side_effect=InterruptedError) as exits, \

@@ -3,7 +3,7 @@ import unittest
 
 from roam_live.bindings import Typing, help_with, spelled
 from roam_live.choices import PREFIXES
-from roam_live.keys import Keys, acts_of, acts_of_bytes
+from roam_live.keys import Key, Keys, acts_of, acts_of_bytes
 
 KEYS = (
     (b"a", "char 61"), (b"\xc3\xa9", "char e9"), (b"\xe2\x82\xac", "char 20ac"), (b"\xf0\x9f\x98\x80", "char 1f600"), (b"\x00", "char 0"),
@@ -34,7 +34,8 @@ ASKED = (
     (b"\x02[\x1b", "view -500", "scrolled"), (b"\x02[\x03", "view -500", "scrolled"), (b"\x02[\r", "view -500", "scrolled"),
     (b"\x02[x", "", ""), (b"\x02[/", "", ""), (b"\x02[\x15", "", ""), (b"\x02[xq", "view -500", "scrolled"), (b"\x02[qx", "char 78", ""),
     (b"\x02[\x02", "view -500", "scrolled"), (b"\x02[\x02o", "next", ""), (b"\x02[\x1b[200~", "view -500", "scrolled"),
-    (b"\x02[\x1b[200~x", "char 78", ""), (b"\x1b[200~\x02x", "char 78", ""), (b"\x1b[200~\x02x\x1b[201~\x02x", "", "close"),
+    (b"\x02[\x1b[200~x", "", ""), (b"\x02[\x1b[200~x\x1b[201~y", "char 79", ""), (b"\x1b[200~\x02x", "", ""),
+    (b"\x1b[200~\x02x\x1b[201~\x02x", "", "close"), (b"\x1b[201~", "", ""), (b"\x02\x1b[201~", "", "unknown"),
 )
 
 # What is typed piece by piece, with the acts and the wish of each key, as `C-b ?` and roam-mux(1) have them.
@@ -44,8 +45,9 @@ TYPED = (
     (b"\x02[kkjq", [([], ""), ([], "scroll"), (["view 1"], "scroll"), (["view 1"], "scroll"), (["view -1"], "scroll"),
                     (["view -500"], "scrolled")]),
     (b"\x02[\x1b[6~", [([], ""), ([], "scroll"), (["view -12"], "scroll")]),
-    (b"\x1b[200~\x02d\x1b[201~\x02d", [([], ""), (["char 2"], ""), (["char 64"], ""), ([], ""), ([], ""), ([], "detach")]),
-    (b"\x02\x1b[200~x", [([], ""), ([], "unknown"), (["char 78"], "")]),
+    (b"\x1b[200~\x02d\x1b[201~\x02d", [([], ""), ([], ""), ([], ""), ([], ""), ([], "detach")]),
+    (b"\x02\x1b[200~x", [([], ""), ([], ""), ([], "")]),
+    (b"\x02\x1b[200~x\x1b[201~y", [([], ""), ([], ""), ([], ""), ([], ""), (["char 79"], "")]),
 )
 
 # The wishes behind the prefix.
@@ -88,6 +90,20 @@ class Spelled(unittest.TestCase):
             self.assertEqual(keys.waits(), waits, text)
             self.assertEqual("".join(key.text for key in before + keys.ended()), text.decode())
             self.assertEqual((keys.waits(), keys.ended()), (False, []))
+
+    def test_pasted(self):
+        """What is pasted is text as it is, with sequences in it, until its end, wherever the stream is cut; an escape in it isn't waited
+        for."""
+        inside = "a\x1b[A\x1b[20\x1b[200~\r\x02\u00e9\x1b[201\x1b[201"
+        stream = f"x\x1b\x1b[200~{inside}\x1b[201~\x1b[Ay\x1b[200~\x1b[201~z".encode()
+        for cut in range(len(stream) + 1):
+            keys = Keys()
+            found = [key for piece in (stream[:cut], stream[cut:]) for key in keys.fed(piece)]
+            text = "".join(key.text for key in found if key.name == "text")
+            names = [key.name for key in found if key.name != "text"]
+            self.assertEqual((text, names), (inside, ["x", "\x1b", "paste", "pasted", "up", "y", "paste", "pasted", "z"]), cut)
+        keys = Keys()
+        self.assertEqual((keys.fed(b"\x1b[200~\x1b"), keys.waits(), keys.fed(b"x")[0].text), ([Key("paste", "\x1b[200~")], False, "\x1bx"))
 
     def test_long(self):
         """A sequence that doesn't end in 32 letters isn't waited for."""

@@ -6,7 +6,7 @@ import types
 from unittest import mock
 
 from aids import Case, loaded
-from roam_live import captures, choices, front_end, remote, sending, sessions
+from roam_live import captures, choices, front_end, giving, remote, sending, sessions, targets
 from roam_live.places import Places, Rect
 from roam_live.program import Fault
 from roam_live.relayed import greeting
@@ -169,6 +169,40 @@ class Starts(Mux):
             self.mux("capture", "--svg", "main")
             self.assertTrue(takes.call_args[0][1])
         self.assertEqual([one[0] for one in self.done[:3]], ["demand_age", "note_found", "demand_terminals"])
+
+    def test_texts(self):
+        """A text is sent by -l, and standard input pasted, in one piece; acts and a text aren't sent at once."""
+        self.runs.add("main")
+        with mock.patch.object(giving, "type_text", return_value=3) as types, \
+                mock.patch.object(giving, "read_text", lambda is_raw: f"raw {is_raw}"):
+            self.assertEqual(self.mux("send", "-l", "a\nb\x1b", "main.2"), 3)
+            self.assertEqual((types.call_args[0][1:], types.call_args[1]), (("a\rb", 2), {"is_plain": True}))
+            self.assertEqual(self.mux("paste", "main"), 3)
+            self.assertEqual((types.call_args[0][1:], types.call_args[1]), (("raw False", 0), {"is_plain": False}))
+            self.mux("paste", "--raw", "main.9")
+            self.assertEqual(types.call_args[0][1:], ("raw True", 9))
+        for words in (("-l", "a", "main", "char 61"), ("main",)):
+            self.refuses("acts are sent, or a text by -l, and not both", "send", *words)
+
+    def test_panes(self):
+        """NAME.P is a pane: what is sent and captured there, and closed, where something else than a shell runs once that is confirmed."""
+        self.runs.add("main")
+        with mock.patch.object(sending, "send", return_value=3) as sends, mock.patch.object(captures, "capture", return_value=4) as takes:
+            self.assertEqual((self.mux("send", "main.3", "char 61"), sends.call_args[0][1:]), (3, (["char 61"], 3)))
+            self.assertEqual((self.mux("capture", "main.3"), takes.call_args[0][1:]), (4, (False, 3)))
+        places = Places({1: Rect(1, 1, 5, 5), 2: Rect(1, 7, 5, 5)}, 1)
+        with mock.patch.object(FolderSession, "places", lambda session: places), mock.patch.object(targets, "close_pane") as closes:
+            self.assertEqual((self.mux("kill", "main.2"), closes.call_args[0][1]), (0, 2))
+            self.is_terminal = False
+            self.refuses("session main runs vi in pane 1; `mux kill -f main.1` closes it", "kill", "main.1")
+            self.refuses("session main has no pane 3", "kill", "main.3")
+            self.assertEqual((self.mux("kill", "-f", "main.1"), closes.call_args[0][1]), (0, 1))
+            self.is_terminal = True
+            with mock.patch("sys.stdin") as asked, mock.patch.object(FolderSession, "busy", lambda session: None):
+                asked.readline.return_value = "n\n"
+                self.assertEqual(self.mux("kill", "main.2"), 1)
+            self.assertIn("session main runs a program that isn't known; close it? [y/N] ", self.said.getvalue())
+        self.assertFalse([one for one in self.done if one[0] == "end_all"])
 
     def test_started(self):
         """Whether it ran before is told; what is left of one that doesn't run goes."""
@@ -379,7 +413,7 @@ class Words(Mux):
         page = PAGE.read_text(encoding="utf-8")
         for word in mux.WORDS:
             self.assertRegex(page, rf"\b{word}\b")
-        self.assertEqual(list(mux.WORDS), "attach new detach ls list watch kill send capture ssh far help".split())
+        self.assertEqual(list(mux.WORDS), "attach new detach ls list watch kill send paste capture ssh far help".split())
 
     def test_ssh_words(self):
         asked = mux.asked_by("ssh", ["-p", "22", "--far", "f", "there"])

@@ -14,8 +14,10 @@ import unittest
 import unittest.mock
 
 from aids import StillLoop, loaded
+from roam_live.given import GivenTexts
 from roam_live.program import TOOLS
 from roam_live.programs import group_in_front, working_folder
+from roam_live.typed import TypedQueue
 
 
 shells = loaded("pane_shells")
@@ -93,7 +95,8 @@ class Typed(unittest.TestCase):
 
     def test_dropped(self):
         """65,536 bytes wait; what is above is dropped, which is told once until all was read."""
-        pane = shells.PaneCommand(argparse.Namespace(dir="/no"), StillLoop(), 4, 1, (23, 80), False)
+        typed = TypedQueue(GivenTexts(StillLoop(), lambda name, word: None), lambda: False)
+        pane = shells.PaneCommand(argparse.Namespace(dir="/no"), StillLoop(), 4, 1, (23, 80), False, "", typed)
         said = io.StringIO()
         with contextlib.redirect_stderr(said):
             for _ in range(3):
@@ -105,7 +108,7 @@ class Typed(unittest.TestCase):
             pane.is_dropping = False
             pane.wait_typed(b"y")
             self.assertEqual(said.getvalue().count("\n"), 1)
-        self.assertEqual(pane.to_terminal, b"y")
+        self.assertEqual(list(pane.to_terminal.parts), [b"y"])
 
 
 class Server:

@@ -480,6 +480,25 @@ class Far(Both):
         with self.ends():
             self.far.turn()
 
+    def test_asleep_leaves(self):
+        """Who sleeps isn't at the session: its connections to the keeper of the shells end there, and no others."""
+        self.sound()
+        ended(self.said_end)
+        self.run_for(1)
+        streams, ends = self.far.ways.path.streams, {}
+        for number, name in ((5, "shells"), (6, "bells")):
+            ours, ends[name] = self.pair()
+            with mock.patch.object(streams, "opens", return_value=ours):
+                streams.opened(streams.all.setdefault(number, streams.made(number)), name)
+        self.is_open = False
+        self.run_for(50)
+        with self.assertRaises(BlockingIOError):
+            ends["shells"].recv(1)
+        self.run_for(20)
+        self.assertEqual(ends["shells"].recv(1), b"")
+        with self.assertRaises(BlockingIOError):
+            ends["bells"].recv(1)
+
     def test_session_ends(self):
         """The session's end is told by the path alone, until it is acknowledged, 30 s at most."""
         self.sound()

@@ -1,0 +1,101 @@
+"""Texts that a command has typed into a session in one piece."""
+from __future__ import annotations
+
+import sys
+import time
+
+from roam_live.keys import pasted_acts
+from roam_live.links import opened
+from roam_live.loops import READ, WRITE, ready
+from roam_live.program import Fault, Lines, connected_in, read, write
+from roam_live.sending import lines_in_pane, type_lines
+from roam_live.shells_link import HELD, PUT, REFUSED
+from roam_live.targets import pane_places, wants_brackets
+from roam_live.texts import MOST_BYTES, cleaned, mark_acts, random_name, without_brackets
+from roam_live.words import printable
+
+TYPE_CHECKING = False
+if TYPE_CHECKING:
+    from roam_live.sessions import FolderSession
+
+# So many seconds a keeper has for taking a connection, and something of a text, and for putting the text in the place of its mark.
+CONNECTS = 1.0
+TAKES = 10.0
+
+
+class TextGiver:
+    """A connection to the keeper of a session's shells, by which a text is given."""
+
+    def __init__(self, session: FolderSession) -> None:
+        self.session = session
+        self.peer = connected_in(session.folder / "shells", CONNECTS)
+        self.lines = Lines()
+        self.waiting = bytearray()
+        self.name = random_name()
+
+    def fileno(self) -> int:
+        """Its descriptor."""
+        return self.peer.fileno()
+
+    def answer(self, word: str) -> bool:
+        """Gives what waits, and tells whether it is answered by a word; False where the connection has ended, or the text is lost."""
+        end = time.monotonic() + TAKES
+        while time.monotonic() < end:
+            events = ready(self, READ | WRITE if self.waiting else READ, end - time.monotonic())
+            if events & WRITE:
+                write(self.fileno(), self.waiting)
+                end = time.monotonic() + TAKES
+            piece = read(self.fileno()) if events & READ else None
+            if piece == b"":
+                return False
+            for line in self.lines.fed(piece or b""):
+                told, _, rest = line.partition(" ")
+                name, _, more = rest.partition(" ")
+                if name == self.name and told == REFUSED:
+                    raise Fault(f"session {self.session.name}: {printable(more)}. Nothing was typed")
+                if name == self.name:
+                    return told == word
+        raise Fault(f"session {self.session.name}: what keeps its shells doesn't take the text")
+
+    def is_held(self, data: bytes, is_plain: bool) -> bool:
+        """Gives a text, and tells whether the keeper holds it; False where none is there that takes any."""
+        self.waiting += f"give {self.name} {len(data)}{' plain' if is_plain else ''}\n".encode() + data
+        return self.answer(HELD)
+
+
+def given(session: FolderSession, data: bytes, is_plain: bool) -> TextGiver | None:
+    """The connection to a keeper that holds a text; None where none is there that takes any."""
+    try:
+        giver = TextGiver(session)
+    except OSError:
+        return None
+    if giver.is_held(data, is_plain):
+        return giver
+    giver.peer.close()
+    return None
+
+
+def type_text(session: FolderSession, text: str, pane: int, is_plain: bool) -> int:
+    """Has a text typed, whole and at one place among all acts, into a pane or that in focus: between brackets where its program wants them
+    and it isn't plain. Where no keeper takes it, as an earlier roam's, it is typed as acts."""
+    focus = pane_places(session, pane).focus if pane else 0
+    data = text.encode("utf-8", "replace")
+    if not data:
+        raise Fault("there is nothing to be typed")
+    if len(data) > MOST_BYTES:
+        raise Fault(f"a text has {MOST_BYTES >> 20} MB at most; nothing was typed")
+    giver = given(session, data, is_plain)
+    acts = mark_acts(giver.name) if giver else pasted_acts(text, not is_plain and wants_brackets(session, pane))
+    type_lines(session, opened(session, False), lines_in_pane(acts, pane, focus, "paste ; "))
+    if giver and not giver.answer(PUT):
+        raise Fault(f"session {session.name}: what keeps its shells ended, and nothing was typed")
+    return 0
+
+
+def read_text(is_raw: bool) -> str:
+    """What of standard input is pasted: of control characters TAB and CR alone, and ESC where it is raw; then no bracket is left in it."""
+    data = sys.stdin.buffer.read(MOST_BYTES + 1)
+    if len(data) > MOST_BYTES:
+        raise Fault(f"a text has {MOST_BYTES >> 20} MB at most; nothing was typed")
+    text = cleaned(data.decode("utf-8", "replace"), is_raw)
+    return without_brackets(text.encode("utf-8", "replace")).decode("utf-8", "replace") if is_raw else text

@@ -1,0 +1,175 @@
+"""What a person pastes, which is kept until its end, and what is typed behind it."""
+from __future__ import annotations
+
+from collections import deque
+from collections.abc import Callable
+
+from roam_live.keys import pasted_acts
+from roam_live.loops import Loop
+from roam_live.shells_link import HELD, LOST, REFUSED, UNTOLD
+from roam_live.texts import MOST_BYTES, cleaned, mark_acts, random_name
+
+TYPE_CHECKING = False
+if TYPE_CHECKING:
+    from roam_live.following import PanesFollower
+    from roam_live.links import StartLink
+    from roam_live.shells_link import ShellsLink
+
+# A paste of so many characters at most is typed as acts.
+SHORT = 40
+
+# One of which nothing more comes for so many seconds is taken for whole, so that a terminal that tells no end keeps nothing back.
+ENDS = 5.0
+
+# So many seconds a keeper has for taking a text; so many acts wait behind one at most before no more is read.
+HANDING = 60.0
+MOST_BEHIND = 1 << 16
+
+# The act of C-c, by which a person drops what waits.
+INTERRUPT = "char 3"
+
+NOT_TAKEN = "nothing is pasted: what keeps the shells takes nothing"
+DROPPED = "what was pasted and still waited is dropped"
+LOST_WORDS = "what was pasted last is lost: what keeps the shells ended, or had it for too long"
+TOO_LONG = f"nothing is pasted: it has more than {MOST_BYTES >> 20} MB, or waits behind others that have"
+
+
+class Behind:
+    """Acts that are typed behind a paste."""
+
+    def __init__(self, acts: tuple[str, ...], is_pasted: bool) -> None:
+        self.acts, self.is_pasted = acts, is_pasted
+
+
+class Paste:
+    """A paste for which a mark is typed, once the keeper of the shells holds it."""
+
+    def __init__(self, text: str, is_bracketed: bool) -> None:
+        self.name, self.text, self.is_bracketed = random_name(), text, is_bracketed
+        self.is_held = False
+
+
+class Pastes:
+    """Pastes and acts, in the order in which they come: a short paste as acts, a longer one as a mark, of which the text is handed to the
+    keeper. A call tells why nothing is pasted now, and another tells a person something."""
+
+    def __init__(self, link: StartLink, panes: PanesFollower, shells: ShellsLink | None, loop: Loop, refuses: Callable[[], str],
+                 tells: Callable[[str], object]) -> None:
+        self.link, self.panes, self.shells, self.loop, self.refuses, self.tells = link, panes, shells, loop, refuses, tells
+        # What came of a paste, and why nothing of it is typed.
+        self.pieces: list[str] = []
+        self.size = 0
+        self.why = ""
+        self.waiting: deque[Behind | Paste] = deque()
+        if shells:
+            shells.answers = self.answered
+
+    # ---- what is pasted
+
+    def begin(self, why: str = "") -> None:
+        """A paste begins; nothing of it is typed where it is told why, or nothing is pasted now, nor as it ends."""
+        self.pieces, self.size, self.why = [], 0, why or self.refuses()
+
+    def add(self, text: str) -> None:
+        """More of it comes."""
+        self.size += len(text)
+        if not self.why and self.size + self.handing() > MOST_BYTES:
+            self.why = TOO_LONG
+        if self.why:
+            self.pieces = []
+        else:
+            self.pieces.append(text)
+        self.loop.later("paste", ENDS, self.end)
+
+    def end(self) -> None:
+        """It is whole."""
+        self.loop.drop("paste")
+        text, why = cleaned("".join(self.pieces)), self.why or self.refuses()
+        self.pieces, self.size = [], 0
+        if why:
+            self.tells(why)
+        elif text:
+            self.paste(text)
+
+    def handing(self) -> int:
+        """How many characters wait to be handed over."""
+        return sum(len(one.text) for one in self.waiting if isinstance(one, Paste))
+
+    def paste(self, text: str) -> None:
+        """Types a text as acts where it is short, and else hands it over; that too where it isn't known here whether the program wants
+        brackets, as of another machine's."""
+        is_bracketed = self.panes.wants_brackets()
+        is_short = len(text) <= SHORT and self.panes.knows_modes()
+        if is_short or not self.shells or not self.shells.takes_texts():
+            self.type(*pasted_acts(text, is_bracketed), is_pasted=True)
+            return
+        paste, data = Paste(text, is_bracketed), text.encode("utf-8", "replace")
+        if len(data) > MOST_BYTES or not self.shells.has_room(len(data)):
+            self.tells(TOO_LONG)
+            return
+        self.waiting.append(paste)
+        self.shells.give(paste.name, data)
+        self.loop.later(f"hand {paste.name}", HANDING, lambda: self.fail(paste, NOT_TAKEN))
+
+    # ---- what becomes of it
+
+    def answered(self, name: str, word: str, more: str) -> None:
+        """Takes what the keeper tells of a text."""
+        paste = next((one for one in self.waiting if isinstance(one, Paste) and one.name == name), None)
+        if word == LOST:
+            self.tells(LOST_WORDS)
+        if not paste:
+            return
+        if word == HELD:
+            paste.is_held = True
+        elif word == UNTOLD:
+            place = self.waiting.index(paste)
+            self.waiting[place] = Behind(tuple(pasted_acts(paste.text, paste.is_bracketed)), True)
+        else:
+            self.waiting.remove(paste)
+            if word == REFUSED:
+                self.tells(f"nothing is pasted: {more}")
+        self.loop.drop(f"hand {name}")
+        self.type_waiting()
+
+    def fail(self, paste: Paste, why: str) -> None:
+        """Goes on without a paste."""
+        if self.shells:
+            self.shells.cancel(paste.name)
+        self.loop.drop(f"hand {paste.name}")
+        self.waiting.remove(paste)
+        self.tells(why)
+        self.type_waiting()
+
+    # ---- what is typed
+
+    def type(self, *acts: str, is_pasted: bool = False) -> None:
+        """Types acts, behind the pastes that wait; a C-c drops these."""
+        if self.waiting and INTERRUPT in acts and not is_pasted:
+            for paste in [one for one in self.waiting if isinstance(one, Paste)]:
+                self.fail(paste, DROPPED)
+        if not self.waiting:
+            self.link.type(*acts, is_pasted=is_pasted)
+        elif acts:
+            self.waiting.append(Behind(acts, is_pasted))
+
+    def type_waiting(self) -> None:
+        """Types what may be typed now."""
+        while self.waiting:
+            first = self.waiting[0]
+            if isinstance(first, Behind):
+                self.link.type(*first.acts, is_pasted=first.is_pasted)
+            elif first.is_held:
+                # A line of its own, which nothing joins.
+                self.link.say(" ; ".join(["paste", *mark_acts(first.name)]))
+            else:
+                return
+            self.waiting.popleft()
+
+    def is_full(self) -> bool:
+        """Whether so much waits behind a paste that nothing more is to come."""
+        return sum(len(one.acts) for one in self.waiting if isinstance(one, Behind)) >= MOST_BEHIND
+
+    def hands_over(self) -> bool:
+        """Whether a paste waits to be handed over."""
+        return bool(self.waiting)

@@ -1,0 +1,90 @@
+"""Who is at a session: terminals that say so to the keeper of its shells, and what that tells of the others, line by line."""
+from __future__ import annotations
+
+import os
+from collections import namedtuple
+
+# The word by which a terminal says that it is there, or that its size is another; and that by which it asks to be told of the others.
+HERE, WHO = "here", "who"
+
+# What is told then: that another is there, or has another size, that it has left, and, behind these, how many others there are.
+THERE, GONE, OTHERS = "there", "gone", "others"
+
+# The longest name of a terminal, what one does, and the highest numbers of its rows and columns, and of terminals.
+LONGEST_NAME = 64
+KINDS = ("edits", "watches")
+MOST_SIZE, MOST_NUMBER = 99999, 9999999999
+
+# So many others are told of at most; they may be told from another machine.
+MOST_OTHERS = 64
+
+
+class Presence(namedtuple("Presence", "name rows cols kind")):
+    """A terminal that is at a session: its name, its size, and whether it `edits` or `watches`."""
+
+    name: str
+    rows: int
+    cols: int
+    kind: str
+
+    def __str__(self) -> str:
+        return f"{self.name} {self.rows} {self.cols} {self.kind}"
+
+
+def number_in(word: str, most: int) -> int:
+    """The number of a word, from 1 to the most, without a zero before it; else 0."""
+    is_one = word.isascii() and word.isdigit() and word[0] != "0" and len(word) <= len(str(most))
+    return int(word) if is_one and int(word) <= most else 0
+
+
+def presence_in(words: list[str]) -> Presence | None:
+    """The terminal that four words tell; None where they don't."""
+    if len(words) != 4 or words[3] not in KINDS or not 0 < len(words[0]) <= LONGEST_NAME or not all("!" <= one <= "~" for one in words[0]):
+        return None
+    rows, cols = (number_in(word, MOST_SIZE) for word in words[1:3])
+    return Presence(words[0], rows, cols, words[3]) if rows and cols else None
+
+
+def presence_said(line: str) -> Presence | None:
+    """The terminal that says by a line that it is there; None where that isn't such a line."""
+    word, *words = line.split(" ")
+    return presence_in(words) if word == HERE else None
+
+
+def terminal_name() -> str:
+    """The name of this process's terminal behind that of the machine: printable ASCII without blanks, 64 characters at most."""
+    try:
+        path = os.ttyname(0)
+    except OSError:
+        path = "?"
+    name = f"{os.uname().nodename[:32]}:{path[-31:]}"
+    return "".join(letter if "!" <= letter <= "~" else "?" for letter in name)
+
+
+class ToldOthers:
+    """What was told of the others at a session so far."""
+
+    def __init__(self) -> None:
+        self.there: dict[int, Presence] = {}
+        # Whether that is all of them.
+        self.is_whole = False
+
+    def take(self, line: str) -> bool:
+        """Takes a line, and tells whether it can be one of these."""
+        word, *words = line.split(" ")
+        number = number_in(words[0], MOST_NUMBER) if words else 0
+        presence = presence_in(words[1:])
+        if word == THERE and number and presence:
+            if len(self.there) < MOST_OTHERS or number in self.there:
+                self.there[number] = presence
+        elif word == GONE and number and len(words) == 1:
+            self.there.pop(number, None)
+        elif word == OTHERS and (words == ["0"] or 0 < number <= MOST_OTHERS) and len(words) == 1:
+            self.is_whole = number == len(self.there)
+        else:
+            return False
+        return True
+
+    def has_typing(self) -> bool | None:
+        """Whether one of them types; None where that isn't known."""
+        return any(one.kind == "edits" for one in self.there.values()) if self.is_whole else None

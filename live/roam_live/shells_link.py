@@ -1,0 +1,155 @@
+"""A front end's connection to the keeper of a session's shells."""
+from __future__ import annotations
+
+import os
+import socket
+from collections.abc import Callable
+
+from roam_live.following import Following
+from roam_live.loops import Loop
+from roam_live.presence import HERE, WHO, Presence, ToldOthers, terminal_name
+from roam_live.program import connected_now
+from roam_live.texts import MOST_BYTES
+
+TYPE_CHECKING = False
+if TYPE_CHECKING:
+    from roam_live.terminal import Size
+
+# What a keeper tells of a text that it was given, in words behind the text's name where it refuses it; and by what another is known.
+HELD, PUT, LOST, REFUSED = ANSWERS = ("held", "put", "lost", "refused")
+KEEPER = "keeper"
+
+# What is told here of one where no keeper is there that takes any.
+UNTOLD = "untold"
+
+# So many bytes wait for a keeper at most.
+MOST_GIVING = 2 * MOST_BYTES
+
+# So many seconds a keeper that took the connection has for telling who else is there: the one of another machine takes a round trip.
+KNOWS = 2.0
+
+
+class ShellsLink(Following):
+    """The connection, while a keeper is there that knows of it: it tells of this terminal, and is told who else is at the session. A call
+    is for when that is known."""
+
+    again = "follow shells"
+
+    def __init__(self, folder: str | os.PathLike[str] | None, loop: Loop, size: Callable[[], Size], watches: bool,
+                 knows: Callable[[], object]) -> None:
+        path = os.path.join(folder, "shells") if folder else ""
+        super().__init__(lambda: connected_now(path), loop, self.take, self.forget)
+        self.name, self.size, self.kind, self.knows = terminal_name(), size, "watches" if watches else "edits", knows
+        # What was said of this terminal, and what was told of the others.
+        self.said = ""
+        self.others = ToldOthers()
+        # Whether a keeper was there that tells so much, by which name it is known, and whether it is there now.
+        self.is_known = False
+        self.keeper = ""
+        self.is_there = False
+        # Texts that aren't held yet, by their names, and those that are, and aren't known to be put; a call tells what becomes of one, as
+        # by the word of the keeper, with more words or none.
+        self.giving: dict[str, bytes] = {}
+        self.given: dict[str, None] = {}
+        self.answers: Callable[[str, str, str], object] = lambda name, word, more: None
+        if folder:
+            self.connect()
+
+    def begin(self, peer: socket.socket) -> None:
+        """Follows a connection that is there."""
+        super().begin(peer)
+        self.said = ""
+        self.say_here()
+        self.ask(WHO)
+
+    def say_here(self) -> None:
+        """Says that this terminal is there, where that, or its size, wasn't said."""
+        line = f"{HERE} {Presence(self.name, *self.size(), self.kind)}"
+        if line != self.said:
+            self.said = line
+            self.ask(line)
+
+    def take(self, lines: list[str]) -> None:
+        """Takes what was told."""
+        for line in lines:
+            word, _, rest = line.partition(" ")
+            if word in ANSWERS:
+                name, _, more = rest.partition(" ")
+                self.answered(name, word, more)
+            elif word == KEEPER:
+                self.meet(rest)
+            else:
+                self.others.take(line)
+        if self.others.is_whole:
+            self.is_known = True
+            self.knows()
+
+    def forget(self) -> None:
+        """Knows no more who is there. Where no keeper was known before, none is there that takes texts."""
+        self.others, self.is_there = ToldOthers(), False
+        if not self.is_known:
+            self.lose(UNTOLD)
+
+    # ---- texts
+
+    def meet(self, name: str) -> None:
+        """Goes on with a keeper: what it doesn't hold yet is given again. To another one all is lost that was given before: what was pasted
+        into a program isn't put into the shell that is in its place."""
+        is_other = self.keeper not in ("", name)
+        self.keeper, self.is_there = name, True
+        if is_other:
+            self.lose(LOST)
+        for text, data in self.giving.items():
+            self.ask_to_take(text, data)
+        for text in self.given:
+            self.ask(f"ask {text}")
+
+    def lose(self, word: str) -> None:
+        """Gives no more of what was to be given, and tells why."""
+        names = [*self.given, *self.giving]
+        self.given.clear()
+        self.giving.clear()
+        for name in names:
+            self.answers(name, word, "")
+
+    def takes_texts(self) -> bool:
+        """Whether a keeper takes texts, as far as is known: one was there, or may tell soon."""
+        return self.is_known or self.is_awaited()
+
+    def has_room(self, length: int) -> bool:
+        """Whether a text of so many bytes may wait here: where a keeper is stopped nothing goes, not even of those that aren't wanted now."""
+        return len(self.waiting) + length <= MOST_GIVING
+
+    def give(self, name: str, data: bytes) -> None:
+        """Has the keeper hold a text: it is given again, where the connection is lost, until it does."""
+        self.giving[name] = data
+        if self.is_there:
+            self.ask_to_take(name, data)
+
+    def ask_to_take(self, name: str, data: bytes) -> None:
+        """Gives a text to the keeper that is there."""
+        self.ask(f"give {name} {len(data)}")
+        self.waiting += data
+
+    def cancel(self, name: str) -> None:
+        """Gives a text no more. One that is half given is given whole, since its bytes are awaited."""
+        self.giving.pop(name, None)
+        self.given.pop(name, None)
+
+    def answered(self, name: str, word: str, more: str) -> None:
+        """Takes what becomes of a text that was given."""
+        if name not in self.giving and name not in self.given:
+            return
+        if self.giving.pop(name, None) is None:
+            del self.given[name]
+        if word == HELD:
+            self.given[name] = None
+        self.answers(name, word, more)
+
+    def is_awaited(self) -> bool:
+        """Whether it isn't known yet who else is there, and may be soon."""
+        return self.peer is not None and not self.others.is_whole and self.loop.clock() < self.since + KNOWS
+
+    def has_others(self) -> bool | None:
+        """Whether somebody else types at the session; None where that isn't known."""
+        return self.others.has_typing()

@@ -1,0 +1,114 @@
+"""A session, or a pane of one, as the words of `mux` name it: NAME, or NAME.P."""
+from __future__ import annotations
+
+import re
+import time
+from collections import namedtuple
+
+from roam_live.loops import comes
+from roam_live.places import ASIDE, ASKED, BEHIND, BRACKETED, ToldPanes
+from roam_live.program import Fault, Lines, connected_in, read, runs_program
+
+TYPE_CHECKING = False
+if TYPE_CHECKING:
+    import socket
+
+    from roam_live.places import Places
+    from roam_live.sessions import FolderSession
+
+PANE = re.compile(r"(?P<name>.+)\.(?P<pane>[1-9])")
+
+# So many seconds a server has for closing a pane.
+CLOSES = 5.0
+
+
+class Target(namedtuple("Target", "name pane")):
+    """A session's name, and the number of a pane of it, or 0."""
+
+    name: str
+    pane: int
+
+
+def target_of(word: str) -> Target:
+    """What a word names: no name of a session has a dot and a digit at its end."""
+    found = PANE.fullmatch(word)
+    return Target(found["name"], int(found["pane"])) if found else Target(word, 0)
+
+
+def pane_places(session: FolderSession, pane: int) -> Places:
+    """Where the panes of a session are, of which one is named; Fault where that isn't told, or it isn't there."""
+    places = session.places()
+    if places is None:
+        raise Fault(f"session {session.name}: where its panes are isn't told")
+    if pane not in places.rects:
+        raise Fault(f"session {session.name} has no pane {pane}")
+    return places
+
+
+class AskedPanes:
+    """A connection to a session's `panes`, by which a command asks once."""
+
+    def __init__(self, peer: socket.socket) -> None:
+        self.peer, self.lines, self.told = peer, Lines(), ToldPanes()
+
+    def heard(self, seconds: float) -> list[str] | None:
+        """The lines that come in so many seconds, as soon as there are some; None where none comes any more."""
+        if not comes(self.peer, max(0.0, seconds)):
+            return []
+        piece = read(self.peer.fileno())
+        if piece == b"":
+            return None
+        lines = self.lines.fed(piece or b"")
+        for line in lines:
+            self.told.take(line)
+        return lines
+
+    def hear_all(self) -> None:
+        """Hears what is told at first, and what comes right behind it."""
+        end = time.monotonic() + ASKED
+        while time.monotonic() < end and self.heard(end - time.monotonic()) is not None:
+            end = min(end, time.monotonic() + BEHIND) if self.told.places() else end
+
+
+def wants_brackets(session: FolderSession, pane: int) -> bool:
+    """Whether the program in a pane, or in the one in focus, is known to want what is pasted between brackets."""
+    try:
+        with connected_in(session.folder / "panes", ASKED) as peer:
+            if runs_program(peer):
+                peer.send(f"{ASIDE}\n".encode())
+            asked = AskedPanes(peer)
+            asked.hear_all()
+    except OSError:
+        return False
+    places = asked.told.places()
+    return places is not None and asked.told.has_set(pane or places.focus, BRACKETED)
+
+
+def close_pane(session: FolderSession, pane: int) -> None:
+    """Closes a pane; Fault tells why that can't be done."""
+    try:
+        with connected_in(session.folder / "panes", ASKED) as peer:
+            asked = AskedPanes(peer)
+            asked.hear_all()
+            life = asked.told.lives.get(pane)
+            if pane not in asked.told.rects or life is None:
+                raise Fault(f"session {session.name} has no pane {pane}")
+            peer.send(f"close {pane} {life}\n".encode())
+            if not is_closed(asked, pane, life):
+                raise Fault(f"session {session.name}: pane {pane} isn't closed")
+    except OSError as fault:
+        raise Fault(f"session {session.name}: where its panes are isn't told") from fault
+
+
+def is_closed(asked: AskedPanes, pane: int, life: str) -> bool:
+    """Whether that making of a pane is closed in time."""
+    end = time.monotonic() + CLOSES
+    while time.monotonic() < end:
+        lines = asked.heard(end - time.monotonic())
+        if lines is None:
+            return False
+        if "last pane" in lines:
+            raise Fault(f"pane {pane} is the last one, and goes with its session")
+        if pane not in asked.told.rects or asked.told.lives.get(pane) != life:
+            return True
+    return False

@@ -1,0 +1,50 @@
+"""Texts that are pasted: what of one is typed, the brackets round it, and the mark that is typed in its place."""
+from __future__ import annotations
+
+import os
+
+# What stands round a paste, to a program that asked for it (xterm, bracketed paste); and what either ends with, but for its last byte.
+OPENS, CLOSES = b"\x1b[200~", b"\x1b[201~"
+BRACKET_ENDS = tuple(begin + kind for begin in (b"\x1b[", b"\xc2\x9b", b"\x9b") for kind in (b"200", b"201"))
+
+# A text has fewer bytes, and all that wait at a keeper have together.
+MOST_BYTES = 1 << 24
+
+# The control characters that are no part of a paste: all but TAB and CR, which LF becomes.
+DROPPED = {*range(0x20), *range(0x7F, 0xA0)} - {0x09, 0x0D}
+ESCAPE = 0x1B
+
+
+def cleaned(text: str, keeps_escape: bool = False) -> str:
+    """What of a text is pasted: LF and CR LF as CR, and no other control character but TAB; ESC too where that is kept."""
+    dropped = DROPPED - {ESCAPE} if keeps_escape else DROPPED
+    return text.replace("\r\n", "\r").replace("\n", "\r").translate(dict.fromkeys(dropped))
+
+
+def without_brackets(text: bytes) -> bytes:
+    """A text without what would end its brackets, or begin others: what joins to one once another was taken out goes too."""
+    if not any(end in text for end in BRACKET_ENDS):
+        return text
+    found, begin = bytearray(), 0
+    while True:
+        end = text.find(b"~", begin)
+        found += text[begin:] if end < 0 else text[begin:end]
+        if end < 0:
+            return bytes(found)
+        bracket = next((one for one in BRACKET_ENDS if found.endswith(one)), b"")
+        if bracket:
+            del found[-len(bracket) :]
+        else:
+            found += b"~"
+        begin = end + 1
+
+
+def random_name() -> str:
+    """A name for a text that nobody gave before: sixteen hexadecimal digits."""
+    return os.urandom(8).hex()
+
+
+def mark_acts(name: str) -> list[str]:
+    """The acts that type the mark of a text: APC, its name and ST, in forms that no key sends. They stand in one line, so that nothing
+    comes between."""
+    return [f"char {ord(letter):x}" for letter in f"\x9f{name}\x9c"]

@@ -1,0 +1,294 @@
+"""What is pasted: in one piece and at its place, between brackets where a program wants that; what becomes of it where something ends."""
+import json
+import os
+import pathlib
+import random
+import shutil
+import signal
+import subprocess
+import time
+
+from tried import Outer, check, comes, noted, said, scene, three_panes, tool
+from scenes.machines import ssh_words
+
+# So many pastes are typed with keys round each, and so many bytes at once are timed.
+PASTES = 100
+LENGTHS = (20_000, 1_000_000)
+
+OPENS, CLOSES = b"\x1b[200~", b"\x1b[201~"
+
+# A shell that asks for brackets, and what has a pane's bytes written into a file.
+BASH = b"PS1='b> ' exec bash --norc --noprofile -i\r"
+LINES = "echo on''e{pad}\necho tw''o{pad}"
+
+# What has vim ask for brackets, whatever its terminal is called.
+VIMRC = r"""set nocompatible autoindent
+let &t_BE = "\<Esc>[?2004h"
+let &t_BD = "\<Esc>[?2004l"
+let &t_PS = "\<Esc>[200~"
+let &t_PE = "\<Esc>[201~"
+"""
+
+
+def pasted(text):
+    """A text as a terminal pastes it."""
+    return OPENS + (text.encode() if isinstance(text, str) else text) + CLOSES
+
+
+def reads(outer, path, modes=""):
+    """Has a pane's bytes be read as they are into a file, by a program that asked for these modes."""
+    outer.type(f"clear; stty raw -echo; printf '{modes}re''ady'; exec cat > {path}\r".encode())
+    outer.shows("ready")
+
+
+def has(path, text, seconds=30.0):
+    """Whether a file comes to have these bytes and no others."""
+    return comes(lambda: path.exists() and path.stat().st_size >= len(text), seconds) and path.read_bytes() == text
+
+
+def waits_for_return(outer, name):
+    """Two pasted lines wait for Return in a shell that asks for brackets, whether they are typed as acts or by a mark."""
+    for form, pad in (("short", ""), ("long", f" {'#' * 40}")):
+        outer.type(b"clear\r")
+        comes(lambda: not any("one" in row for row in outer.rows()))
+        outer.type(pasted(LINES.format(pad=pad)))
+        is_typed = outer.shows("tw''o")
+        time.sleep(1)
+        check(f"{name}: two pasted lines, {form}, wait", is_typed and not any(row.startswith("one") for row in outer.rows()), outer.rows)
+        outer.type(b"\r")
+        check("until Return", comes(lambda: any(row.startswith("two") for row in outer.rows())), outer.rows)
+
+
+@scene
+def paste_lines(folder):
+    """Two pasted lines wait for Return in bash, and vim takes a paste as it is; what is pasted is neither a binding nor an answer."""
+    outer = Outer(tool("mux", "other"))
+    outer.shows("$ ")
+    outer.type(BASH)
+    outer.shows("b> ")
+    waits_for_return(outer, "bash")
+    outer.type(b"\x15\x02%")
+    outer.status(" 1 [2]")
+    outer.type(b"sleep 1000\r\x02x")
+    check("a question stands", outer.status("close sleep in pane 2?"), outer.rows)
+    outer.type(pasted("y" * 50 + "\n"))
+    check("to which a paste is a no", outer.status("nothing is pasted: a question was there"), outer.rows)
+    outer.type(b"\x03\x02[\x1b[A")
+    outer.status("1 rows back")
+    outer.type(pasted("echo pas''ted" + " " * 40) + b"\r")
+    check("it ends the scroll mode", outer.shows("pasted") and outer.status(" 1 [2]"), outer.rows)
+    watcher = Outer(tool("mux", "watch", "other"))
+    watcher.shows("pasted")
+    watcher.type(pasted("never" * 20))
+    check("a terminal that watches says so", watcher.status("nothing is pasted: this terminal only watches"), watcher.rows)
+    if shutil.which("vim"):
+        path = folder / "text"
+        (folder / "vimrc").write_text(VIMRC, encoding="utf-8")
+        text = "".join(f"{' ' * (4 * k)}line {k} \u00e9\u4e2d {{\n" for k in range(12))
+        outer.type(f"vim -u {folder / 'vimrc'} {path}\r".encode())
+        outer.shows("~  ")
+        outer.type(b"i")
+        time.sleep(1)
+        outer.type(pasted(text))
+        outer.shows("line 11")
+        outer.type(b"\x1b")
+        time.sleep(0.5)
+        outer.type(b":wq\r")
+        check("vim with autoindent gets a paste as it is", has(path, (text + "\n").encode()), outer.rows)
+    subprocess.run(tool("mux", "kill", "-f", "other"), check=True)
+
+
+@scene
+def paste_speed(folder):
+    """Large pastes arrive whole, and soon."""
+    outer = three_panes()
+    path = folder / "pasted"
+    reads(outer, path, r"\033[?2004h")
+    whole = b""
+    for length in LENGTHS:
+        text = bytes(random.Random(length).choices(range(0x20, 0x7F), k=length))
+        whole += pasted(text)
+        begun = time.monotonic()
+        outer.type(pasted(text))
+        check(f"a paste of {length} bytes arrives whole, between brackets", has(path, whole), path.stat().st_size)
+        print(f"        in {time.monotonic() - begun:.2f} s", flush=True)
+    outer.type(pasted("a\x1b[20\x1b[A\x07\x9b201~\tb" + "c" * 50))
+    check("no control character comes in one", has(path, whole + pasted("a[20[A201~\tb" + "c" * 50)), path.read_bytes()[-80:])
+
+
+def is_in_order(got, texts, keys):
+    """Whether bytes are a terminal's keys and pastes in their order, with another's keys between and in none of them."""
+    place = 0
+    for text, key in zip(texts, keys):
+        for part in (key, text):
+            found = got.find(part, place)
+            if found < 0 or got[place:found].strip(b".,"):
+                return False
+            place = found + len(part)
+    return not got[place:].strip(b".,")
+
+
+@scene
+def paste_order(folder):
+    """A hundred pastes with keys round each, while a second terminal types here and a third over `mux ssh`: each is in one piece, and all
+    that the terminal typed is in its order."""
+    folder = folder / "o"
+    folder.mkdir()
+    far, path = folder / "far", folder / "got"
+    outer = Outer(ssh_words(folder, far, folder / "asked"))
+    outer.shows("$ ")
+    beside = Outer(tool("mux", "attach", "other"), environment={"XDG_RUNTIME_DIR": str(far)})
+    beside.shows("$ ")
+    reads(outer, path)
+    chance = random.Random(7)
+    for name, types, others in (("over mux ssh", outer, beside), ("there", beside, outer)):
+        before = path.stat().st_size
+        texts = [bytes(chance.choices(range(0x30, 0x7A), k=chance.choice((20, 100, 700)))) for _ in range(PASTES)]
+        keys = [f"<{number}>".encode() for number in range(PASTES)]
+        for text, key in zip(texts, keys):
+            types.type(key + pasted(text))
+            others.type(b"." if types is outer else b",")
+            time.sleep(0.02)
+        types.type(b"<end>")
+        comes(lambda: path.read_bytes().rstrip(b".,").endswith(b"<end>"), 60)
+        got = path.read_bytes()[before:]
+        check(f"{PASTES} pastes {name}, in order and in one piece each", is_in_order(got, [*texts, b""], [*keys, b"<end>"]), got[-3000:])
+        is_all = comes(lambda: sum(map(path.read_bytes()[before:].count, (b".", b","))) == PASTES)
+        check("and every key beside them", is_all, got.count(b"."))
+    outer.type(b"\x02d")
+    outer.ends()
+    subprocess.run(tool("mux", "kill", "-f", "other"), env={**os.environ, "XDG_RUNTIME_DIR": str(far)}, check=True)
+
+
+@scene
+def paste_lost(folder):
+    """Where the keeper of the shells is stopped a paste and what is typed behind it wait; where it is killed nothing is typed, and the
+    front end says so; a C-c drops what waits."""
+    outer, path = Outer(tool("mux", "other")), folder / "got"
+    outer.shows("$ ")
+    reads(outer, path)
+    keeper = noted("other")["shells"][0]
+    os.kill(keeper, signal.SIGSTOP)
+    text = b"x" * 5000
+    outer.type(b"<" + pasted(text) + b">")
+    outer.type(b"\x02?")
+    check("while the keeper is stopped the front end goes on", outer.shows("these keys"), outer.rows)
+    outer.type(b"q")
+    os.kill(keeper, signal.SIGCONT)
+    check("once it is continued all comes, in order", has(path, b"<" + text + b">"), path.read_bytes)
+    os.kill(keeper, signal.SIGSTOP)
+    outer.type(pasted(text) + b"a")
+    time.sleep(0.5)
+    outer.type(b"\x03")
+    check("a C-c drops a paste that waits", outer.status("what was pasted and still waited is dropped"), outer.rows)
+    os.kill(keeper, signal.SIGCONT)
+    check("and goes, with the keys before it", has(path, b"<" + text + b">a\x03"), path.read_bytes)
+    os.kill(keeper, signal.SIGSTOP)
+    outer.type(pasted("echo ne''ver" + " " * 40 + "\n"))
+    time.sleep(0.5)
+    os.kill(keeper, signal.SIGKILL)
+    check("where the keeper is killed the front end says that it is lost", outer.status("what was pasted last is lost"), outer.rows)
+    outer.shows("[a new shell; ")
+    time.sleep(1)
+    outer.type(b"echo af''ter\r")
+    is_typed = outer.shows("after")
+    check("and nothing of it is typed", is_typed and not any("never" in row or "ne''ver" in row for row in outer.rows()), outer.rows)
+    outer.type(pasted("echo ag''ain" + " " * 40) + b"\r")
+    check("the next one is", outer.shows("again"), outer.rows)
+    subprocess.run(tool("mux", "kill", "-f", "other"), check=True)
+
+
+@scene
+def paste_far(folder):
+    """Over `mux ssh` pastes have brackets where the program there wants them, short ones too; they go on where the far end is killed."""
+    folder = folder / "p"
+    folder.mkdir()
+    far, path = folder / "far", folder / "got"
+    outer = Outer(ssh_words(folder, far, folder / "asked"))
+    outer.shows("$ ")
+    outer.type(BASH)
+    outer.shows("b> ")
+    waits_for_return(outer, "over mux ssh")
+    reads(outer, path, r"\033[?2004h")
+    text = bytes(random.Random(3).choices(range(0x20, 0x7F), k=200_000))
+    begun = time.monotonic()
+    outer.type(pasted(text))
+    check("200,000 bytes arrive whole", has(path, pasted(text)), path.stat().st_size)
+    print(f"        in {time.monotonic() - begun:.2f} s", flush=True)
+    here = next(pathlib.Path(os.environ["XDG_RUNTIME_DIR"], "roam").glob("ssh:*"))
+    keys = b""
+    for number in range(3):
+        outer.type(b"%d" % number + pasted(text))
+        keys += b"%d" % number + pasted(text)
+        ends = [int(note.read_text(encoding="utf-8").split()[0]) for note in far.glob("roam/other/relays/*")]
+        time.sleep(0.02 * number)
+        for process in ends:
+            os.kill(process, signal.SIGKILL)
+        outer.type(b"%d" % number)
+        keys += b"%d" % number
+        check(f"{number}: cut and joined again it comes once, at its place", has(path, pasted(text) + keys, 60), path.stat().st_size)
+    check("and the relay here is the one that was", json.loads((here / "state.json").read_text(encoding="utf-8"))["relay"], here)
+    outer.type(b"\x02d")
+    outer.ends()
+    subprocess.run(tool("mux", "kill", "-f", "other"), env={**os.environ, "XDG_RUNTIME_DIR": str(far)}, check=True)
+
+
+def fed(words, text):
+    """The status of `mux` with words, which reads a text, and what it says on standard error."""
+    run = subprocess.run(tool("mux", *words), input=text, stdout=subprocess.PIPE, stderr=subprocess.PIPE, check=False)
+    return run.returncode, run.stderr.decode()
+
+
+@scene
+def paste_words(folder):
+    """`mux paste` and `mux send -l` type a text in one piece, and NAME.P is a pane for what types, captures and ends."""
+    outer = Outer(tool("mux", "other"))
+    outer.shows("$ ")
+    paths = [folder / name for name in ("one", "two")]
+    outer.type(b"\x02%")
+    outer.status(" 1 [2]")
+    for keys, path in ((b"\x021", paths[0]), (b"\x022", paths[1])):
+        outer.type(keys)
+        reads(outer, path, r"\033[?2004h")
+    text = b"a\r\n\x1b[31mred\x1b[201~\tb\x00" + bytes(random.Random(9).choices(range(0x20, 0x7F), k=50_000))
+    plain = text.replace(b"\r\n", b"\r").replace(b"\x00", b"")
+    ways = ((["other.1"], paths[0], plain.replace(b"\x1b", b"")), (["--raw", "other"], paths[1], plain.replace(CLOSES, b"")))
+    for words, path, wanted in ways:
+        told = fed(["paste", *words], text)
+        check(f"mux paste {' '.join(words)}", told == (0, "") and has(path, pasted(wanted)), told)
+    check("mux send -l TEXT NAME.1", said("send", "-l", "t\u00e9xt", "other.1") == (0, "", ""), said("ls"))
+    check("has no brackets", comes(lambda: paths[0].read_bytes().endswith(CLOSES + "t\u00e9xt".encode())), paths[0].read_bytes)
+    check("mux send NAME.1 ACT", said("send", "other.1", "char 41", "key up") == (0, "", ""), said("ls"))
+    check("types there", comes(lambda: paths[0].read_bytes().endswith(b"A\x1b[A")), paths[0].read_bytes)
+    check("and the focus is where it was", outer.status(" 1 [2]"), outer.rows)
+    told = said("capture", "other.1")
+    check("mux capture NAME.1 prints that pane", told[0] == 0 and told[1].split("\n")[0] == "ready" and "\u2502" not in told[1], told)
+    check("a pane that isn't there is told of", fed(["paste", "other.7"], b"x") == (1, "mux: session other has no pane 7\n"), said("ls"))
+    check("nothing to be pasted too", fed(["paste", "other"], b"\0") == (1, "mux: there is nothing to be typed\n"), said("ls"))
+    told = said("kill", "other.1")
+    is_refused = told[0] == 1 and "runs cat in pane 1; `mux kill -f other.1`" in told[2]
+    check("mux kill NAME.P asks where something else than a shell runs", is_refused, told)
+    check("and closes it by -f", said("kill", "-f", "other.1") == (0, "", "") and outer.status("[2]"), outer.rows)
+    told = said("kill", "-f", "other.2")
+    check("but the last one", told == (1, "", "mux: pane 2 is the last one, and goes with its session\n"), told)
+    subprocess.run(tool("mux", "kill", "-f", "other"), check=True)
+
+
+@scene
+def focus_told(folder):
+    """A program that asked for reports of the focus has one each time that it comes and goes."""
+    outer, path = Outer(tool("mux", "other")), folder / "got"
+    outer.shows("$ ")
+    outer.type(b"\x02%")
+    outer.status(" 1 [2]")
+    outer.type(b"\x021")
+    reads(outer, path, r"\033[?1004h")
+    time.sleep(0.5)
+    for keys, wanted in ((b"\x022", b"\x1b[O"), (b"\x021", b"\x1b[O\x1b[I"), (b"\x02o\x02o", b"\x1b[O\x1b[I\x1b[O\x1b[I")):
+        outer.type(keys)
+        comes(lambda: path.read_bytes().startswith(wanted), 3)
+        time.sleep(0.3)
+        got = path.read_bytes()
+        is_told = got == wanted or keys.count(b"o") and got in (wanted, wanted[:6])
+        check(f"{keys!r} is reported", is_told, got)
+    subprocess.run(tool("mux", "kill", "-f", "other"), check=True)

@@ -1,0 +1,356 @@
+"""What a person pastes: as acts where it is short, and else handed to the keeper of the shells, with a mark typed in its place."""
+import unittest
+from unittest import mock
+
+from aids import Case, StillLoop
+from roam_live import pastes
+from roam_live.following import PAUSES
+from roam_live.keys import BRACKETS
+from roam_live.pastes import DROPPED, ENDS, HANDING, LOST_WORDS, MOST_BEHIND, NOT_TAKEN, SHORT, TOO_LONG, Pastes
+from roam_live.shells_link import MOST_GIVING, UNTOLD, ShellsLink
+from roam_live.texts import mark_acts
+from test_display import Person, PlayedPanes, StartLink, places
+from test_shells_socket import Sockets
+
+LONG = "x" * (SHORT + 1)
+
+
+class Line(StartLink):
+    """What is typed, a line each time."""
+
+    def type(self, *acts, is_pasted=False):
+        """Keeps acts, and whether they were pasted."""
+        self.lines.append(("paste ; " if is_pasted else "") + " ; ".join(acts))
+
+
+class Shells:
+    """What the keeper is asked for, and what it tells is told by hand."""
+
+    def __init__(self):
+        self.takes, self.gave, self.cancelled, self.answers, self.room = True, {}, [], None, None
+
+    def takes_texts(self):
+        """Whether it takes texts."""
+        return self.takes
+
+    def give(self, name, data):
+        """Keeps what is given."""
+        self.gave[name] = data
+
+    def has_room(self, length):
+        """Whether so many bytes more may wait."""
+        return self.room is None or length <= self.room
+
+    def cancel(self, name):
+        """Keeps what isn't given any more."""
+        self.cancelled.append(name)
+
+
+class Handed(Case):
+    """Pastes with a keeper that is played."""
+
+    def setUp(self):
+        self.loop, self.link, self.shells, self.said = StillLoop(lambda: self.now), Line(), Shells(), []
+        self.panes = PlayedPanes(mock.Mock(told=None))
+        self.why = ""
+        self.pastes = Pastes(self.link, self.panes, self.shells, self.loop, lambda: self.why, self.said.append)
+        self.names = iter(f"{number:016x}" for number in range(1, 1000))
+        self.patch_of(pastes, "random_name", side_effect=lambda: next(self.names))
+
+    def paste(self, text, why=""):
+        """Pastes a text."""
+        self.pastes.begin(why)
+        self.pastes.add(text[:3])
+        self.pastes.add(text[3:])
+        self.pastes.end()
+
+    def tell(self, number, word, more=""):
+        """Has the keeper tell of a text."""
+        self.shells.answers(f"{number:016x}", word, more)
+
+    def mark(self, number):
+        """The line that types a mark."""
+        return " ; ".join(["paste", *mark_acts(f"{number:016x}")])
+
+    def test_short(self):
+        """Up to 40 characters go as acts, between brackets where the program wants them; one more is handed over."""
+        self.paste("a\r\nb\x1b\tc")
+        self.panes.brackets = True
+        self.paste("ab")
+        self.assertEqual(self.link.lines, ["paste ; char 61 ; key return ; char 62 ; char 9 ; char 63",
+                                           "paste ; " + " ; ".join([*BRACKETS[0], "char 61", "char 62", *BRACKETS[1]])])
+        self.paste("y" * SHORT)
+        self.paste("\u00e9\r\n\x1b\x7f" + "z" * SHORT)
+        self.assertEqual((len(self.link.lines), self.shells.gave), (3, {f"{1:016x}": ("\u00e9\r" + "z" * SHORT).encode()}))
+        self.assertEqual((SHORT, HANDING, ENDS), (40, 60.0, 5.0))
+
+    def test_modes_unknown(self):
+        """Where it isn't told here whether the program wants brackets, as of another machine's, a short one is handed over too."""
+        self.panes.knows = False
+        self.paste("ab")
+        self.assertEqual((self.link.lines, list(self.shells.gave.values())), ([], [b"ab"]))
+        self.shells.takes = False
+        self.paste("cd")
+        self.assertEqual(self.link.lines, [])
+        self.tell(1, UNTOLD)
+        self.assertEqual(self.link.lines, ["paste ; char 61 ; char 62", "paste ; char 63 ; char 64"])
+
+    def test_held(self):
+        """The mark is typed once the text is held, and what was typed behind it after that; other pastes in their order."""
+        self.paste(LONG)
+        self.pastes.type("char 61")
+        self.paste(LONG)
+        self.pastes.type("char 62", "key up")
+        self.assertTrue(self.pastes.hands_over())
+        self.tell(2, "held")
+        self.assertEqual(self.link.lines, [])
+        self.tell(1, "held")
+        self.assertEqual(self.link.lines, [self.mark(1), "char 61", self.mark(2), "char 62 ; key up"])
+        self.pastes.type("char 63")
+        self.assertEqual((self.link.lines[-1], self.pastes.hands_over(), self.loop.due), ("char 63", False, {}))
+        self.tell(1, "put")
+        self.assertEqual(self.said, [])
+        self.tell(2, "lost")
+        self.assertEqual(self.said, [LOST_WORDS])
+
+    def test_lost_before_held(self):
+        """One that is lost before it is held is told of, and nothing is typed of it."""
+        self.paste(LONG)
+        self.pastes.type("char 61")
+        self.tell(1, "lost")
+        self.assertEqual((self.link.lines, self.said, self.loop.due), (["char 61"], [LOST_WORDS], {}))
+
+    def test_refused(self):
+        """What is refused is told in words, and what was typed behind it goes."""
+        self.paste(LONG)
+        self.pastes.type("char 61")
+        self.tell(1, "refused", "16 MB wait to be pasted")
+        self.assertEqual((self.link.lines, self.said), (["char 61"], ["nothing is pasted: 16 MB wait to be pasted"]))
+
+    def test_not_taken(self):
+        """A keeper that takes nothing for 60 seconds is told of, and what was typed behind it goes."""
+        self.paste(LONG)
+        self.pastes.type("char 61")
+        self.now += HANDING - 1
+        self.loop.do_due()
+        self.assertEqual(self.link.lines, [])
+        self.now += 1
+        self.loop.do_due()
+        self.assertEqual((self.link.lines, self.said, self.shells.cancelled), (["char 61"], [NOT_TAKEN], [f"{1:016x}"]))
+        self.tell(1, "held")
+        self.assertEqual(self.link.lines, ["char 61"])
+
+    def test_interrupted(self):
+        """A C-c that is typed behind pastes that wait drops them, and no other keys; one that is pasted doesn't."""
+        self.paste(LONG)
+        self.pastes.type("char 61")
+        self.paste(LONG)
+        self.pastes.type("char 62")
+        self.pastes.type("char 3")
+        self.assertEqual((self.link.lines, self.said), (["char 61", "char 62", "char 3"], [DROPPED] * 2))
+        self.pastes.type("char 3")
+        self.assertEqual(self.link.lines[-1], "char 3")
+        self.assertFalse(self.loop.due)
+
+    def test_no_keeper(self):
+        """Where no keeper takes texts a long one goes as acts too."""
+        self.panes.brackets, self.shells.takes = True, False
+        self.paste(LONG)
+        alone = Pastes(self.link, self.panes, None, self.loop, lambda: "", self.said.append)
+        alone.begin()
+        alone.add(LONG)
+        alone.end()
+        acts = [*BRACKETS[0], *["char 78"] * len(LONG), *BRACKETS[1]]
+        self.assertEqual(self.link.lines, ["paste ; " + " ; ".join(acts)] * 2)
+
+    def test_dropped(self):
+        """Nothing of one is typed where it is told why, as it begins or ends; it takes no memory meanwhile."""
+        self.pastes.begin("not here")
+        self.pastes.add(LONG)
+        self.assertEqual(self.pastes.pieces, [])
+        self.pastes.end()
+        for before, behind in (("not now", ""), ("", "not then")):
+            self.why = before
+            self.pastes.begin()
+            self.pastes.add(LONG)
+            self.why = behind
+            self.pastes.end()
+        self.assertEqual((self.said, self.link.lines, self.shells.gave), (["not here", "not now", "not then"], [], {}))
+
+    def test_unended(self):
+        """One of which nothing more comes for five seconds is typed; what comes later is a paste of its own."""
+        self.pastes.begin()
+        self.pastes.add("ab")
+        self.now += ENDS
+        self.loop.do_due()
+        self.pastes.add("c")
+        self.pastes.end()
+        self.pastes.end()
+        self.assertEqual(self.link.lines, ["paste ; char 61 ; char 62", "paste ; char 63"])
+
+    def test_too_long(self):
+        """More than 16 MB is told of, and not kept; so is what is that long in UTF-8, or with what waits."""
+        self.assertEqual((pastes.MOST_BYTES, MOST_GIVING), (1 << 24, 1 << 25))
+        self.patch_of(pastes, "MOST_BYTES", 1000)
+        for text, before in (("x" * 1001, 0), ("\u4e2d" * 500, 0), ("x" * 990, 1)):
+            if before:
+                self.paste(LONG)
+            self.pastes.begin()
+            self.pastes.add(text)
+            self.pastes.end()
+        self.assertEqual((self.said, len(self.shells.gave), self.pastes.size), ([TOO_LONG] * 3, 1, 0))
+        self.shells.room = len(LONG)
+        self.paste(LONG)
+        self.paste(LONG + "x")
+        self.assertEqual((self.said[3:], len(self.shells.gave)), ([TOO_LONG], 2))
+
+    def test_full(self):
+        """So much may be typed behind one before no more is read."""
+        self.paste(LONG)
+        self.pastes.type(*["char 61"] * (MOST_BEHIND - 1))
+        self.assertFalse(self.pastes.is_full())
+        self.pastes.type("char 61")
+        self.assertTrue(self.pastes.is_full())
+        self.tell(1, "held")
+        self.assertFalse(self.pastes.is_full())
+
+
+class Given(Sockets):
+    """Texts that a front end's connection gives to the keeper."""
+
+    def setUp(self):
+        super().setUp()
+        self.told = []
+        self.made_link = ShellsLink(self.folder, StillLoop(lambda: self.now), lambda: (24, 80), False, lambda: None)
+        self.made_link.answers = lambda *words: self.told.append(words)
+        self.addCleanup(self.made_link.leave)
+        self.names = [f"{number:016x}" for number in range(5)]
+
+    def turn(self, count=16):
+        """Turns of both."""
+        for _ in range(count):
+            self.made_link.loop.turn()
+            self.loop.turn()
+
+    def test_given(self):
+        """A text is held, and put; what isn't known here is nothing."""
+        link = self.made_link
+        self.assertTrue(link.takes_texts())
+        link.give(self.names[0], b"text" * 50000)
+        self.turn()
+        self.assertEqual((self.told, link.giving), ([(self.names[0], "held", "")], {}))
+        self.socket.texts.placed(self.names[0])
+        self.turn()
+        self.assertEqual((self.told[1:], link.given), ([(self.names[0], "put", "")], {}))
+        link.take([f"held {self.names[3]}", f"lost {self.names[0]}", f"put {self.names[0]}"])
+        self.assertEqual(len(self.told), 2)
+
+    def test_refused(self):
+        """One for which there is no room is told with the words of the keeper."""
+        self.turn()
+        with mock.patch.object(self.socket.texts, "refusal", return_value="16 MB wait to be pasted"):
+            self.made_link.give(self.names[0], b"text")
+            self.turn()
+        self.assertEqual(self.told, [(self.names[0], "refused", "16 MB wait to be pasted")])
+
+    def test_lost(self):
+        """Where the connection is lost a text is given again until it is held; of one that was held it is asked then."""
+        link = self.made_link
+        self.turn()
+        link.give(self.names[0], b"one")
+        self.turn()
+        link.give(self.names[1], b"two" * 100000)
+        link.loop.turn()
+        self.socket.drop(self.socket.peers[0])
+        self.turn(2)
+        self.assertEqual((list(link.giving), list(link.given), self.socket.texts.coming), ([self.names[1]], [self.names[0]], 0))
+        self.socket.texts.placed(self.names[0])
+        self.now += PAUSES[0]
+        self.turn()
+        self.assertEqual(self.told, [(self.names[0], "held", ""), (self.names[1], "held", ""), (self.names[0], "put", "")])
+        self.assertEqual(self.socket.texts.texts[self.names[1]].data, b"two" * 100000)
+
+    def test_another_keeper(self):
+        """What one before held, or was given, is lost to another keeper, which isn't given it."""
+        self.turn()
+        self.made_link.give(self.names[0], b"one")
+        self.turn()
+        self.made_link.give(self.names[1], b"two")
+        self.socket.close()
+        self.turn(2)
+        self.socket = type(self.socket)(self.folder, self.loop)
+        self.addCleanup(self.socket.close)
+        self.now += PAUSES[0]
+        self.turn()
+        self.assertEqual(self.told, [(self.names[0], "held", ""), *((name, "lost", "") for name in self.names[:2])])
+        self.assertEqual((self.socket.texts.texts, self.made_link.giving, self.made_link.given), ({}, {}, {}))
+        self.made_link.give(self.names[2], b"three")
+        self.turn()
+        self.assertEqual(self.told[3:], [(self.names[2], "held", "")])
+
+    def test_none(self):
+        """A socket that ends the connection before it tells anything takes no text, which is told at once."""
+        folder = self.made_folder()
+        listener = self.listening(folder / "shells")
+        link = ShellsLink(folder, StillLoop(lambda: self.now), lambda: (24, 80), False, lambda: None)
+        link.answers = lambda *words: self.told.append(words)
+        self.assertTrue(link.takes_texts())
+        link.give(self.names[0], b"one")
+        self.taken(listener).close()
+        link.loop.turn()
+        link.loop.turn()
+        self.assertEqual((self.told, link.takes_texts(), link.giving), ([(self.names[0], UNTOLD, "")], False, {}))
+
+    def test_cancelled(self):
+        """One that isn't wanted any more isn't given again; what was begun of it goes on."""
+        self.turn()
+        self.made_link.give(self.names[0], b"one")
+        self.assertEqual(self.made_link.waiting, f"give {self.names[0]} 3\none".encode())
+        self.made_link.cancel(self.names[0])
+        self.made_link.cancel(self.names[0])
+        room = MOST_GIVING - len(self.made_link.waiting)
+        self.assertEqual([self.made_link.has_room(length) for length in (room + 1, room)], [False, True])
+        self.turn()
+        self.assertEqual((self.told, list(self.socket.texts.texts)), ([], [self.names[0]]))
+
+
+class Persons(unittest.TestCase):
+    """What a person at a terminal pastes where it means something else."""
+
+    def person(self, **more):
+        """A person who is shown a session."""
+        person = Person(24, 80, told=places(24, 80), **more)
+        person.answers()
+        return person
+
+    def test_watches(self):
+        """At a terminal that watches nothing is pasted, and it says so."""
+        person = self.person(watches=True)
+        acts = person.types(b"\x1b[200~ab\x1b[201~")
+        self.assertEqual((acts, person.display.told), ([], "nothing is pasted: this terminal only watches"))
+
+    def test_asked(self):
+        """At a question a paste is a no, and nothing of it is typed, nor an answer."""
+        person = self.person()
+        person.commands.display.tell("close it? y closes it", None)
+        person.commands.typing.ask()
+        self.assertEqual(person.types(b"\x1b[200~y"), [])
+        self.assertEqual((person.types(b"y\x1b[201~z"), person.display.told), (["char 7a"], "nothing is pasted: a question was there"))
+
+    def test_scrolls(self):
+        """It ends the scroll mode."""
+        person = self.person()
+        person.types(b"\x02[kk")
+        self.assertEqual(person.types(b"\x1b[200~ab"), ["view -500"])
+        self.assertEqual((person.types(b"\x1b[201~"), person.display.told), (["char 61", "char 62"], ""))
+
+    def test_paused(self):
+        """Where no start is there nothing is pasted, which is told; what is in it neither leaves nor is a key."""
+        person = self.person()
+        person.commands.paused = True
+        self.assertEqual(person.types(b"\x1b[200~q\x03\x1b[201~"), [])
+        self.assertEqual((person.left, person.display.told), (None, "nothing is pasted where the session isn't shown"))
+
+
+if __name__ == "__main__":
+    unittest.main()

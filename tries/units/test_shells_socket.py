@@ -1,0 +1,378 @@
+"""The keeper's socket `shells`: who is at a session, as each terminal says it and the others are told."""
+import os
+import socket
+import unittest
+from unittest import mock
+
+from aids import Case, StillLoop, read_now
+from roam_live import fronts, presence
+from roam_live.following import PAUSES
+from roam_live.presence import MOST_OTHERS, Presence, ToldOthers, presence_said, terminal_name
+from roam_live.shells import LONGEST_LINE, MOST_PEERS, MOST_WAITING, ShellsSocket
+from roam_live.shells_link import KNOWS, ShellsLink
+
+A, B = "here:/dev/pts/1 24 80 edits", "there:/dev/pts/2 12 40 watches"
+
+
+NAMED = "00112233445566aa"
+
+
+class Sockets(Case):
+    """The socket in a folder of its own, at which the keeper has a name."""
+
+    def setUp(self):
+        self.folder = self.made_folder()
+        self.loop = StillLoop(lambda: self.now)
+        self.socket = ShellsSocket(self.folder, self.loop)
+        self.socket.name = NAMED
+        self.addCleanup(self.socket.close)
+
+    def connect(self, text=b""):
+        """One who connects, and says this."""
+        one = socket.socket(socket.AF_UNIX, socket.SOCK_STREAM)
+        self.addCleanup(one.close)
+        one.connect(str(self.folder / "shells"))
+        one.setblocking(False)
+        one.send(text)
+        self.loop.turns(3)
+        return one
+
+    def say(self, one, text):
+        """Has one say this."""
+        one.send(text)
+        self.loop.turns(3)
+
+
+class Told(Sockets):
+    """What those are told who ask."""
+
+    def test_others(self):
+        """Who asks is told who else is there, and each change; itself it isn't told of, nor who has said nothing."""
+        first = self.connect(f"here {A}\nwho\n".encode())
+        self.assertEqual(read_now(first), f"keeper {NAMED}\nothers 0\n".encode())
+        self.connect()
+        second = self.connect(f"here {B}\n".encode())
+        self.assertEqual((read_now(first), read_now(second)), (f"there 3 {B}\nothers 1\n".encode(), b""))
+        self.say(second, b"who\n")
+        self.assertEqual(read_now(second), f"keeper {NAMED}\nthere 1 {A}\nothers 1\n".encode())
+        self.say(first, b"here here:/dev/pts/1 20 80 edits\n")
+        self.assertEqual((read_now(first), read_now(second)), (b"", b"there 1 here:/dev/pts/1 20 80 edits\nothers 1\n"))
+        self.say(first, b"here here:/dev/pts/1 20 80 edits\n")
+        self.assertEqual(read_now(second), b"")
+        first.close()
+        self.loop.turns(3)
+        self.assertEqual(read_now(second), b"gone 1\nothers 0\n")
+
+    def test_at_once(self):
+        """Of what comes at once the newest is told, and each number once."""
+        first = self.connect(b"who\n")
+        self.connect("".join(f"here {A.replace('24', str(rows))}\n" for rows in range(1, 31)).encode())
+        self.assertEqual(read_now(first), f"keeper {NAMED}\nothers 0\n".encode() + f"there 2 {A.replace('24', '30')}\nothers 1\n".encode())
+
+    def test_cut(self):
+        """Lines come in any pieces."""
+        text = f"here {A}\nwho\n".encode()
+        for cut in range(len(text)):
+            one = self.connect(text[:cut])
+            self.say(one, text[cut:])
+            self.assertEqual(read_now(one), f"keeper {NAMED}\nothers 0\n".encode())
+            one.close()
+            self.loop.turns(2)
+
+    def test_bad(self):
+        """What is no line is answered so, and the connection goes on."""
+        one = self.connect(b"who\n")
+        read_now(one)
+        for line in ("", "whom", "here", f"here {A} x", "here a\x1b[2J 24 80 edits", "here a 0 80 edits", "here a 24 80 reads",
+                     "here  24 80 edits", f"here {'a' * 65} 24 80 edits", "here a 100000 80 edits", "here \u00e9 24 80 edits"):
+            self.say(one, f"{line}\n".encode())
+            self.assertEqual(read_now(one), b"bad line\n", line)
+        self.say(one, b"here \xff\xfe 24 80 edits\n")
+        self.assertEqual((read_now(one), [peer.presence for peer in self.socket.peers]), (b"bad line\n", [None]))
+
+    def test_long(self):
+        """Who says what is longer than a line is let go."""
+        one = self.connect(b"x" * (LONGEST_LINE - 1))
+        self.assertEqual(len(self.socket.peers), 1)
+        self.say(one, b"x")
+        self.assertEqual((one.recv(1), self.socket.peers), (b"", []))
+        self.connect(b"who\n" + b"x" * LONGEST_LINE + b"\nwho\n")
+        self.assertEqual(self.socket.peers, [])
+
+
+class Commands(Sockets):
+    """What runs in front in panes."""
+
+    def setUp(self):
+        super().setUp()
+        self.asked = []
+        self.socket.asked_commands = lambda: self.asked.append(self.socket.has_asked_commands())
+
+    def test_told(self):
+        """Who asks is told, each name of a making once; others aren't."""
+        other, first = self.connect(b"who\n"), self.connect(b"commands\n")
+        read_now(other)
+        self.assertEqual((self.asked, read_now(first)), ([True], b""))
+        for told in ((1, 4, "sh"), (2, 9, "vi"), (1, 4, "sh"), (1, 4, "less a"), (1, 5, "less a")):
+            self.socket.tell_command(*told)
+        self.loop.turn()
+        self.assertEqual(read_now(first), b"command 1 4 sh\ncommand 2 9 vi\ncommand 1 4 less a\ncommand 1 5 less a\n")
+        late = self.connect(b"commands\n")
+        self.socket.tell_command(1, 5, "less a")
+        self.loop.turns(2)
+        self.assertEqual((read_now(late), read_now(first), read_now(other), len(self.asked)), (b"command 1 5 less a\n", b"", b"", 2))
+
+    def test_wanted(self):
+        """It isn't wanted where nobody asked, nor once those have left."""
+        one = self.connect(b"who\n")
+        self.assertFalse(self.socket.has_asked_commands())
+        self.say(one, b"commands\n")
+        self.assertTrue(self.socket.has_asked_commands())
+        one.close()
+        self.loop.turns(2)
+        self.assertFalse(self.socket.has_asked_commands())
+
+
+class Fronts(Case):
+    """When it is looked up what runs in front."""
+
+    def setUp(self):
+        self.loop, self.told = StillLoop(lambda: self.now), []
+        self.fronts = fronts.Fronts(self.loop, lambda *words: self.told.append(words))
+        self.fronts.is_wanted = True
+        self.pane = mock.Mock(number=3, life=7, terminal=5)
+        self.looks = self.patch_of(fronts, "group_in_front", return_value=70)
+        self.patch_of(fronts, "name_of", side_effect=lambda group: f"a{group}")
+
+    def touch(self, seconds=0.0):
+        """Has something be typed in a pane, and so many seconds pass."""
+        self.fronts.touched(self.pane)
+        self.now += seconds
+        self.loop.do_due()
+
+    def test_looks(self):
+        """A tenth of a second after something came, twice a second at most, and never while nothing comes."""
+        self.touch(0.09)
+        self.assertEqual(self.told, [])
+        self.touch(0.011)
+        self.assertEqual(self.told, [(3, 7, "a70")])
+        for _ in range(100):
+            self.touch(0.1)
+        self.assertLessEqual(self.looks.call_count, 21)
+        self.assertGreaterEqual(self.looks.call_count, 16)
+        self.now += 1
+        self.loop.do_due()
+        count = self.looks.call_count
+        self.now += 100
+        self.assertIsNone(self.loop.wait_time())
+        self.loop.do_due()
+        self.assertEqual(self.looks.call_count, count)
+
+    def test_unwanted(self):
+        """Where nobody wants it nothing is looked up; and nothing is told of a pane that has no terminal, or in which none is in front."""
+        self.fronts.is_wanted = False
+        self.touch(1)
+        self.assertEqual((self.looks.call_count, self.loop.due), (0, {}))
+        self.fronts.is_wanted = True
+        self.looks.return_value = None
+        self.touch(1)
+        self.pane.terminal = None
+        self.touch(1)
+        self.assertEqual((self.looks.call_count, self.told), (1, []))
+
+    def test_gone(self):
+        """A pane that is gone isn't looked at."""
+        self.touch()
+        self.fronts.drop(3)
+        self.now += 1
+        self.loop.do_due()
+        self.assertEqual((self.looks.call_count, self.fronts.looked), (0, {}))
+
+
+class Bounds(Sockets):
+    """What is bounded."""
+
+    def test_numbers(self):
+        """As docs/LIVE.md has them."""
+        self.assertEqual((MOST_PEERS, LONGEST_LINE, MOST_WAITING), (64, 256, 65536))
+
+    def test_most(self):
+        """64 are connected; one more waits, which costs nobody anything, until another has left."""
+        there = [self.connect(f"here {A}\n".encode()) for _ in range(MOST_PEERS)]
+        late = self.connect(b"who\n")
+        found = self.loop.found
+        self.loop.turns(5)
+        self.assertEqual((read_now(late), len(self.socket.peers), self.loop.found), (b"", MOST_PEERS, found))
+        there[0].close()
+        self.loop.turns(4)
+        self.assertTrue(read_now(late).endswith(b"others 63\n"))
+
+    def test_unread(self):
+        """Who never reads is let go once 65,536 bytes wait, and the others are told all the same."""
+        slow, other, moves = self.connect(b"who\n"), self.connect(b"who\n"), self.connect()
+        most, got = 0, b""
+        for count in range(20000):
+            self.say(moves, f"here {A.replace('24', str(count % 90 + 1))}\n".encode())
+            most = max([most, *(len(peer.waiting) for peer in self.socket.peers)])
+            got = got[-100:] + read_now(other)
+            if len(self.socket.peers) == 2:
+                break
+        self.assertEqual([peer.number for peer in self.socket.peers], [2, 3])
+        self.assertLessEqual(most, MOST_WAITING)
+        self.assertTrue(got.endswith(f"there 3 {A.replace('24', str(count % 90 + 1))}\nothers 1\n".encode()))
+        self.assertTrue(slow)
+
+    def test_flood(self):
+        """So is one who says what is no line again and again."""
+        one = self.connect()
+        for _ in range(3000):
+            try:
+                one.send(b"\n" * 4096)
+            except OSError:
+                break
+            self.loop.turn()
+        self.assertEqual(self.socket.peers, [])
+
+    def test_another_user(self):
+        """One of another user is let go."""
+        with mock.patch("os.getuid", return_value=os.getuid() + 1):
+            one = self.connect()
+        self.assertEqual((one.recv(1), self.socket.peers), (b"", []))
+
+    def test_no_descriptor(self):
+        """Who comes while the system has no descriptor waits, and is taken a second later."""
+        with mock.patch.object(self.socket.listener, "end", mock.Mock(accept=mock.Mock(side_effect=OSError(24, "none")))):
+            one = self.connect(b"who\n")
+        self.assertEqual(read_now(one), b"")
+        self.now += 1
+        self.loop.turns(4)
+        self.assertEqual(read_now(one), f"keeper {NAMED}\nothers 0\n".encode())
+
+    def test_taken(self):
+        """Where another listens there it is left to it, which is told, and nobody is known to be there."""
+        said = self.heard()
+        other = ShellsSocket(self.folder, StillLoop())
+        self.assertIn("who is at the session isn't told: somebody listens at ", said.getvalue())
+        other.loop.turns(2)
+        other.close()
+        self.assertTrue((self.folder / "shells").exists())
+
+
+class Links(Sockets):
+    """A front end's connection there."""
+
+    def link(self, watches=False, folder=None, size=(24, 80)):
+        """One of a terminal."""
+        sizes = [size]
+        one = ShellsLink(folder or self.folder, StillLoop(lambda: self.now), lambda: sizes[-1], watches, lambda: self.known.append(one))
+        one.sizes = sizes
+        self.addCleanup(one.leave)
+        return one
+
+    def setUp(self):
+        super().setUp()
+        self.known = []
+
+    def turn(self, *links, count=6):
+        """Turns of all."""
+        for _ in range(count):
+            for link in links:
+                link.loop.turn()
+            self.loop.turn()
+
+    def test_known(self):
+        """It is awaited for two seconds whether somebody else types, and known then; who watches doesn't type."""
+        one = self.link()
+        self.assertEqual((one.is_awaited(), one.has_others(), KNOWS), (True, None, 2.0))
+        self.turn(one)
+        self.assertEqual((one.is_awaited(), one.has_others(), self.known), (False, False, [one]))
+        watcher = self.link(watches=True)
+        self.turn(one, watcher)
+        self.assertEqual((one.has_others(), watcher.has_others()), (False, True))
+        other = self.link()
+        self.turn(one, other)
+        self.assertEqual((one.has_others(), other.has_others()), (True, True))
+        other.leave()
+        self.turn(one)
+        self.assertEqual(one.has_others(), False)
+
+    def test_sizes(self):
+        """A new size is said, and the same isn't."""
+        one, other = self.link(), self.link()
+        one.sizes.append((12, 40))
+        one.say_here()
+        one.say_here()
+        self.turn(one, other)
+        self.assertEqual(list(other.others.there.values()), [Presence(terminal_name(), 12, 40, "edits")])
+        self.assertEqual(one.waiting, b"")
+
+    def test_lost(self):
+        """Without the keeper nothing is known; it is connected to again after pauses, says again that it is there and is told all."""
+        one, other = self.link(), self.link()
+        self.turn(one, other)
+        self.socket.close()
+        self.turn(one, other)
+        self.assertEqual((one.has_others(), one.is_awaited(), one.peer), (None, False, None))
+        self.socket = ShellsSocket(self.folder, self.loop)
+        self.addCleanup(self.socket.close)
+        self.now += PAUSES[0]
+        self.turn(one, other)
+        self.assertEqual((one.has_others(), other.has_others()), (True, True))
+
+    def test_none(self):
+        """Where nobody knows the socket, or tells nothing, nothing is known, and that isn't awaited for long; no folder has none."""
+        folder = self.made_folder()
+        one = self.link(folder=folder)
+        self.assertEqual((one.has_others(), one.is_awaited(), one.peer), (None, False, None))
+        listener = self.listening(folder / "shells")
+        self.now += PAUSES[0]
+        one.loop.turn()
+        self.assertTrue(one.is_awaited())
+        self.now += KNOWS
+        self.assertEqual((one.has_others(), one.is_awaited()), (None, False))
+        self.assertTrue(listener)
+        self.assertEqual(ShellsLink(None, StillLoop(), lambda: (24, 80), False, list).loop.due, {})
+
+    def test_ended_at_once(self):
+        """A socket that ends each connection at once, as a relay's to an earlier keeper, is tried ever more seldom."""
+        folder = self.made_folder()
+        listener = self.listening(folder / "shells")
+        one, waits = self.link(folder=folder), []
+        for _ in range(8):
+            self.taken(listener).close()
+            one.loop.turn()
+            waits.append(round(one.loop.due["follow shells"][0] - self.now, 3))
+            self.now += waits[-1]
+            one.loop.turn()
+        self.assertEqual(waits, [*PAUSES, PAUSES[-1], PAUSES[-1]])
+
+
+class Lines(unittest.TestCase):
+    """The lines."""
+
+    def test_said(self):
+        """What says that a terminal is there; its name comes in printable ASCII, bounded, without a terminal too."""
+        self.assertEqual(presence_said(f"here {A}"), Presence("here:/dev/pts/1", 24, 80, "edits"))
+        self.assertEqual(f"here {presence_said(f'here {B}')}", f"here {B}")
+        for path in ("/dev/pts/7", "/dev/a b\x1b\u00e9" * 20):
+            with mock.patch("os.ttyname", return_value=path):
+                self.assertTrue(presence_said(f"here {terminal_name()} 24 80 edits"), path)
+        with mock.patch("os.ttyname", side_effect=OSError(25, "none")):
+            self.assertTrue(terminal_name().endswith(":?"))
+
+    def test_told(self):
+        """What can't be told is nothing, all is known once as many were told as there are, and no more are kept than may be."""
+        told = ToldOthers()
+        for line in (f"there 0 {A}", f"there 1 {A} 1", "there 1 a 24 80 wants", "gone", "gone 0", "others", "others 100", "others -1",
+                     "other 1", f"there \u00b2 {A}"):
+            self.assertFalse(told.take(line), line)
+        self.assertEqual((told.has_typing(), told.take("others 1"), told.has_typing()), (None, True, None))
+        for number in range(1, 200):
+            told.take(f"there {number} {A}")
+        self.assertEqual(len(told.there), MOST_OTHERS)
+        self.assertTrue(told.take("others 64") and told.has_typing() and told.take("gone 7"))
+        self.assertEqual(presence.WHO, "who")
+
+
+if __name__ == "__main__":
+    unittest.main()
