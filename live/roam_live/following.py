@@ -25,8 +25,9 @@ TELLS_NOTHING = "the server tells nothing, as where no descriptor is left for it
 # place for them from each other, do so ever more seldom.
 SOUND = 5.0
 
-# What a server is told by the keeper of shells, for which it has a place of its own.
+# What a server is told by the keeper of shells, for which it has a place of its own; and what it answers to a line that it doesn't know.
 KEEPER = "keeper"
+BAD_LINE = "bad line"
 
 # Where nobody tells where the panes are it isn't said before so many tries, since who tells it may come a moment later; and for so many
 # seconds a front end takes it that it will be told.
@@ -48,6 +49,8 @@ class Following:
     def __init__(self, connects: Callable[[], socket.socket], loop: Loop, hears: Callable[[list[str]], object],
                  loses: Callable[[], object]) -> None:
         self.connects, self.loop, self.hears, self.loses = connects, loop, hears, loses
+        # What is asked for at each connection, before all else.
+        self.words: list[str] = []
         self.peer: socket.socket | None = None
         self.lines = Lines()
         self.waiting = bytearray()
@@ -63,6 +66,14 @@ class Following:
         self.peer, self.lines, self.since = peer, Lines(), self.loop.clock()
         self.waiting.clear()
         self.loop.add(peer, self.hear, lambda: write(peer.fileno(), self.waiting), has_more=lambda: self.waiting)
+        for word in self.words:
+            self.ask(word)
+
+    def want(self, word: str) -> None:
+        """Asks for something now, and at each connection from now on."""
+        if word not in self.words:
+            self.words.append(word)
+            self.ask(word)
 
     def ask(self, line: str) -> None:
         """Asks the server for something, while it is followed."""
@@ -109,17 +120,6 @@ class Following:
         except OSError as fault:
             self.is_gone = isinstance(fault, (FileNotFoundError, ConnectionRefusedError, PermissionError))
             self.lost(reason(fault))
-
-
-class AsideFollowing(Following):
-    """Follows the panes, and what stands beside their terminals where the server is of this machine: an earlier one, or a relay, doesn't
-    know the word."""
-
-    def begin(self, peer: socket.socket) -> None:
-        """Follows a connection that is there."""
-        super().begin(peer)
-        if runs_program(peer):
-            self.ask(ASIDE)
 
 
 class KeeperFollowing(Following):
@@ -177,7 +177,9 @@ class PanesFollower:
         self.has_said = self.was_told = self.has_no_place = False
         self.awaited_until = loop.clock() + AWAITED if folder else 0.0
         path = os.path.join(folder, "panes") if folder else ""
-        self.following = AsideFollowing(lambda: connected_now(path), loop, self.hear, self.lose)
+        self.following = Following(lambda: connected_now(path), loop, self.hear, self.lose)
+        # An earlier server answers that it is none of its lines, which tells nothing.
+        self.following.want(ASIDE)
         if folder:
             self.following.connect()
 
@@ -199,7 +201,8 @@ class PanesFollower:
 
     def hear(self, lines: list[str]) -> None:
         """Takes what was told."""
-        if not any([self.told.take(line) for line in lines]) and not self.places:
+        taken = [self.told.take(line) for line in lines if line != BAD_LINE]
+        if taken and not any(taken) and not self.places:
             self.say(UNTOLD)
         if self.has_no_place and self.loop.clock() < self.following.since + STANDS:
             self.loop.later("panes stand", STANDS, self.know)

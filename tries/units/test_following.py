@@ -207,8 +207,10 @@ class FrontEnds(Played):
         self.server = self.taken()
 
     def test_lines(self):
-        """Places are known once the focus is, and each that is new is a change; nothing is said to the server."""
+        """Places are known once the focus is, and each that is new is a change; the server is asked for what stands beside, and no more."""
         self.assertTrue(self.panes.is_awaited())
+        self.loop.turns(1)
+        self.assertEqual(self.server.recv(64), b"beside\n")
         self.assertIsNone(self.told(b"1 1 1 23 80 1\nfoc"))
         wanted = Places({1: Rect(1, 1, 23, 80)}, 1, 64, 2)
         self.assertEqual(self.told(b"us 1\nstarts 64 of 64\nwatchers 2 of 16\n"), wanted)
@@ -221,9 +223,8 @@ class FrontEnds(Played):
         self.assertEqual(self.words, [])
 
     def test_beside(self):
-        """A server that runs this program is asked for what stands beside the terminals, each time; by it a paste has brackets."""
-        with mock.patch("roam_live.following.runs_program", lambda peer: True):
-            self.lose_again()
+        """A server is asked for what stands beside the terminals, each time; by it a paste has brackets."""
+        self.lose_again()
         self.loop.turns(2)
         self.assertEqual(self.server.recv(64), b"beside\n")
         self.assertFalse(self.panes.wants_brackets())
@@ -238,6 +239,12 @@ class FrontEnds(Played):
         self.assertEqual(self.changes, before + 1)
         self.lose_again()
         self.assertFalse(self.panes.wants_brackets())
+
+    def test_earlier(self):
+        """One that doesn't know what it is asked for says so, which is no sign that it tells nothing."""
+        self.assertIsNone(self.told(b"bad line\n"))
+        self.assertIsNotNone(self.told(b"1 1 1 23 80 1\nfocus 1\nbad line\n"))
+        self.assertEqual(self.words, [])
 
     def test_let_go(self):
         """While nobody tells them the places aren't known; what comes next is told all anew."""
