@@ -1,8 +1,10 @@
-"""What a front end gives a person's terminal beside what is painted there: the title and the cursor's shape of the pane in focus."""
+"""What a front end gives a person's terminal beside what is painted there: the title and the cursor's shape of the pane in focus, and which
+reports of the mouse it is asked for."""
 from __future__ import annotations
 
 import os
 
+from roam_live.mouse import ASKED, OFF
 from roam_live.words import printable
 
 # The terminal keeps its title, and has it back (xterm, XTWINOPS).
@@ -23,13 +25,16 @@ def shaped(shape: int) -> bytes:
 
 
 class GivenAside:
-    """What was given. A console of Linux has neither a title nor such a shape, and is given nothing."""
+    """What was given. A console of Linux has neither a title nor such a shape nor the form in which reports are read, and is given
+    nothing."""
 
     def __init__(self) -> None:
         self.is_able = os.environ.get("TERM") != "linux"
         self.title = ""
         self.has_kept = False
         self.shape = 0
+        # Which reports it is asked for: none, `drags` or `motion`.
+        self.reports = ""
 
     def given(self, title: str, shape: int) -> bytes:
         """What is written where this is the title and the shape from now on: what is new of it. The terminal's own title isn't changed
@@ -44,8 +49,16 @@ class GivenAside:
             self.shape = shape
         return text
 
+    def asked(self, reports: str) -> bytes:
+        """What is written where it is asked for these reports from now on: nothing where it was."""
+        if not self.is_able or reports == self.reports:
+            return b""
+        self.reports = reports
+        return ASKED[reports]
+
     def taken_back(self) -> bytes:
-        """What is written where the terminal is given back: it has its own title again, and its own shape. Nothing is given then."""
-        text = (TITLE_BACK if self.has_kept else b"") + (shaped(0) if self.shape else b"")
-        self.title, self.has_kept, self.shape = "", False, 0
+        """What is written where the terminal is given back: it has its own title again, and its own shape, and reports nothing. Nothing is
+        given then."""
+        text = (OFF if self.reports else b"") + (TITLE_BACK if self.has_kept else b"") + (shaped(0) if self.shape else b"")
+        self.title, self.has_kept, self.shape, self.reports = "", False, 0, ""
         return text

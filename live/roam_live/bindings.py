@@ -79,6 +79,10 @@ class Typing:
         self.mode = self.plain
         return [], "yes" if key.name in ("y", "Y") else "no"
 
+    def is_typing(self) -> bool:
+        """Whether what a person does goes to the pane in focus, but for the key behind a prefix."""
+        return self.mode in (self.plain, self.prefixed)
+
     def left(self) -> list[str]:
         """The acts that are left to do where the person leaves."""
         return [NEWEST] if self.mode == self.scrolling else []

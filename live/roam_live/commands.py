@@ -12,6 +12,8 @@ from roam_live.display import NO_SIZE, Display
 from roam_live.keys import BRACKETS, Key, Keys, bracketed_acts
 from roam_live.links import StartLink
 from roam_live.loops import Loop
+from roam_live.mouse import MOUSE
+from roam_live.pointing import Pointing
 from roam_live.program import has_others
 from roam_live.programs import told
 from roam_live.following import PanesFollower
@@ -53,6 +55,7 @@ class Commands:
         # Whether the session is shown whole where it has room, with its own status row.
         self.is_whole = is_whole
         self.keys = Keys()
+        self.pointing = Pointing(self, loop)
         self.prefix = "C-b"
         self.typing = Typing()
         self.help = help_with(self.prefix)
@@ -88,6 +91,9 @@ class Commands:
     def typed(self, keys: list[Key]) -> None:
         """Takes keys."""
         for key in keys:
+            if key.name == MOUSE and self.typing.mode != self.typing.pasting:
+                self.pointing.take(key.text)
+                continue
             is_help = self.display.cover == self.help
             if is_help:
                 self.display.uncover()
@@ -127,6 +133,16 @@ class Commands:
         if self.link.watches:
             return
         self.link.type(*acts, is_pasted=is_pasted)
+        self.note_moves(*acts)
+
+    def act_together(self, *acts: str) -> None:
+        """Has acts typed in a line of their own, by who doesn't only watch: nothing comes between them."""
+        if not self.link.watches:
+            self.link.say(" ; ".join(acts))
+            self.note_moves(*acts)
+
+    def note_moves(self, *acts: str) -> None:
+        """Takes note of those of these acts that move the focus."""
         for act in acts:
             word, _, pane = act.partition(" ")
             if word in MOVES:
@@ -152,8 +168,9 @@ class Commands:
         self.show_aside()
 
     def show_aside(self) -> None:
-        """Gives the terminal the title and the cursor's shape of the pane in focus."""
+        """Gives the terminal the title and the cursor's shape of the pane in focus, and asks it for what its program wants of the mouse."""
         self.display.outer.give(*self.panes.aside)
+        self.display.outer.ask(self.pointing.asked())
 
     def show_known(self) -> None:
         """Has the display go by what is known of the session: while it may get a size that it was given that is its size."""

@@ -61,10 +61,16 @@ class OuterTerminal:
         terminal.make_raw(0)
         self.waiting += terminal.ENTERED
         self.is_application = False
+        # Whoever had it may have asked it for others.
+        self.aside.reports = ""
 
     def give(self, title: str, shape: int) -> None:
         """Gives it a title and its cursor a shape, until it is left."""
         self.waiting += self.aside.given(title, shape)
+
+    def ask(self, reports: str) -> None:
+        """Asks it for reports of the mouse: for none, `drags`, or all `motion`."""
+        self.waiting += self.aside.asked(reports)
 
     def suspend(self) -> None:
         """Brings back what stood there, and stops this process with its group, as C-z does for others; returns once it is continued. The
@@ -218,6 +224,17 @@ class Display:
         is_over = is_anew or self.is_line_lost or self.asked is None
         self.is_stale = self.is_line_lost = False
         self.put_line(is_over)
+
+    def shown_at(self, row: int, col: int, is_near: bool = False) -> tuple[int, int] | None:
+        """The place of the session that is shown at a row and a column of the terminal, all from 1; None where none is, as in the last row,
+        or the nearest that is."""
+        rows, cols = self.painted_size
+        if is_near:
+            row, col = min(max(row, 1), rows), min(max(col, 1), cols)
+        if self.cover or self.is_stale or not (1 <= row <= rows and 1 <= col <= cols):
+            return None
+        top, left = self.place if self.asked else (0, 0)
+        return top + row, left + col
 
     # ---- lines in place of the session
 

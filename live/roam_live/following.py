@@ -172,8 +172,9 @@ class PanesFollower:
         self.folder, self.loop, self.changed, self.tells = folder, loop, changed, tells
         self.told = ToldPanes()
         self.places: Places | None = None
-        # The title of the pane in focus, and the shape of its cursor.
+        # The title of the pane in focus, and the shape of its cursor; and the modes that its program has set.
         self.aside = ("", 0)
+        self.focus_modes: list[str] = []
         self.has_said = self.was_told = self.has_no_place = False
         self.awaited_until = loop.clock() + AWAITED if folder else 0.0
         path = os.path.join(folder, "panes") if folder else ""
@@ -190,6 +191,10 @@ class PanesFollower:
     def is_untold(self) -> bool:
         """Whether nothing is told, and nothing will be soon."""
         return self.places is None and (self.has_said or not self.was_told and not self.is_awaited())
+
+    def modes(self, pane: int) -> list[str]:
+        """The modes that a pane's program is known to have set."""
+        return self.told.value("modes", pane).split() if self.places else []
 
     def wants_brackets(self) -> bool:
         """Whether the program in the pane in focus is known to want what is pasted between brackets."""
@@ -212,16 +217,17 @@ class PanesFollower:
     def know(self) -> None:
         """Goes by what was told."""
         self.has_no_place = False
-        before, self.places = (self.places, self.aside), self.told.places()
+        before, self.places = (self.places, self.aside, self.focus_modes), self.told.places()
         self.aside = self.told.aside(self.places.focus) if self.places else ("", 0)
+        self.focus_modes = self.modes(self.places.focus) if self.places else []
         self.was_told = self.was_told or self.places is not None
-        if (self.places, self.aside) != before:
+        if (self.places, self.aside, self.focus_modes) != before:
             self.changed()
 
     def lose(self) -> None:
         """Goes on without, until it is told anew; where it stays so from the beginning that is said."""
         following, was_told = self.following, self.places is not None
-        self.told, self.places, self.aside = ToldPanes(), None, ("", 0)
+        self.told, self.places, self.aside, self.focus_modes = ToldPanes(), None, ("", 0), []
         self.loop.drop("panes stand")
         if was_told:
             self.changed()

@@ -63,6 +63,10 @@ class Places(namedtuple("Places", "rects focus starts watchers", defaults=(0, 0,
         """The panes' numbers as a session's status row has them: that in focus in brackets, each other between spaces."""
         return "".join(f"[{pane}]" if pane == self.focus else f" {pane} " for pane in in_order(self.rects))
 
+    def pane_at(self, row: int, col: int) -> int:
+        """The pane that has a place of the session; 0 where none does."""
+        return next((pane for pane, rect in self.rects.items() if covers(rect, row, col, True) and covers(rect, row, col, False)), 0)
+
     def is_full(self) -> bool:
         """Whether the server knows as many starts as it ever does."""
         return self.starts >= MOST_STARTS

@@ -30,7 +30,7 @@ class OuterTerminal:
         self.rows, self.cols = rows, cols
         self.waiting = bytearray()
         self.is_application = False
-        self.aside = ("", 0)
+        self.aside, self.reports = ("", 0), ""
 
     def size(self):
         """Its rows and columns."""
@@ -39,6 +39,10 @@ class OuterTerminal:
     def give(self, title, shape):
         """Keeps a title and a shape."""
         self.aside = title, shape
+
+    def ask(self, reports):
+        """Keeps which reports of the mouse it is asked for."""
+        self.reports = reports
 
     def shown(self):
         """The rows that it shows, without spaces at their ends."""
@@ -57,6 +61,10 @@ class StartLink:
     def is_done(self):
         """Whether the session has taken all."""
         return self.has_taken
+
+    def untaken(self):
+        """How many lines it hasn't."""
+        return 0 if self.has_taken else 99
 
     def type(self, *acts, is_pasted=False):
         """Keeps acts."""
@@ -89,6 +97,7 @@ class PlayedPanes:
 
     def __init__(self, place):
         self.place = place
+        self.modes_of = {}
 
     @property
     def places(self):
@@ -106,6 +115,15 @@ class PlayedPanes:
     def is_full(self):
         """Whether the server hears no other start."""
         return self.full
+
+    @property
+    def focus_modes(self):
+        """The modes that the program in focus has set."""
+        return self.modes(self.places.focus) if self.places else []
+
+    def modes(self, pane):
+        """Those of a pane's."""
+        return self.modes_of.get(pane, "").split()
 
     def wants_brackets(self):
         """Whether the program in focus wants what is pasted between brackets."""

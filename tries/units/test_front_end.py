@@ -3,10 +3,11 @@ import os
 import pty
 import signal
 import termios
+from contextlib import suppress
 from unittest import mock
 
 from aids import Case, StillLoop, closed, read_now, record
-from roam_live import display, front_end, terminal
+from roam_live import display, front_end, mouse, terminal
 from roam_live.front_end import FrontEnd
 from roam_live.program import Fault, begun
 from roam_live.places import Places, Rect
@@ -507,6 +508,64 @@ class Loop(Fronts):
             self.assertEqual(made.call_args[0][:4], (self.place, True, "C-a", "never"))
         self.assertEqual(seen, [f"{begun(os.getpid())} watches\n"])
         self.assertEqual((list((self.place.folder / "attached").iterdir()), self.place.is_closed), ([], True))
+
+
+class Mouse(Fronts):
+    """Reports of the mouse at a terminal."""
+
+    def setUp(self):
+        self.environment(TERM="xterm", ROAM_MOUSE=None)
+        super().setUp()
+
+    def ask(self, modes):
+        """Has the program in focus have these modes, and tells what came to the terminal."""
+        self.panes.modes_of = {1: modes}
+        self.front.commands.told()
+        self.turn()
+        return self.shown()
+
+    def test_asked(self):
+        """The terminal is asked for what the program asks for, and what it reports is typed, wherever it is cut."""
+        start = self.connect()
+        self.paints()
+        self.assertFalse([mode for mode in (b"?1000", b"?1002", b"?1003", b"?1006") if mode in self.shown()])
+        self.assertEqual([self.ask(modes) for modes in ("buttons sgr", "drags", "motion sgr", "paste", "")],
+                         [mouse.ASKED["drags"], b"", mouse.ASKED["motion"], mouse.OFF, b""])
+        self.ask("drags sgr")
+        read_now(start)
+        for piece in (b"x\x1b", b"[<0;", b"5;7", b"M\x1b[<0;5;7m"):
+            self.type(piece)
+            self.now += 0.02
+        text = " ; ".join(f"char {byte:x}" for byte in b"\x1b[<0;5;7")
+        self.assertEqual(read_now(start), f"char 78\nfocus 1 ; {text} ; char 4d\nfocus 1 ; {text} ; char 6d\n".encode())
+
+    def test_left(self):
+        """However it is left the terminal is asked for no reports any more, before what stood there is back."""
+        ways = [lambda: self.type(b"\x02d"), lambda: self.front.leave("[the session has ended]"),
+                *[lambda number=number: os.write(self.wakes, bytes([number])) for number in (signal.SIGTERM, signal.SIGHUP, signal.SIGINT)]]
+        self.patch_of(self.front.link, "part")
+        for way in [*ways, lambda: self.patch_of(self.front, "turn", side_effect=ValueError)]:
+            self.front.left = None
+            self.connect()
+            self.assertIn(mouse.ASKED["motion"], self.ask("motion sgr"))
+            way()
+            with mock.patch.object(self.front.display.outer, "enter"), mock.patch.object(self.front, "connect"), suppress(ValueError):
+                self.front.run()
+            self.assertIn(mouse.OFF + terminal.LEFT, self.shown())
+
+    def test_stopped(self):
+        """While it is stopped there are none either; continued it asks for them again, also where nothing could be said before."""
+        self.connect()
+        self.ask("drags sgr")
+        with mock.patch("os.kill"):
+            os.write(self.wakes, bytes([signal.SIGTSTP]))
+            self.turn(1)
+        shown = self.shown()
+        self.assertIn(mouse.OFF + terminal.LEFT, shown)
+        self.assertLess(shown.index(mouse.OFF + terminal.LEFT), shown.index(terminal.ENTERED + mouse.ASKED["drags"]))
+        os.write(self.wakes, bytes([signal.SIGCONT]))
+        self.turn(1)
+        self.assertIn(terminal.ENTERED + mouse.ASKED["drags"], self.shown())
 
 
 class Wishes(Case):
