@@ -163,6 +163,7 @@ class Commands:
             self.moved_to = None
         if self.given == self.session_size():
             self.forget_given()
+        self.pointing.told()
         self.fit_first()
         self.show_known()
         self.show_aside()
@@ -191,6 +192,12 @@ class Commands:
         """Does what is left to do where the person leaves."""
         self.act(*self.typing.left())
 
+    def end_scroll(self) -> None:
+        """Ends the scroll mode, where the newest rows are."""
+        self.act(*self.typing.left())
+        self.typing.mode = self.typing.plain
+        self.display.end_told()
+
     def grant(self, wish: str, key: Key) -> None:
         """Does what the front end itself is asked for."""
         if wish == "detach":
@@ -216,6 +223,8 @@ class Commands:
             self.split(wish)
         elif wish == "close":
             self.close()
+        elif wish == "mouse":
+            self.pointing.switch()
         elif wish in BESIDE:
             self.go(wish)
         elif wish in ("yes", "no", "scrolled"):

@@ -7,6 +7,7 @@ from collections.abc import Callable
 
 from roam_live.bells import BellFollower
 from roam_live.bindings import NEWEST
+from roam_live.choices import wants_mouse
 from roam_live.commands import Commands
 from roam_live.display import Display
 from roam_live.following import AWAITED, PanesFollower
@@ -41,7 +42,7 @@ class FrontEnd:
     """A person at a terminal, and the session there."""
 
     def __init__(self, session: AnySession, watches: bool, prefix: str, guessing: str, is_new: Callable[[Places | None], bool],
-                 loop: Loop | None = None, is_whole: bool = False) -> None:
+                 loop: Loop | None = None, is_whole: bool = False, has_mouse: bool = False) -> None:
         self.session, self.loop = session, loop or Loop()
         self.left: str | None = None
         self.status = 0
@@ -55,6 +56,7 @@ class FrontEnd:
         self.keeper = Keeper(session, self.link, self.panes.is_full)
         self.commands = Commands(session, self.panes, self.link, self.display, self.loop, self.leave, is_new, is_whole)
         self.commands.choose(prefix)
+        self.commands.pointing.is_on = has_mouse
         self.loop.later("untold", AWAITED, self.commands.show_known)
         self.bells = BellFollower(session.folder, self.loop, self.commands.ring, lambda words: self.display.tell(words, LOSS_TOLD))
         self.join()
@@ -234,8 +236,9 @@ def follow(session: AnySession, watches: bool, prefix: str, guessing: str,
     room for its own status row."""
     note = None
     try:
+        has_mouse = wants_mouse()
         note = noted_front_end(session.folder, "watches" if watches else "edits")
-        return FrontEnd(session, watches, prefix, guessing, is_new, is_whole=is_whole).run()
+        return FrontEnd(session, watches, prefix, guessing, is_new, is_whole=is_whole, has_mouse=has_mouse).run()
     finally:
         session.close()
         if note:

@@ -2,7 +2,7 @@
 import os
 import time
 
-from tried import SESSION, Outer, check, comes, scene, tool
+from tried import SESSION, Outer, check, comes, scene, three_panes, tool
 from roam_live.mouse import ASKED, OFF
 from scenes.machines import ssh_words
 
@@ -127,6 +127,81 @@ def mouse_leaves(folder):
     begin = len(first.written)
     first.type(b"q")
     check("the program's end asks for nothing", asks(first, OFF, begin), bytes(first.written[begin:]))
+
+
+def click(outer, row, col):
+    """Clicks at a place."""
+    points(outer, (0, row, col), (0, row, col, True))
+
+
+@scene
+def mouse_of_roam(folder):
+    """With C-b m a click focuses a pane, the wheel scrolls a shell's and sends arrows on the other screen, and a border is dragged."""
+    outer = three_panes()
+    outer.type(b"\x02m")
+    check("C-b m tells that roam has the mouse", outer.status("the mouse focuses, scrolls and drags borders; C-b m ends that"), outer.rows)
+    check("and has the terminal asked", asks(outer, ASKED["drags"], 0), bytes(outer.written[-200:]))
+    for place, label in (((3, 60), " 1 [2] 3 "), ((20, 60), " 1  2 [3]"), ((20, 10), "[1] 2  3 ")):
+        click(outer, *place)
+        check(f"a click at {place} focuses the pane there", outer.status(label), outer.rows)
+    outer.type(b"clear; seq 200\r")
+    outer.shows("200")
+    points(outer, *[(64, 5, 5)] * 10)
+    check("the wheel shows what scrolled off", outer.shows("160 ") and outer.status("30 rows back"), outer.rows)
+    points(outer, *[(65, 5, 5)] * 10)
+    check("and comes back to the newest", outer.shows("200 ") and outer.status("[1] 2  3 "), outer.rows)
+    outer.type(b"clear; seq 300 | less\r")
+    outer.shows(":")
+    points(outer, *[(65, 5, 5)] * 3)
+    check("on the other screen it is three arrows", comes(lambda: outer.rows()[0].startswith("10 ")), outer.rows)
+    click(outer, 3, 60)
+    outer.status(" 1 [2] 3 ")
+    points(outer, (64, 5, 5))
+    is_back = comes(lambda: outer.rows()[0].startswith("7 ")) and outer.status("[1] 2  3 ")
+    check("also over another pane, which it focuses", is_back, outer.rows)
+    outer.type(b"q")
+    dragged(outer)
+    outer.type(b"\x02m")
+    check("C-b m again gives the mouse back", outer.status("the mouse selects text, but where a program has it"), outer.rows)
+    is_off = comes(lambda: bytes(outer.written).rfind(OFF) > bytes(outer.written).rfind(b"?1002h"))
+    check("and the terminal isn't asked", is_off, bytes(outer.written[-200:]))
+
+
+def dragged(outer):
+    """The border between the first pane and the others is dragged, and that between these; the focus stays."""
+    points(outer, (0, 5, 40), (32, 5, 45), (32, 6, 50), (32, 7, 60), (0, 7, 60, True))
+    check("a border is dragged to the right", outer.stands(5, 59, "\u2502") and not outer.stands(5, 39, "\u2502", 0), outer.rows)
+    points(outer, (0, 12, 70), (32, 8, 70), (0, 8, 70, True))
+    check("and one up", outer.stands(7, 60, "\u2500" * 20), outer.rows)
+    check("the focus is where it was", outer.status("[1] 2  3 "), outer.rows)
+    outer.type(b"clear; stty size\r")
+    check("and programs are told", outer.shows("23 59"), outer.rows)
+    points(outer, (0, 5, 60), (32, 5, 80), (0, 5, 80, True))
+    check("it goes as far as there is room", outer.stands(5, 75, "\u2502"), outer.rows)
+    points(outer, (0, 5, 76), (32, 5, 40), (0, 5, 40, True))
+    check("and back", outer.stands(5, 39, "\u2502"), outer.rows)
+
+
+@scene
+def mouse_chosen(folder):
+    """ROAM_MOUSE=on has roam have the mouse from the beginning; another program has it none the less."""
+    outer = Outer(tool("mux", SESSION), environment={"ROAM_MOUSE": "on"})
+    outer.shows("$ ")
+    check("the terminal is asked", asks(outer, ASKED["drags"], 0), bytes(outer.written[-200:]))
+    outer.type(b"\x02%")
+    outer.status(" 1 [2]")
+    program = Noting(folder, outer, "1000,1006")
+    click(outer, 5, 5)
+    check("a click focuses another pane", outer.status("[1] 2 "), outer.rows)
+    click(outer, 5, 45)
+    points(outer, (64, 6, 46))
+    is_focused = outer.status(" 1 [2]")
+    check("one on a program is the program's", is_focused and program.gets(b"\x1b[<0;5;5M\x1b[<0;5;5m\x1b[<64;6;6M"), program.noted)
+    click(outer, 5, 5)
+    outer.status("[1] 2 ")
+    points(outer, (65, 7, 47))
+    check("the wheel focuses the program under it", outer.status(" 1 [2]") and program.noted().endswith(b"\x1b[<65;7;7M"), program.noted)
+    program.quit()
 
 
 @scene

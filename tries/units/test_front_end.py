@@ -504,8 +504,11 @@ class Loop(Fronts):
 
         with mock.patch.object(front_end, "FrontEnd") as made:
             made.return_value.run = runs
+            self.environment(ROAM_MOUSE="on")
             self.assertEqual(front_end.follow(self.place, True, "C-a", "never"), 5)
-            self.assertEqual(made.call_args[0][:4], (self.place, True, "C-a", "never"))
+            self.assertEqual((made.call_args[0][:4], made.call_args[1]["has_mouse"]), ((self.place, True, "C-a", "never"), True))
+            self.environment(ROAM_MOUSE="no")
+            self.assertRaises(Fault, front_end.follow, self.place, True, "C-a", "never")
         self.assertEqual(seen, [f"{begun(os.getpid())} watches\n"])
         self.assertEqual((list((self.place.folder / "attached").iterdir()), self.place.is_closed), ([], True))
 
@@ -552,6 +555,14 @@ class Mouse(Fronts):
             with mock.patch.object(self.front.display.outer, "enter"), mock.patch.object(self.front, "connect"), suppress(ValueError):
                 self.front.run()
             self.assertIn(mouse.OFF + terminal.LEFT, self.shown())
+
+    def test_own(self):
+        """Where roam has the mouse itself the terminal is asked as soon as the panes are known."""
+        self.front = FrontEnd(self.place, False, "C-b", "adaptive", lambda places: False, StillLoop(), has_mouse=True)
+        self.addCleanup(lambda: closed(self.front.display.outer.end))
+        self.addCleanup(lambda: self.front.link.close())
+        self.connect()
+        self.assertTrue(self.ask("").endswith(mouse.ASKED["drags"]))
 
     def test_stopped(self):
         """While it is stopped there are none either; continued it asks for them again, also where nothing could be said before."""

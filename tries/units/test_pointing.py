@@ -215,3 +215,93 @@ class Programs(Pointed):
         self.assertEqual(self.points(person, (0, 1, 1)), [])
         self.assertEqual(self.points(person, (0, 1, 41)), [("focus 2", "\x1b[<0;1;1M")])
         self.assertEqual(report_of(report(0, 1, 41).decode()).col, 41)
+
+
+class Own(Pointed):
+    """What is pointed at where roam has the mouse itself."""
+
+    def having(self, modes=None, told=PANES, **more):
+        """A person who has it."""
+        person = self.person(modes or {}, told, **more)
+        person.types(b"\x02m")
+        person.said()
+        return person
+
+    def test_switched(self):
+        """C-b m has the terminal asked for reports whatever programs ask for, and again for theirs alone; a line tells it."""
+        person = self.person({2: "motion"})
+        self.assertEqual(self.points(person, (0, 1, 50), (64, 1, 1), (0, 1, 40)), [])
+        for asked, line in (("drags", "the mouse focuses, scrolls and drags borders; C-b m ends that"),
+                            ("", "the mouse selects text, but where a program has it")):
+            person.types(b"\x02m")
+            self.assertEqual((person.display.outer.reports, person.display.told), (asked, line))
+        person.types(b"\x02m")
+        person.tell(PANES._replace(focus=2))
+        self.assertEqual(person.display.outer.reports, "motion")
+        watcher = self.person({}, watches=True)
+        watcher.types(b"\x02m")
+        self.assertEqual((watcher.display.outer.reports, watcher.display.told), ("", ""))
+        unknown = Person(24, 80)
+        unknown.types(b"\x02m")
+        self.assertEqual(unknown.display.outer.reports, "")
+
+    def test_click(self):
+        """A click focuses the pane there, whose program has it where it asked for that; what follows it is that pane's."""
+        person = self.having({3: "drags sgr"})
+        reports = (0, 3, 3), (0, 3, 3, True), (0, 2, 45), (0, 2, 45, True), (2, 2, 45), (2, 2, 45, True)
+        self.assertEqual(self.points(person, *reports), [("focus 2",)])
+        self.assertEqual(person.commands.places().focus, 2)
+        self.assertEqual(self.points(person, (0, 13, 41), (32, 14, 41), (0, 14, 41, True)),
+                         [("focus 3", "\x1b[<0;1;1M"), ("focus 3", "\x1b[<32;1;2M"), ("focus 3", "\x1b[<0;1;2m")])
+        self.assertEqual(self.points(person, (0, 1, 1), (32, 13, 41), (0, 13, 41, True)), [("focus 1",)])
+
+    def test_hover(self):
+        """Motion without a button focuses nothing."""
+        person = self.having({1: "motion sgr", 2: "motion sgr"})
+        found = self.points(person, (35, 1, 50), (35, 1, 1), (0, 1, 1), (32, 2, 60), (0, 2, 60, True))
+        self.assertEqual(found, [("focus 1", text) for text in ("\x1b[<35;1;1M", "\x1b[<0;1;1M", "\x1b[<32;39;2M", "\x1b[<0;39;2m")])
+
+    def test_wheel(self):
+        """The wheel goes to the program under it, which it focuses; on the other screen it is arrows, three a notch."""
+        person = self.having({2: "buttons sgr other", 3: "other"})
+        self.assertEqual(self.points(person, (64, 1, 41), (66, 1, 41)), [("focus 2", "\x1b[<64;1;1M"), ("focus 2", "\x1b[<66;1;1M")])
+        self.assertEqual(self.points(person, (64, 13, 41), (65, 13, 41), (66, 13, 41), (128, 13, 41)),
+                         [("focus 3", *["key up"] * 3), ("focus 3", *["key down"] * 3)])
+        self.assertEqual(person.commands.typing.is_typing(), True)
+
+    def test_scrolls(self):
+        """Over a shell's pane the wheel shows the rows that scrolled off, three a notch, until it is back at the newest."""
+        person = self.having()
+        self.assertEqual(self.points(person, (65, 1, 41)), [])
+        self.assertEqual(self.points(person, (64, 1, 41), (64, 1, 41), (65, 1, 41)),
+                         [("focus 2", "view 3"), ("focus 2", "view 3"), ("focus 2", "view -3")])
+        self.assertTrue(person.display.told.startswith("3 rows back: "))
+        self.assertEqual(person.types(b"k"), ["view 1"])
+        self.assertEqual(self.points(person, (65, 1, 41), (65, 1, 41)), [("focus 2", "view -3"), ("focus 2", "view -500")])
+        self.assertEqual((person.display.told, person.types(b"k")), ("", ["char 6b"]))
+        for _ in range(200):
+            self.points(person, (64, 1, 41))
+        self.assertTrue(person.display.told.startswith("500 rows back: "))
+        self.assertEqual(person.types(b"q"), ["view -500"])
+
+    def test_scrolls_by_keys(self):
+        """In the scroll mode of keys the wheel scrolls too, also where a program has the mouse; a click there is nothing, and one in
+        another pane ends it."""
+        person = self.person({1: "motion sgr"})
+        person.types(b"\x02[")
+        found = self.points(person, (64, 1, 1), (0, 1, 1), (0, 1, 1, True), (35, 1, 1), (0, 1, 50), (64, 1, 50))
+        self.assertEqual(found, [("focus 1", "view 3")])
+        person.types(b"q\x02m\x02[kk")
+        person.said()
+        before = len(person.link.acts)
+        self.assertEqual(self.points(person, (0, 1, 50)), [("focus 2",)])
+        self.assertEqual((person.link.acts[before:], person.commands.typing.is_typing(), person.display.told), (["view -500"], True, ""))
+
+    def test_border(self):
+        """A border is dragged with the first button alone; in another pane's place nothing comes of it."""
+        person = self.having()
+        for button in (1, 2, 4, 64, 65):
+            self.assertEqual(self.points(person, (button, 5, 40), (32 + button, 5, 45), (button, 5, 45, True)), [], button)
+        self.assertEqual(self.points(person, (0, 5, 40), (32, 5, 45)), [("focus 1", "grow 5")])
+        off = self.person({})
+        self.assertEqual(self.points(off, (0, 5, 40), (32, 5, 45)), [])
