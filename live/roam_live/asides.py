@@ -5,10 +5,14 @@ from __future__ import annotations
 import os
 
 from roam_live.mouse import ASKED, OFF
+from roam_live.program import write
 from roam_live.words import printable
 
 # The terminal keeps its title, and has it back (xterm, XTWINOPS).
 TITLE_KEPT, TITLE_BACK = b"\x1b[22;2t", b"\x1b[23;2t"
+
+# What sets a terminal's clipboard stands round its text in base64 (OSC 52).
+CLIP_BEGIN, CLIP_END = b"\x1b]52;c;", b"\x07"
 
 # So many characters of a title are given at most.
 MOST_TITLE = 200
@@ -22,6 +26,42 @@ def titled(title: str) -> bytes:
 def shaped(shape: int) -> bytes:
     """What gives a terminal's cursor a shape, 0 for its own (DECSCUSR)."""
     return b"\x1b[%d q" % shape
+
+
+class GivenClip:
+    """A text for a terminal's clipboard, on its way there: between paintings, whole, and the newest where several come."""
+
+    def __init__(self) -> None:
+        self.newest = b""
+        # What of one isn't written yet, and whether it has begun.
+        self.rest = bytearray()
+        self.has_begun = False
+
+    def give(self, text: str) -> None:
+        """Has a text be set, which is base64, in place of one of which nothing is written yet."""
+        if not self.has_begun:
+            self.rest.clear()
+        self.newest = CLIP_BEGIN + text.encode("ascii", "replace") + CLIP_END
+
+    def waits(self) -> bool:
+        """Whether something is to be written."""
+        return bool(self.newest or self.rest)
+
+    def put(self, end: int) -> bool:
+        """Writes what a terminal takes of it; tells whether that is still there."""
+        if not self.rest:
+            self.rest, self.newest = bytearray(self.newest), b""
+        length = len(self.rest)
+        is_there = write(end, self.rest)
+        self.has_begun = 0 < len(self.rest) < length or self.has_begun and bool(self.rest)
+        return is_there
+
+    def taken_back(self) -> bytes:
+        """What is written where the terminal is given back: the rest of one that has begun. Nothing waits then."""
+        text = bytes(self.rest) if self.has_begun else b""
+        self.newest, self.has_begun = b"", False
+        self.rest.clear()
+        return text
 
 
 class GivenAside:

@@ -1,5 +1,5 @@
-"""What a person chooses by the environment: the prefix, when guesses are shown, whether roam has the mouse, and whether UDP is tried
-between machines."""
+"""What a person chooses by the environment: the prefix, when guesses are shown, whether roam has the mouse, who sets the clipboard, and
+whether UDP is tried between machines."""
 from __future__ import annotations
 
 import os
@@ -15,6 +15,9 @@ GUESSING = ("adaptive", "always", "never")
 
 # Whether roam itself has the mouse: a click focuses, the wheel scrolls, and borders are dragged.
 MOUSE = ("off", "on")
+
+# Who sets the terminal's clipboard: nobody but roam itself, which never does yet; programs in panes too; or nobody.
+CLIPBOARD = ("external", "on", "off")
 
 
 def chosen_prefix() -> str:
@@ -44,6 +47,11 @@ def chosen(word: str, choices: tuple[str, ...]) -> str:
 def wants_mouse() -> bool:
     """Whether roam has the mouse from the beginning: where the environment's ROAM_MOUSE is `on`."""
     return chosen("ROAM_MOUSE", MOUSE) == "on"
+
+
+def sets_clipboard() -> bool:
+    """Whether programs in panes set the terminal's clipboard: where the environment's ROAM_CLIPBOARD is `on`."""
+    return chosen("ROAM_CLIPBOARD", CLIPBOARD) == "on"
 
 
 def wants_udp() -> bool:

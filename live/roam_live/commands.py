@@ -26,7 +26,8 @@ if TYPE_CHECKING:
 # An escape that nothing follows for so many seconds is the key.
 ESCAPE_WAIT = 0.025
 
-# Acts after which another pane may be in focus.
+# Acts that go to the program in the pane in focus, and those after which another pane may be there.
+KEYS = ("char ", "key ")
 MOVES = ("focus", "next", "split", "close")
 
 # The wishes that are granted while something stands in the session's place. Nothing is typed then, since nobody would see where it goes.
@@ -74,6 +75,8 @@ class Commands:
         # then.
         self.moved_to: int | None = None
         self.moved_from: Places | None = None
+        # The making of the pane to which this person's last key went, where that is known.
+        self.typed_in = ""
 
     def choose(self, prefix: str) -> None:
         """Makes the key of a name the prefix."""
@@ -142,11 +145,14 @@ class Commands:
             self.note_moves(*acts)
 
     def note_moves(self, *acts: str) -> None:
-        """Takes note of those of these acts that move the focus."""
+        """Takes note of those of these acts that move the focus, and of where the last one goes, where it is a key."""
         for act in acts:
             word, _, pane = act.partition(" ")
             if word in MOVES:
                 self.move(word, int(pane) if word == "focus" else 0)
+        if acts and acts[-1].startswith(KEYS):
+            places = self.places()
+            self.typed_in = self.panes.making(places.focus) if places else ""
 
     def move(self, word: str, pane: int) -> None:
         """Takes note that this person moves the focus, to a pane or to one that isn't known: what was told of it isn't so then. What moves
@@ -172,6 +178,11 @@ class Commands:
         """Gives the terminal the title and the cursor's shape of the pane in focus, and asks it for what its program wants of the mouse."""
         self.display.outer.give(*self.panes.aside)
         self.display.outer.ask(self.pointing.asked())
+
+    def clip(self, text: str, making: str) -> None:
+        """Sets the terminal's clipboard by what the program in focus sets, in base64, where this person's last key went to it."""
+        if making and making == self.typed_in:
+            self.display.outer.set_clip(text)
 
     def show_known(self) -> None:
         """Has the display go by what is known of the session: while it may get a size that it was given that is its size."""

@@ -7,7 +7,7 @@ import signal
 from collections.abc import Callable
 
 from roam_live import terminal
-from roam_live.asides import GivenAside
+from roam_live.asides import GivenAside, GivenClip
 from roam_live.loops import Loop
 from roam_live.program import Fault, write
 from roam_live.words import printable
@@ -41,7 +41,7 @@ class OuterTerminal:
         self.known = terminal.size_of(0)
         # Those that it had before.
         self.modes: terminal.Modes | None = None
-        self.aside = GivenAside()
+        self.aside, self.clip = GivenAside(), GivenClip()
 
     def enter(self) -> None:
         """Takes the terminal."""
@@ -72,6 +72,21 @@ class OuterTerminal:
         """Asks it for reports of the mouse: for none, `drags`, or all `motion`."""
         self.waiting += self.aside.asked(reports)
 
+    def set_clip(self, text: str) -> None:
+        """Sets its clipboard, by a text in base64."""
+        if self.aside.is_able:
+            self.clip.give(text)
+
+    def has_more(self) -> bool:
+        """Whether something waits for it."""
+        return bool(self.waiting) or self.clip.waits()
+
+    def put(self) -> bool:
+        """Writes what it takes now; tells whether it is still there. A text for the clipboard stands where all is written that waited."""
+        if self.clip.has_begun or not self.waiting and self.clip.waits():
+            return self.clip.put(self.end)
+        return write(self.end, self.waiting)
+
     def suspend(self) -> None:
         """Brings back what stood there, and stops this process with its group, as C-z does for others; returns once it is continued. The
         system doesn't stop a group that no shell could continue."""
@@ -87,7 +102,8 @@ class OuterTerminal:
             return
         self.waiting.clear()
         os.set_blocking(self.end, True)
-        self.waiting += self.aside.taken_back() + terminal.LEFT + (f"{printable(line)}\r\n".encode() if line else b"")
+        self.waiting += self.clip.taken_back() + self.aside.taken_back()
+        self.waiting += terminal.LEFT + (f"{printable(line)}\r\n".encode() if line else b"")
         while self.waiting and write(self.end, self.waiting):
             pass
         terminal.restore(0, self.modes)

@@ -9,7 +9,7 @@ from collections.abc import Callable
 from roam_live.following import Following
 from roam_live.listeners import Listener
 from roam_live.loops import Loop
-from roam_live.places import ASIDE, ToldPanes, aside_of
+from roam_live.places import ASIDE, CLIP, CLIPS, ToldPanes, aside_of
 from roam_live.program import Fault, read, reason, say, write
 
 TYPE_CHECKING = False
@@ -29,7 +29,7 @@ PANES = "panes"
 CARRIED = ("bells", "shells")
 
 # What is asked for there once, for all who ask for it here.
-ASKED_HERE = (ASIDE,)
+ASKED_HERE = (ASIDE, CLIPS)
 
 
 class CarriedSocket:
@@ -125,9 +125,10 @@ class SharedPanes:
             if not peer.knows:
                 self.tell_all(peer)
                 continue
-            if ASIDE in peer.words:
-                peer.news.update(asides)
+            peer.news.update({key: line for key, line in asides.items() if (CLIPS if key == CLIP else ASIDE) in peer.words})
             self.tell(peer, places)
+        # It isn't told to who comes later.
+        self.told.clip = None
 
     def lose(self) -> None:
         """Lets all go who follow: where the panes are isn't known now, and who comes again is told what is so then."""
@@ -155,7 +156,7 @@ class SharedPanes:
         if lines:
             peer.knows = True
             if ASIDE in peer.words:
-                peer.news = self.told.lines_beside()
+                peer.news.update(self.told.lines_beside())
             self.tell(peer, lines)
 
     def tell(self, peer: PanesPeer, lines: list[str]) -> None:
@@ -200,8 +201,8 @@ class SharedPanes:
         if is_new:
             peer.words.append(word)
         self.following.want(word)
-        if is_new and peer.knows:
-            peer.news = self.told.lines_beside()
+        if is_new and peer.knows and word == ASIDE:
+            peer.news.update(self.told.lines_beside())
             peer.put_news()
 
     def part(self, peer: PanesPeer) -> None:

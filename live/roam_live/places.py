@@ -20,17 +20,23 @@ MOST_STARTS = 64
 
 # What a line tells: where a pane is and which making of its number, that it is gone, which is in focus, or how many starts there were of
 # how many; and to who asked for it which modes a pane's program has set, or what else stands beside its terminal. It may have come from
-# another machine: its numbers are small.
+# another machine: its numbers are small, and a text for the clipboard is base64 and has 131,072 characters at most.
 TOLD = re.compile(r"(?P<pane>[1-9])((?: \d{1,4}){4}) (?P<life>\d{1,19})|(?P<gone>[1-9]) gone|focus (?P<focus>[1-9])"
                   r"|(?P<kind>starts|watchers) (?P<count>\d{1,4})(?: of \d{1,4})?"
                   r"|(?P<aside>modes [1-9] \d{1,19}(?: [a-z0-9]{1,16}){0,16}|shape [1-9] \d{1,19} [0-6]"
-                  r"|title [1-9] \d{1,19} (?:[0-9a-f]{2}){0,800})|bell [1-9] \d{1,19}", re.ASCII)
+                  r"|title [1-9] \d{1,19} (?:[0-9a-f]{2}){0,800})|bell [1-9] \d{1,19}|(?P<clip>clip [1-9] \d{1,19} "
+                  r"(?:[A-Za-z0-9+/]{4}){0,32767}(?:[A-Za-z0-9+/]{4}|[A-Za-z0-9+/]{3}=|[A-Za-z0-9+/]{2}==)?)", re.ASCII)
+LONGEST_LINE = (1 << 17) + 64
 
 # What a server is asked for by who goes by what stands beside the panes' terminals, and the words that begin the lines of that; that a
 # program wants what is pasted between brackets.
 ASIDE = "beside"
 ASIDES = ("modes", "shape", "title", "bell")
 BRACKETED = "paste"
+
+# What it is asked for by who sets a clipboard too, and the word of its lines.
+CLIPS = "clips"
+CLIP = "clip"
 
 # So many seconds a server has for what it is asked once, and what is told behind the focus for coming.
 ASKED = 1.0
@@ -119,9 +125,10 @@ def distance(rect: Rect, row: float, col: float) -> float:
 
 
 def aside_of(line: str) -> str:
-    """What a line tells of what stands beside a pane's terminal: its word and the pane; nothing where it tells something else."""
+    """What a line tells of what stands beside a pane's terminal: its word and the pane, and of the clipboard its word alone; nothing where
+    it tells something else."""
     word, _, rest = line.partition(" ")
-    return f"{word} {rest[:1]}" if word in ASIDES else ""
+    return f"{word} {rest[:1]}" if word in ASIDES else CLIP if word == CLIP else ""
 
 
 class ToldAside(namedtuple("ToldAside", "life value line")):
@@ -141,6 +148,8 @@ class ToldPanes:
         # Of each pane which making of its number it is; and the newest of what stands beside its terminal, by word and pane.
         self.lives: dict[int, str] = {}
         self.asides: dict[str, ToldAside] = {}
+        # The text for the clipboard that was told last, and the pane, until it is taken.
+        self.clip: tuple[int, str] | None = None
         self.focus = 0
         self.counts: dict[str, tuple[int, str]] = {}
 
@@ -162,6 +171,9 @@ class ToldPanes:
         elif found["aside"]:
             life, _, value = line.split(" ", 2)[2].partition(" ")
             self.asides[aside_of(line)] = ToldAside(life, value, line)
+        elif found["clip"]:
+            pane_told, life, text = line.split(" ")[1:]
+            self.clip = (int(pane_told), text) if life == self.lives.get(int(pane_told)) else self.clip
         elif found["kind"]:
             self.counts[found["kind"]] = int(found["count"]), line
         return True
@@ -182,6 +194,11 @@ class ToldPanes:
         """What is told by a word of what stands beside a pane's terminal; nothing where it isn't known of this making of the pane."""
         told = self.asides.get(f"{word} {pane}")
         return told.value if told and told.life == self.lives.get(pane) else ""
+
+    def taken_clip(self) -> tuple[int, str] | None:
+        """The text for the clipboard that was told since, and the pane."""
+        clip, self.clip = self.clip, None
+        return clip
 
     def has_set(self, pane: int, mode: str) -> bool:
         """Whether a pane's program is known to have set a mode."""

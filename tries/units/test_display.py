@@ -30,7 +30,7 @@ class OuterTerminal:
         self.rows, self.cols = rows, cols
         self.waiting = bytearray()
         self.is_application = False
-        self.aside, self.reports = ("", 0), ""
+        self.aside, self.reports, self.clips = ("", 0), "", []
 
     def size(self):
         """Its rows and columns."""
@@ -43,6 +43,10 @@ class OuterTerminal:
     def ask(self, reports):
         """Keeps which reports of the mouse it is asked for."""
         self.reports = reports
+
+    def set_clip(self, text):
+        """Keeps a text for the clipboard."""
+        self.clips.append(text)
 
     def shown(self):
         """The rows that it shows, without spaces at their ends."""
@@ -120,6 +124,14 @@ class PlayedPanes:
     def focus_modes(self):
         """The modes that the program in focus has set."""
         return self.modes(self.places.focus) if self.places else []
+
+    def making(self, pane):
+        """Which making of its number a pane is."""
+        return f"{pane} 1" if self.places and pane in self.places.rects else ""
+
+    def follow_clips(self, clipped):
+        """Keeps what is called with texts for the clipboard."""
+        self.clipped = clipped
 
     def modes(self, pane):
         """Those of a pane's."""

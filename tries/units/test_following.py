@@ -246,6 +246,57 @@ class FrontEnds(Played):
         self.assertIsNotNone(self.told(b"1 1 1 23 80 1\nfocus 1\nbad line\n"))
         self.assertEqual(self.words, [])
 
+    def follow_clips(self):
+        """Has texts for the clipboard be followed, over a connection that is had anew."""
+        self.clips = []
+        self.panes.follow_clips(lambda text, making: self.clips.append((text, making)))
+        self.lose_again()
+        self.loop.turns(1)
+        return self.server.recv(64)
+
+    def test_clips(self):
+        """Who sets a clipboard asks for texts too, at each connection; one of the pane in focus is told on, with its making, once."""
+        self.panes.following.ask("before")
+        self.assertEqual(self.follow_clips(), b"beside\nclips\n")
+        self.told(b"1 1 1 23 40 7\n2 1 42 23 39 1\nfocus 1\nclip 1 7 YQ==\n")
+        self.told(b"clip 1 6 YWI=\nclip 2 1 YWI=\n")
+        self.told(b"focus 2\n")
+        self.told(b"clip 1 7 YWI=\nclip 2 1 YWI=\n")
+        self.assertEqual(self.clips, [("YQ==", "1 7"), ("YWI=", "2 1")])
+        long = "A" * 131072
+        for begin in range(0, 131072, 16384):
+            self.told(b"clip 2 1 " * (begin == 0) + long[begin : begin + 16384].encode())
+        self.told(b"\n")
+        self.assertEqual(self.clips[2:], [(long, "2 1")])
+        self.told(b"x" * 70000)
+        self.assertLessEqual(len(self.panes.following.lines.rest), 131072 + 64)
+        self.now += 6
+        self.lose_again()
+        self.loop.turns(1)
+        self.assertEqual((self.server.recv(64), self.panes.making(1)), (b"beside\nclips\n", ""))
+
+    def test_clips_unknown(self):
+        """A server that doesn't know the word says so, and isn't asked again; the rest goes on."""
+        self.follow_clips()
+        self.told(b"1 1 1 23 80 1\nfocus 1\nbad line\nmodes 1 1 paste\n")
+        self.assertTrue(self.panes.wants_brackets() and self.panes.following.has_asked)
+        self.lose_again()
+        self.loop.turns(1)
+        self.assertEqual(self.server.recv(64), b"beside\n")
+        self.told(b"bad line\n")
+        self.assertEqual((self.panes.following.has_asked, self.words), (False, []))
+
+    def test_clips_refused(self):
+        """One that lets go who asks for texts is followed without, and asked again a minute later."""
+        self.follow_clips()
+        self.lose_again()
+        self.loop.turns(1)
+        self.assertEqual(self.server.recv(64), b"beside\n")
+        self.told(b"1 1 1 23 80 1\nfocus 1\n")
+        self.now += 60
+        self.loop.turns(2)
+        self.assertEqual(self.server.recv(64), b"clips\n")
+
     def test_let_go(self):
         """While nobody tells them the places aren't known; what comes next is told all anew."""
         self.told(b"1 1 1 23 80 1\nfocus 1\n")

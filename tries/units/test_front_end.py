@@ -364,7 +364,7 @@ class Loop(Fronts):
         self.assertEqual((self.front.left, self.front.status), ("", 1))
         self.front.left = None
         self.front.display.outer.waiting += b"x"
-        with mock.patch.object(front_end, "write", return_value=False):
+        with mock.patch.object(display, "write", return_value=False):
             self.turn(1)
         self.assertEqual(self.front.left, "")
 
@@ -414,7 +414,7 @@ class Loop(Fronts):
         start = self.connect()
         start.send(b"x")
         self.front.display.outer.waiting[:] = bytes(65536)
-        with mock.patch.object(front_end, "write", return_value=True):
+        with mock.patch.object(display, "write", return_value=True):
             with mock.patch.object(self.front.link, "told") as tells:
                 self.turn(1)
                 tells.assert_not_called()
@@ -504,9 +504,10 @@ class Loop(Fronts):
 
         with mock.patch.object(front_end, "FrontEnd") as made:
             made.return_value.run = runs
-            self.environment(ROAM_MOUSE="on")
+            self.environment(ROAM_MOUSE="on", ROAM_CLIPBOARD="off")
             self.assertEqual(front_end.follow(self.place, True, "C-a", "never"), 5)
-            self.assertEqual((made.call_args[0][:4], made.call_args[1]["has_mouse"]), ((self.place, True, "C-a", "never"), True))
+            self.assertEqual(made.call_args[0][:4], (self.place, True, "C-a", "never"))
+            self.assertEqual(made.call_args[1], {"is_whole": False, "has_mouse": True, "has_clips": False})
             self.environment(ROAM_MOUSE="no")
             self.assertRaises(Fault, front_end.follow, self.place, True, "C-a", "never")
         self.assertEqual(seen, [f"{begun(os.getpid())} watches\n"])
@@ -577,6 +578,75 @@ class Mouse(Fronts):
         os.write(self.wakes, bytes([signal.SIGCONT]))
         self.turn(1)
         self.assertIn(terminal.ENTERED + mouse.ASKED["drags"], self.shown())
+
+
+class Clipboard(Fronts):
+    """Texts for the terminal's clipboard."""
+
+    def setUp(self):
+        self.environment(TERM="xterm")
+        super().setUp()
+
+    def front_of(self, watches=False, has_clips=True):
+        """A front end that sets it, or doesn't, connected and with a painting."""
+        self.front = FrontEnd(self.place, watches, "C-b", "adaptive", lambda places: False, StillLoop(), has_clips=has_clips)
+        self.addCleanup(lambda: closed(self.front.display.outer.end))
+        self.addCleanup(lambda: self.front.link.close())
+        self.connect()
+        self.paints()
+        self.shown()
+        return self.front
+
+    def set(self, text, making="1 1"):
+        """Has the program in focus set a text, and tells what came to the terminal."""
+        self.panes.clipped(text, making)
+        self.turn()
+        return self.shown()
+
+    def test_last_key(self):
+        """It is set where the last key went to the pane in focus, in whichever way it was typed, and not before."""
+        self.place.told = PANES
+        self.front_of()
+        clip = b"\x1b]52;c;YQ==\x07"
+        for typed, made in ((b"", b""), (b"y", clip), (b"\x022", clip), (b"x", b""), (b"\x021y", clip), (b"\x02o", clip), (b"\x1b[A", b""),
+                            (b"\x021\x1b[200~y\x1b[201~", clip)):
+            self.type(typed)
+            self.shown()
+            self.assertEqual(self.set("YQ=="), made, typed)
+        self.assertEqual((self.set("YQ==", "1 2"), self.set("YQ==", "2 1"), self.set("YQ==", "")), (b"", b"", b""))
+
+    def test_pointed(self):
+        """A report of the mouse that was typed there is a key too."""
+        self.place.told = PANES
+        self.panes.modes_of = {1: "drags sgr"}
+        self.front_of()
+        self.type(b"\x1b[<0;5;7M")
+        self.assertEqual(self.set("YQ=="), b"\x1b]52;c;YQ==\x07")
+
+    def test_chosen(self):
+        """Where nobody chose it, and at a terminal that watches, texts aren't asked for."""
+        for more in ({"has_clips": False}, {"watches": True}):
+            self.panes.clipped = None
+            self.front_of(**more)
+            self.assertIsNone(self.panes.clipped)
+
+    def test_between(self):
+        """One stands behind all that was painted before it, and is whole where it is left in the middle of one."""
+        outer = self.front_of().display.outer
+        self.type(b"y")
+        self.shown()
+        clip, written = b"\x1b]52;c;" + b"QUJD" * 32768 + b"\x07", []
+        outer.waiting += b"painted"
+        self.panes.clipped("QUJD" * 32768, "1 1")
+        for _ in range(3):
+            self.turn(1)
+            outer.waiting += b"behind"
+        shown = self.shown()
+        self.assertTrue(shown.startswith(b"painted\x1b]52;c;QUJD") and b"behind" not in shown and len(shown) < 131072)
+        with mock.patch.object(terminal, "restore"), mock.patch("os.set_blocking"), mock.patch.object(display, "write") as writes:
+            writes.side_effect = lambda end, waiting: (written.append(bytes(waiting)), waiting.clear())
+            outer.leave("[detached]")
+        self.assertEqual(shown + written[0], b"painted" + clip + terminal.LEFT + b"[detached]\r\n")
 
 
 class Wishes(Case):

@@ -202,6 +202,34 @@ class Panes(Sockets):
         self.asks(one, b"se 2 1\n")
         self.assertEqual((self.names, read_now(self.panes())), (["panes"] * 3, b"beside\nclose 2 1\n"))
 
+    def test_clips(self):
+        """Texts for a clipboard are told to who asks for them, the newest once he reads, and to nobody who comes later."""
+        self.turn(3)
+        self.tell(LINES)
+        first, other, slow = self.connect(), self.connect(), self.connect()
+        for one in (first, other):
+            read_now(one)
+        self.asks(other)
+        self.asks(first, b"beside\nclips\n")
+        self.asks(slow, b"clips\n")
+        self.assertEqual(read_now(self.panes()), b"beside\nclips\n")
+        self.tell(b"clip 1 1 YQ==\nmodes 1 1 paste\nclip 1 1 ?\n")
+        self.assertEqual([read_now(one) for one in (first, other)], [b"clip 1 1 YQ==\nmodes 1 1 paste\n", b"modes 1 1 paste\n"])
+        for number in range(12):
+            self.sockets.panes.hear([f"clip {number % 2 + 1} 1 {number:04d}" + "A" * 131068])
+            self.turn()
+        self.sockets.panes.hear(["focus 2"])
+        got = b""
+        for _ in range(60):
+            self.turn()
+            got += read_now(slow)
+        told = [line[:13] for line in got.split(b"\n") if line.startswith(b"clip")]
+        self.assertEqual((told[0], told[-1], b"focus 2\n" in got), (b"clip 1 1 YQ==", b"clip 2 1 0011", True))
+        self.assertLess(len(told), 12)
+        late = self.connect()
+        self.asks(late, b"beside\nclips\n")
+        self.assertEqual(read_now(late), LINES.replace(b"focus 1", b"focus 2") + b"modes 1 1 paste\n")
+
     def test_beside_slow(self):
         """What stands beside lets nobody go: who reads nothing is told the newest once he does, and where the panes are before it."""
         self.turn(3)
