@@ -237,9 +237,9 @@ def follow(session: AnySession, watches: bool, prefix: str, guessing: str,
     room for its own status row."""
     note = None
     try:
-        chosen = {"has_mouse": wants_mouse(), "has_clips": sets_clipboard()}
+        has_mouse, has_clips = wants_mouse(), sets_clipboard()
         note = noted_front_end(session.folder, "watches" if watches else "edits")
-        return FrontEnd(session, watches, prefix, guessing, is_new, is_whole=is_whole, **chosen).run()
+        return FrontEnd(session, watches, prefix, guessing, is_new, is_whole=is_whole, has_mouse=has_mouse, has_clips=has_clips).run()
     finally:
         session.close()
         if note:
