@@ -151,8 +151,12 @@ class Commands:
             if word in MOVES:
                 self.move(word, int(pane) if word == "focus" else 0)
         if acts and acts[-1].startswith(KEYS):
-            places = self.places()
-            self.typed_in = self.panes.making(places.focus) if places else ""
+            self.note_key()
+
+    def note_key(self) -> None:
+        """Takes note of where this person's last key goes."""
+        places = self.places()
+        self.typed_in = self.panes.making(places.focus) if places else ""
 
     def move(self, word: str, pane: int) -> None:
         """Takes note that this person moves the focus, to a pane or to one that isn't known: what was told of it isn't so then. What moves
