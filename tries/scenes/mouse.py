@@ -6,13 +6,13 @@ from tried import SESSION, Outer, check, comes, scene, three_panes, tool
 from roam_live.mouse import ASKED, OFF
 from scenes.machines import ssh_words
 
-# A program that sets modes, and notes all that it is sent in hexadecimal digits; q ends it.
+# A program that sets modes, and notes all that it is sent in hexadecimal digits; q ends it, which it notes too.
 NOTES = """\
 import os, sys, termios, tty
 modes, path = sys.argv[1:]
 before = termios.tcgetattr(0)
 tty.setraw(0)
-os.write(1, b"".join(b"\\033[?%dh" % int(mode) for mode in modes.split(",")) + b"\\033[2J\\033[Hready ")
+os.write(1, b"".join(b"\\033[?%dh" % int(mode) for mode in modes.split(",")) + b"\\033[2J\\033[Hat " + os.path.basename(path).encode() + b" ")
 piece = b""
 while piece != b"q":
     piece = os.read(0, 4096)
@@ -21,6 +21,7 @@ while piece != b"q":
     os.write(1, piece.hex().encode() + b" ")
 os.write(1, b"".join(b"\\033[?%dl" % int(mode) for mode in modes.split(",")))
 termios.tcsetattr(0, termios.TCSANOW, before)
+open(path + ".ended", "w").close()
 """
 
 
@@ -35,7 +36,7 @@ class Noting:
         script = folder / "notes"
         script.write_text(NOTES, encoding="utf-8")
         outer.type(f"clear; python3 {script} {modes} {self.path}\r".encode())
-        outer.shows("ready")
+        outer.shows(f"at {self.path.name}")
 
     def noted(self):
         """What it was sent so far."""
@@ -50,7 +51,7 @@ class Noting:
     def quit(self):
         """Ends it."""
         self.outer.type(b"q")
-        self.outer.shows("$ ")
+        comes(self.path.with_name(f"{self.path.name}.ended").exists)
 
 
 def report(button, row, col, is_release=False):
@@ -59,7 +60,8 @@ def report(button, row, col, is_release=False):
 
 
 def points(outer, *reports):
-    """Has the mouse report, each slowly enough for motion."""
+    """Has the mouse report, once all is told that was shown, and each slowly enough for motion."""
+    time.sleep(0.2)
     for one in reports:
         outer.type(report(*one))
         time.sleep(0.05)
@@ -121,7 +123,7 @@ def mouse_leaves(folder):
         is_off = outer.ends() and bytes(outer.written).rfind(OFF) > bytes(outer.written).rfind(b"?1003h")
         check(f"{name}: and for nothing in the end", is_off and outer.is_restored(), bytes(outer.written[-200:]))
     watcher = Outer(tool("mux", "watch", SESSION))
-    watcher.shows("ready")
+    watcher.shows("at noted")
     time.sleep(0.3)
     check("one that watches isn't asked", b"?1003h" not in watcher.written, bytes(watcher.written[-200:]))
     begin = len(first.written)
@@ -145,13 +147,15 @@ def mouse_of_roam(folder):
         click(outer, *place)
         check(f"a click at {place} focuses the pane there", outer.status(label), outer.rows)
     outer.type(b"clear; seq 200\r")
-    outer.shows("200")
+    outer.shows("199")
     points(outer, *[(64, 5, 5)] * 10)
     check("the wheel shows what scrolled off", outer.shows("160 ") and outer.status("30 rows back"), outer.rows)
     points(outer, *[(65, 5, 5)] * 10)
     check("and comes back to the newest", outer.shows("200 ") and outer.status("[1] 2  3 "), outer.rows)
     outer.type(b"clear; seq 300 | less\r")
     outer.shows(":")
+    # That it shows the other screen is told a moment later.
+    time.sleep(0.3)
     points(outer, *[(65, 5, 5)] * 3)
     check("on the other screen it is three arrows", comes(lambda: outer.rows()[0].startswith("10 ")), outer.rows)
     click(outer, 3, 60)
