@@ -46,10 +46,11 @@ def right_of(outer):
 
 
 def point(outer, tmux, modes, *reports):
-    """Has the mouse report at both, at places of the pane: in tmux the program is sent what it asked for."""
+    """Has the mouse report at both, at places of the pane or to the left of it: in tmux the program is sent what it asked for, where it
+    stands nearest."""
     for button, row, col, *is_release in reports:
         outer.type(report(button, row, col + LEFT, bool(is_release)))
-        text = sent(MouseReport(button, row, col, bool(is_release)), modes)
+        text = sent(MouseReport(button, row, max(1, col), bool(is_release)), modes)
         tmux.type("-H", *[f"{byte:02x}" for byte in text.encode()])
         time.sleep(0.06)
 
@@ -100,7 +101,7 @@ def mouse_vim(folder):
     vimrc = "set noshowcmd shm+=I mouse=a ttymouse=sgr ruler"
     check_pointed("vim", f"vim -u NONE -i NONE -nN -c '{vimrc}' {text}", {
         "a click": click(5, 9), "the wheel": [(65, 5, 9)] * 3, "a drag": [(0, 3, 4), (32, 4, 8), (32, 6, 12), (0, 6, 12, True)],
-        "one out of the pane": [(0, 8, 10), (32, 9, 4), (32, 9, 1), (0, 9, 1, True)],
+        "one out of the pane": [(0, 8, 10), (32, 9, 4), (32, 9, -5), (0, 9, -9, True)],
         "a click of another button": [(2, 12, 5), (2, 12, 5, True)],
     }, b"\x1b\x1b:q!\r")
 
