@@ -1,12 +1,18 @@
-"""What a front end gives a person's terminal beside what is painted there: the title and the cursor's shape of the pane in focus."""
+"""What a front end gives a person's terminal beside what is painted there: the title and the cursor's shape of the pane in focus, and which
+reports of the mouse it is asked for."""
 from __future__ import annotations
 
 import os
 
+from roam_live.mouse import ASKED, OFF
+from roam_live.program import write
 from roam_live.words import printable
 
 # The terminal keeps its title, and has it back (xterm, XTWINOPS).
 TITLE_KEPT, TITLE_BACK = b"\x1b[22;2t", b"\x1b[23;2t"
+
+# What sets a terminal's clipboard stands round its text in base64 (OSC 52).
+CLIP_BEGIN, CLIP_END = b"\x1b]52;c;", b"\x07"
 
 # So many characters of a title are given at most.
 MOST_TITLE = 200
@@ -22,14 +28,53 @@ def shaped(shape: int) -> bytes:
     return b"\x1b[%d q" % shape
 
 
+class GivenClip:
+    """A text for a terminal's clipboard, on its way there: between paintings, whole, and the newest where several come."""
+
+    def __init__(self) -> None:
+        self.newest = b""
+        # What of one isn't written yet, and whether it has begun.
+        self.rest = bytearray()
+        self.has_begun = False
+
+    def give(self, text: str) -> None:
+        """Has a text be set, which is base64, in place of one of which nothing is written yet."""
+        if not self.has_begun:
+            self.rest.clear()
+        self.newest = CLIP_BEGIN + text.encode("ascii", "replace") + CLIP_END
+
+    def waits(self) -> bool:
+        """Whether something is to be written."""
+        return bool(self.newest or self.rest)
+
+    def put(self, end: int) -> bool:
+        """Writes what a terminal takes of it; tells whether that is still there."""
+        if not self.rest:
+            self.rest, self.newest = bytearray(self.newest), b""
+        length = len(self.rest)
+        is_there = write(end, self.rest)
+        self.has_begun = 0 < len(self.rest) < length or self.has_begun and bool(self.rest)
+        return is_there
+
+    def taken_back(self) -> bytes:
+        """What is written where the terminal is given back: the rest of one that has begun. Nothing waits then."""
+        text = bytes(self.rest) if self.has_begun else b""
+        self.newest, self.has_begun = b"", False
+        self.rest.clear()
+        return text
+
+
 class GivenAside:
-    """What was given. A console of Linux has neither a title nor such a shape, and is given nothing."""
+    """What was given. A console of Linux has neither a title nor such a shape nor the form in which reports are read, and is given
+    nothing."""
 
     def __init__(self) -> None:
         self.is_able = os.environ.get("TERM") != "linux"
         self.title = ""
         self.has_kept = False
         self.shape = 0
+        # Which reports it is asked for: none, `drags` or `motion`.
+        self.reports = ""
 
     def given(self, title: str, shape: int) -> bytes:
         """What is written where this is the title and the shape from now on: what is new of it. The terminal's own title isn't changed
@@ -44,8 +89,16 @@ class GivenAside:
             self.shape = shape
         return text
 
+    def asked(self, reports: str) -> bytes:
+        """What is written where it is asked for these reports from now on: nothing where it was."""
+        if not self.is_able or reports == self.reports:
+            return b""
+        self.reports = reports
+        return ASKED[reports]
+
     def taken_back(self) -> bytes:
-        """What is written where the terminal is given back: it has its own title again, and its own shape. Nothing is given then."""
-        text = (TITLE_BACK if self.has_kept else b"") + (shaped(0) if self.shape else b"")
-        self.title, self.has_kept, self.shape = "", False, 0
+        """What is written where the terminal is given back: it has its own title again, and its own shape, and reports nothing. Nothing is
+        given then."""
+        text = (OFF if self.reports else b"") + (TITLE_BACK if self.has_kept else b"") + (shaped(0) if self.shape else b"")
+        self.title, self.has_kept, self.shape, self.reports = "", False, 0, ""
         return text

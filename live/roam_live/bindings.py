@@ -15,7 +15,7 @@ if TYPE_CHECKING:
 # Keys after the prefix that are acts, and those that are wishes. An arrow is the wish to have the pane there in focus.
 BINDINGS = {"o": "next", **{str(pane): f"focus {pane}" for pane in range(1, 10)}}
 WISHES = {"%": "split right", '"': "split down", "x": "close", "d": "detach", "r": "repaint", "?": "help", "up": "up", "down": "down",
-          "left": "left", "right": "right", "\x1a": "suspend"}
+          "left": "left", "right": "right", "\x1a": "suspend", "m": "mouse"}
 GROWTH = {"C-right": "grow 1", "C-down": "grow 1", "C-left": "grow -1", "C-up": "grow -1"}
 
 # For so many seconds after a growth the next needs no prefix.
@@ -40,6 +40,8 @@ C-b and then:
   C-arrows grow the pane along its split (right, down), or shrink it (left,
            up); again within half a second without C-b
   [ PgUp   scroll: PgUp PgDn up down g G; q, Escape, C-c or Return ends it
+  m        the mouse: a click focuses the pane there, the wheel scrolls, and
+           borders are dragged; again, it selects text as without roam
   d        detach: the session goes on
   C-z      suspend: the shell that this came from is there again, until `fg`
   r        size the session to this terminal, which cuts what is wider where
@@ -78,6 +80,20 @@ class Typing:
         """The answer to what was asked: y, or any other key; a paste is none, and nothing else."""
         self.mode = self.pasting if key.name == "paste" else self.plain
         return [], "yes" if key.name in ("y", "Y") else "no"
+
+    def is_typing(self) -> bool:
+        """Whether what a person does goes to the pane in focus, but for the key behind a prefix."""
+        return self.mode in (self.plain, self.prefixed)
+
+    def is_scrolling(self) -> bool:
+        """Whether keys scroll."""
+        return self.mode == self.scrolling
+
+    def scrolled_by(self, rows: int) -> Asked:
+        """Scrolls by so many rows, as a mouse does, from the newest ones on where it doesn't yet; there again that ends."""
+        self.view = min(max(rows + (self.view if self.is_scrolling() else 0), 0), MOST_VIEW)
+        self.mode = self.scrolling if self.view else self.plain
+        return ([f"view {rows}"], "scroll") if self.view else ([NEWEST], "scrolled")
 
     def left(self) -> list[str]:
         """The acts that are left to do where the person leaves."""

@@ -1,4 +1,5 @@
-"""What a person chooses by the environment: the prefix, when guesses are shown, and whether UDP is tried between machines."""
+"""What a person chooses by the environment: the prefix, when guesses are shown, whether roam has the mouse, who sets the clipboard, and
+whether UDP is tried between machines."""
 from __future__ import annotations
 
 import os
@@ -11,6 +12,12 @@ PREFIX = "C-b"
 
 # When what keys are guessed to show is shown before the session has shown it; where nothing says so it is the first of them.
 GUESSING = ("adaptive", "always", "never")
+
+# Whether roam itself has the mouse: a click focuses, the wheel scrolls, and borders are dragged.
+MOUSE = ("off", "on")
+
+# Who sets the terminal's clipboard: nobody but roam itself, which never does yet; programs in panes too; or nobody.
+CLIPBOARD = ("external", "on", "off")
 
 
 def chosen_prefix() -> str:
@@ -27,6 +34,24 @@ def chosen_guessing(asked: str | None = None) -> str:
     if name not in GUESSING:
         raise Fault(f"ROAM_GUESS is {name!r}, and may be adaptive, always or never")
     return name
+
+
+def chosen(word: str, choices: tuple[str, ...]) -> str:
+    """What a word of the environment chooses, of these; the first of them where it isn't there."""
+    name = os.environ.get(word) or choices[0]
+    if name not in choices:
+        raise Fault(f"{word} is {name!r}, and may be {', '.join(choices[:-1])} or {choices[-1]}")
+    return name
+
+
+def wants_mouse() -> bool:
+    """Whether roam has the mouse from the beginning: where the environment's ROAM_MOUSE is `on`."""
+    return chosen("ROAM_MOUSE", MOUSE) == "on"
+
+
+def sets_clipboard() -> bool:
+    """Whether programs in panes set the terminal's clipboard: where the environment's ROAM_CLIPBOARD is `on`."""
+    return chosen("ROAM_CLIPBOARD", CLIPBOARD) == "on"
 
 
 def wants_udp() -> bool:

@@ -12,7 +12,9 @@ from roam_live.display import NO_SIZE, Display
 from roam_live.keys import Key, Keys
 from roam_live.links import StartLink
 from roam_live.loops import Loop
+from roam_live.mouse import MOUSE
 from roam_live.pastes import Pastes
+from roam_live.pointing import Pointing
 from roam_live.program import has_others
 from roam_live.programs import told
 from roam_live.following import PanesFollower
@@ -26,6 +28,9 @@ if TYPE_CHECKING:
 
 # An escape that nothing follows for so many seconds is the key.
 ESCAPE_WAIT = 0.025
+
+# Acts that go to the program in the pane in focus.
+KEYS = ("char ", "key ")
 
 # The wishes that are granted while something stands in the session's place. Nothing is typed then, since nobody would see where it goes.
 UNDER_COVER = ("detach", "suspend", "repaint", "help", "no", "scrolled")
@@ -58,6 +63,7 @@ class Commands:
         # Whether the session is shown whole where it has room, with its own status row.
         self.is_whole = is_whole
         self.keys = Keys()
+        self.pointing = Pointing(self, loop)
         self.prefix = "C-b"
         self.typing = Typing()
         self.help = help_with(self.prefix)
@@ -75,6 +81,8 @@ class Commands:
         # then.
         self.moved_to: int | None = None
         self.moved_from: Places | None = None
+        # The making of the pane to which this person's last key went, where that is known.
+        self.typed_in = ""
 
     def choose(self, prefix: str) -> None:
         """Makes the key of a name the prefix."""
@@ -92,6 +100,9 @@ class Commands:
     def typed(self, keys: list[Key]) -> None:
         """Takes keys."""
         for key in keys:
+            if key.name == MOUSE and self.typing.mode != self.typing.pasting:
+                self.pointing.take(key.text)
+                continue
             is_help = self.display.cover == self.help
             if is_help:
                 self.display.uncover()
@@ -121,6 +132,7 @@ class Commands:
             self.pastes.add(key.text)
         elif was_pasting:
             self.pastes.end()
+            self.note_key()
         elif is_pasting:
             self.pastes.begin(NO_ANSWER if before == self.typing.answering else "")
 
@@ -135,10 +147,27 @@ class Commands:
         if self.link.watches:
             return
         self.pastes.type(*acts)
+        self.note_moves(*acts)
+
+    def act_together(self, *acts: str) -> None:
+        """Has acts typed in a line of their own, by who doesn't only watch: nothing comes between them."""
+        if not self.link.watches:
+            self.pastes.type_together(*acts)
+            self.note_moves(*acts)
+
+    def note_moves(self, *acts: str) -> None:
+        """Takes note of those of these acts that move the focus, and of where the last one goes, where it is a key."""
         for act in acts:
             word, _, pane = act.partition(" ")
             if word in MOVES:
                 self.move(word, int(pane) if word == "focus" else 0)
+        if acts and acts[-1].startswith(KEYS):
+            self.note_key()
+
+    def note_key(self) -> None:
+        """Takes note of where this person's last key goes."""
+        places = self.places()
+        self.typed_in = self.panes.making(places.focus) if places else ""
 
     def move(self, word: str, pane: int) -> None:
         """Takes note that this person moves the focus, to a pane or to one that isn't known: what was told of it isn't so then. What moves
@@ -155,13 +184,20 @@ class Commands:
             self.moved_to = None
         if self.given == self.session_size():
             self.forget_given()
+        self.pointing.told()
         self.fit_first()
         self.show_known()
         self.show_aside()
 
     def show_aside(self) -> None:
-        """Gives the terminal the title and the cursor's shape of the pane in focus."""
+        """Gives the terminal the title and the cursor's shape of the pane in focus, and asks it for what its program wants of the mouse."""
         self.display.outer.give(*self.panes.aside)
+        self.display.outer.ask(self.pointing.asked())
+
+    def clip(self, text: str, making: str) -> None:
+        """Sets the terminal's clipboard by what the program in focus sets, in base64, where this person's last key went to it."""
+        if making and making == self.typed_in:
+            self.display.outer.set_clip(text)
 
     def show_known(self) -> None:
         """Has the display go by what is known of the session: while it may get a size that it was given that is its size."""
@@ -181,6 +217,12 @@ class Commands:
     def left(self) -> None:
         """Does what is left to do where the person leaves."""
         self.act(*self.typing.left())
+
+    def end_scroll(self) -> None:
+        """Ends the scroll mode, where the newest rows are."""
+        self.act(*self.typing.left())
+        self.typing.mode = self.typing.plain
+        self.display.end_told()
 
     def grant(self, wish: str, key: Key) -> None:
         """Does what the front end itself is asked for."""
@@ -207,6 +249,8 @@ class Commands:
             self.split(wish)
         elif wish == "close":
             self.close()
+        elif wish == "mouse":
+            self.pointing.switch()
         elif wish in BESIDE:
             self.go(wish)
         elif wish in ("yes", "no", "scrolled"):

@@ -7,7 +7,7 @@ import signal
 from collections.abc import Callable
 
 from roam_live import terminal
-from roam_live.asides import GivenAside
+from roam_live.asides import GivenAside, GivenClip
 from roam_live.loops import Loop
 from roam_live.program import Fault, write
 from roam_live.words import printable
@@ -41,7 +41,7 @@ class OuterTerminal:
         self.known = terminal.size_of(0)
         # Those that it had before.
         self.modes: terminal.Modes | None = None
-        self.aside = GivenAside()
+        self.aside, self.clip = GivenAside(), GivenClip()
 
     def enter(self) -> None:
         """Takes the terminal."""
@@ -61,10 +61,31 @@ class OuterTerminal:
         terminal.make_raw(0)
         self.waiting += terminal.ENTERED
         self.is_application = False
+        # Whoever had it may have asked it for others.
+        self.aside.reports = ""
 
     def give(self, title: str, shape: int) -> None:
         """Gives it a title and its cursor a shape, until it is left."""
         self.waiting += self.aside.given(title, shape)
+
+    def ask(self, reports: str) -> None:
+        """Asks it for reports of the mouse: for none, `drags`, or all `motion`."""
+        self.waiting += self.aside.asked(reports)
+
+    def set_clip(self, text: str) -> None:
+        """Sets its clipboard, by a text in base64."""
+        if self.aside.is_able:
+            self.clip.give(text)
+
+    def has_more(self) -> bool:
+        """Whether something waits for it."""
+        return bool(self.waiting) or self.clip.waits()
+
+    def put(self) -> bool:
+        """Writes what it takes now; tells whether it is still there. A text for the clipboard stands where all is written that waited."""
+        if self.clip.has_begun or not self.waiting and self.clip.waits():
+            return self.clip.put(self.end)
+        return write(self.end, self.waiting)
 
     def suspend(self) -> None:
         """Brings back what stood there, and stops this process with its group, as C-z does for others; returns once it is continued. The
@@ -81,7 +102,8 @@ class OuterTerminal:
             return
         self.waiting.clear()
         os.set_blocking(self.end, True)
-        self.waiting += self.aside.taken_back() + terminal.LEFT + (f"{printable(line)}\r\n".encode() if line else b"")
+        self.waiting += self.clip.taken_back() + self.aside.taken_back()
+        self.waiting += terminal.LEFT + (f"{printable(line)}\r\n".encode() if line else b"")
         while self.waiting and write(self.end, self.waiting):
             pass
         terminal.restore(0, self.modes)
@@ -218,6 +240,17 @@ class Display:
         is_over = is_anew or self.is_line_lost or self.asked is None
         self.is_stale = self.is_line_lost = False
         self.put_line(is_over)
+
+    def shown_at(self, row: int, col: int, is_near: bool = False) -> tuple[int, int] | None:
+        """The place of the session that is shown at a row and a column of the terminal, all from 1; None where none is, as in the last row,
+        or the nearest that is."""
+        rows, cols = self.painted_size
+        if is_near:
+            row, col = min(max(row, 1), rows), min(max(col, 1), cols)
+        if self.cover or self.is_stale or not (1 <= row <= rows and 1 <= col <= cols):
+            return None
+        top, left = self.place if self.asked else (0, 0)
+        return top + row, left + col
 
     # ---- lines in place of the session
 

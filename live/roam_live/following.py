@@ -6,7 +6,7 @@ import socket
 from collections.abc import Callable
 
 from roam_live.loops import Loop
-from roam_live.places import ASIDE, BRACKETED, Places, ToldPanes
+from roam_live.places import ASIDE, BRACKETED, CLIPS, LONGEST_LINE, Places, ToldPanes
 from roam_live.program import Lines, SocketPeer, connected, connected_now, read, reason, runs_program, say, write
 
 TYPE_CHECKING = False
@@ -25,8 +25,12 @@ TELLS_NOTHING = "the server tells nothing, as where no descriptor is left for it
 # place for them from each other, do so ever more seldom.
 SOUND = 5.0
 
-# What a server is told by the keeper of shells, for which it has a place of its own.
+# A server that lets go who asks for texts for a clipboard is asked for them again after so many seconds.
+CLIPS_AGAIN = 60.0
+
+# What a server is told by the keeper of shells, for which it has a place of its own; and what it answers to a line that it doesn't know.
 KEEPER = "keeper"
+BAD_LINE = "bad line"
 
 # Where nobody tells where the panes are it isn't said before so many tries, since who tells it may come a moment later; and for so many
 # seconds a front end takes it that it will be told.
@@ -51,6 +55,8 @@ class Following:
     def __init__(self, connects: Callable[[], socket.socket], loop: Loop, hears: Callable[[list[str]], object],
                  loses: Callable[[], object]) -> None:
         self.connects, self.loop, self.hears, self.loses = connects, loop, hears, loses
+        # What is asked for at each connection, before all else.
+        self.words: list[str] = []
         self.peer: socket.socket | None = None
         self.lines = Lines()
         self.waiting = bytearray()
@@ -64,8 +70,23 @@ class Following:
     def begin(self, peer: socket.socket) -> None:
         """Follows a connection that is there."""
         self.peer, self.lines, self.since = peer, Lines(), self.loop.clock()
+        self.lengthen()
         self.waiting.clear()
         self.loop.add(peer, self.hear, lambda: write(peer.fileno(), self.waiting), has_more=lambda: self.waiting)
+        for word in self.words:
+            self.ask(word)
+
+    def want(self, word: str) -> None:
+        """Asks for something now, and at each connection from now on."""
+        if word not in self.words:
+            self.words.append(word)
+            self.lengthen()
+            self.ask(word)
+
+    def lengthen(self) -> None:
+        """Takes lines that are longer where a text for a clipboard may be told."""
+        if CLIPS in self.words:
+            self.lines.longest = LONGEST_LINE
 
     def ask(self, line: str) -> None:
         """Asks the server for something, while it is followed."""
@@ -87,6 +108,10 @@ class Following:
         """Lets go of a connection, which is had again after a pause."""
         if self.peer:
             self.soon = self.soon + 1 if self.loop.clock() < self.since + SOUND else 1
+        if self.soon > 1 and CLIPS in self.words:
+            # Who is let go again and again may be so for what was asked.
+            self.words.remove(CLIPS)
+            self.loop.later("clips again", CLIPS_AGAIN, lambda: self.want(CLIPS))
         self.leave()
         self.why = why
         self.loop.later(self.again, PAUSES[min(self.pauses(), len(PAUSES) - 1)], self.connect)
@@ -112,21 +137,6 @@ class Following:
         except OSError as fault:
             self.is_gone = isinstance(fault, (FileNotFoundError, ConnectionRefusedError, PermissionError))
             self.lost(reason(fault))
-
-
-class AsideFollowing(Following):
-    """Follows the panes, and what stands beside their terminals where the server is of this machine: an earlier one, or a relay, doesn't
-    know the word."""
-
-    # Whether it was asked.
-    has_asked = False
-
-    def begin(self, peer: socket.socket) -> None:
-        """Follows a connection that is there."""
-        super().begin(peer)
-        self.has_asked = runs_program(peer)
-        if self.has_asked:
-            self.ask(ASIDE)
 
 
 class KeeperFollowing(Following):
@@ -172,6 +182,25 @@ class KeeperFollowing(Following):
             self.tells(self.told)
 
 
+class AsideFollowing(Following):
+    """Follows the panes, and what stands beside their terminals: an earlier server doesn't know the word, and answers so."""
+
+    # Whether it was asked, and hasn't answered that.
+    has_asked = False
+
+    def begin(self, peer: socket.socket) -> None:
+        """Follows a connection that is there."""
+        super().begin(peer)
+        self.has_asked = ASIDE in self.words
+
+    def hear_refusal(self) -> None:
+        """Takes note that it doesn't know a word: of two the one that came later."""
+        if CLIPS in self.words:
+            self.words.remove(CLIPS)
+        else:
+            self.has_asked = False
+
+
 class PanesFollower:
     """What a front end knows of a session's panes: where they are, None where that isn't told. A call is for what is new of that, and one
     for why it can't be told here, which a person is told once."""
@@ -180,12 +209,16 @@ class PanesFollower:
         self.folder, self.loop, self.changed, self.tells = folder, loop, changed, tells
         self.told = ToldPanes()
         self.places: Places | None = None
-        # The title of the pane in focus, and the shape of its cursor.
+        # The title of the pane in focus, and the shape of its cursor; and the modes that its program has set.
         self.aside = ("", 0)
+        self.focus_modes: list[str] = []
+        # What is called with a text for the clipboard that the program in focus set, and the making of its pane.
+        self.clipped: Callable[[str, str], object] = lambda text, making: None
         self.has_said = self.was_told = self.has_no_place = False
         self.awaited_until = loop.clock() + AWAITED if folder else 0.0
         path = os.path.join(folder, "panes") if folder else ""
         self.following = AsideFollowing(lambda: connected_now(path), loop, self.hear, self.lose)
+        self.following.want(ASIDE)
         if folder:
             self.following.connect()
 
@@ -196,6 +229,20 @@ class PanesFollower:
     def is_untold(self) -> bool:
         """Whether nothing is told, and nothing will be soon."""
         return self.places is None and (self.has_said or not self.was_told and not self.is_awaited())
+
+    def follow_clips(self, clipped: Callable[[str, str], object]) -> None:
+        """Has a call be for each text for the clipboard that the program in focus sets, with the making of its pane."""
+        self.clipped = clipped
+        self.following.want(CLIPS)
+
+    def making(self, pane: int) -> str:
+        """Which making of its number a pane is: another has other words. Nothing where that isn't known."""
+        life = self.told.lives.get(pane) if self.places else None
+        return f"{pane} {life}" if life else ""
+
+    def modes(self, pane: int) -> list[str]:
+        """The modes that a pane's program is known to have set."""
+        return self.told.value("modes", pane).split() if self.places else []
 
     def wants_brackets(self) -> bool:
         """Whether the program in the pane in focus is known to want what is pasted between brackets."""
@@ -211,7 +258,10 @@ class PanesFollower:
 
     def hear(self, lines: list[str]) -> None:
         """Takes what was told."""
-        if not any([self.told.take(line) for line in lines]) and not self.places:
+        for _ in range(lines.count(BAD_LINE)):
+            self.following.hear_refusal()
+        taken = [self.told.take(line) for line in lines if line != BAD_LINE]
+        if taken and not any(taken) and not self.places:
             self.say(UNTOLD)
         if self.has_no_place and self.loop.clock() < self.following.since + STANDS:
             self.loop.later("panes stand", STANDS, self.know)
@@ -221,16 +271,20 @@ class PanesFollower:
     def know(self) -> None:
         """Goes by what was told."""
         self.has_no_place = False
-        before, self.places = (self.places, self.aside), self.told.places()
+        before, self.places = (self.places, self.aside, self.focus_modes), self.told.places()
         self.aside = self.told.aside(self.places.focus) if self.places else ("", 0)
+        self.focus_modes = self.modes(self.places.focus) if self.places else []
         self.was_told = self.was_told or self.places is not None
-        if (self.places, self.aside) != before:
+        if (self.places, self.aside, self.focus_modes) != before:
             self.changed()
+        clip = self.told.taken_clip()
+        if clip and self.places and clip[0] == self.places.focus:
+            self.clipped(clip[1], self.making(clip[0]))
 
     def lose(self) -> None:
         """Goes on without, until it is told anew; where it stays so from the beginning that is said."""
         following, was_told = self.following, self.places is not None
-        self.told, self.places, self.aside = ToldPanes(), None, ("", 0)
+        self.told, self.places, self.aside, self.focus_modes = ToldPanes(), None, ("", 0), []
         self.loop.drop("panes stand")
         if was_told:
             self.changed()

@@ -7,12 +7,13 @@ from collections.abc import Callable
 
 from roam_live.bells import BellFollower
 from roam_live.bindings import NEWEST
+from roam_live.choices import sets_clipboard, wants_mouse
 from roam_live.commands import Commands
 from roam_live.display import Display
 from roam_live.following import AWAITED, PanesFollower
 from roam_live.links import LAST_WAIT, Keeper, StartLink
 from roam_live.loops import Loop
-from roam_live.program import noted_front_end, opened_process, read, woken, write
+from roam_live.program import noted_front_end, opened_process, read, woken
 from roam_live.shells_link import ShellsLink
 from roam_live.watches import ShellsWatch
 
@@ -42,7 +43,7 @@ class FrontEnd:
     """A person at a terminal, and the session there."""
 
     def __init__(self, session: AnySession, watches: bool, prefix: str, guessing: str, is_new: Callable[[Places | None], bool],
-                 loop: Loop | None = None, is_whole: bool = False) -> None:
+                 loop: Loop | None = None, is_whole: bool = False, has_mouse: bool = False, has_clips: bool = False) -> None:
         self.session, self.loop = session, loop or Loop()
         self.left: str | None = None
         self.left_at: float | None = None
@@ -58,6 +59,9 @@ class FrontEnd:
         keeper = ShellsLink(session.folder, self.loop, self.display.outer.size, watches, lambda: self.commands.others_told())
         self.commands = Commands(session, self.panes, self.link, self.display, self.loop, self.leave, is_new, is_whole, keeper)
         self.commands.choose(prefix)
+        self.commands.pointing.is_on = has_mouse
+        if has_clips and not watches:
+            self.panes.follow_clips(self.commands.clip)
         self.loop.later("untold", AWAITED, self.commands.show_known)
         self.bells = BellFollower(session.folder, self.loop, self.commands.ring, lambda words: self.display.tell(words, LOSS_TOLD))
         self.join()
@@ -69,7 +73,7 @@ class FrontEnd:
             self.loop.add(self.server, lambda: self.leave(*self.session.ending()))
         self.loop.add(self.wakeup, self.signalled)
         self.loop.add(0, self.typed, hears=lambda: len(link.waiting) < TYPED_LIMIT and not self.commands.pastes.is_full())
-        self.loop.add(outer.end, None, self.show, has_more=lambda: outer.waiting)
+        self.loop.add(outer.end, None, self.show, has_more=outer.has_more)
 
     def leave(self, line: str | None, status: int = 0) -> None:
         """Ends with a line; None goes on."""
@@ -171,7 +175,7 @@ class FrontEnd:
             self.display.set_keypad(places is not None and places.focus in self.bells.keypads)
         if self.link.peer and self.link.waiting:
             self.send()
-        if self.display.outer.waiting:
+        if self.display.outer.has_more():
             self.show()
 
     def has_keypads(self) -> bool:
@@ -208,8 +212,7 @@ class FrontEnd:
 
     def show(self) -> None:
         """Writes what the terminal takes; where it is gone this ends."""
-        outer = self.display.outer
-        if not write(outer.end, outer.waiting):
+        if not self.display.outer.put():
             self.leave("", 1)
 
     def hands_over(self) -> bool:
@@ -248,8 +251,9 @@ def follow(session: AnySession, watches: bool, prefix: str, guessing: str,
     room for its own status row."""
     note = None
     try:
+        has_mouse, has_clips = wants_mouse(), sets_clipboard()
         note = noted_front_end(session.folder, "watches" if watches else "edits")
-        return FrontEnd(session, watches, prefix, guessing, is_new, is_whole=is_whole).run()
+        return FrontEnd(session, watches, prefix, guessing, is_new, is_whole=is_whole, has_mouse=has_mouse, has_clips=has_clips).run()
     finally:
         session.close()
         if note:

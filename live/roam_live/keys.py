@@ -5,6 +5,8 @@ import codecs
 import re
 from collections import namedtuple
 
+from roam_live.mouse import BEGIN, MOUSE
+
 
 class Key(namedtuple("Key", "name text")):
     """A key: its name, which of a character is itself, and the text that the terminal sent for it."""
@@ -82,8 +84,8 @@ class Keys:
         return [Key("text", before)] * bool(before) + [Key("pasted", PASTED)] * bool(ends), rest
 
     def waits(self) -> bool:
-        """Whether an escape waits for more."""
-        return self.rest != "" and not self.is_pasting
+        """Whether an escape waits for more that may not come; of a report of the mouse all does, however long that takes."""
+        return self.rest != "" and not self.is_pasting and not self.rest.startswith(BEGIN)
 
     def ended(self) -> list[Key]:
         """The keys of what waits, where no more came in time."""
@@ -92,8 +94,15 @@ class Keys:
 
 
 def keys_in(text: str) -> list[Key]:
-    """The keys of a text; a sequence that isn't known has the name of none."""
-    return [Key(SPELLINGS.get(found[0], found[0] if len(found[0]) == 1 else "unknown"), found[0]) for found in WHOLE.finditer(text)]
+    """The keys of a text, and the reports of the mouse among them; a sequence that isn't known has the name of none."""
+    return [Key(name_of(found[0]), found[0]) for found in WHOLE.finditer(text)]
+
+
+def name_of(text: str) -> str:
+    """The name of a character or a sequence."""
+    if text.startswith(BEGIN) and text[-1] in "Mm":
+        return MOUSE
+    return SPELLINGS.get(text, text if len(text) == 1 else "unknown")
 
 
 def acts_of(key: Key) -> list[str]:

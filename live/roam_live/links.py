@@ -172,6 +172,10 @@ class StartLink:
                 break
         return self.records.begun
 
+    def untaken(self) -> int:
+        """How many lines were given that aren't taken yet."""
+        return max(0, self.lines - self.taken)
+
     def is_done(self) -> bool:
         """Whether all lines that were given are taken, with all their acts."""
         return self.taken >= self.lines

@@ -9,7 +9,7 @@ from collections.abc import Callable
 from roam_live.following import Following
 from roam_live.listeners import Listener
 from roam_live.loops import Loop
-from roam_live.places import ToldPanes
+from roam_live.places import ASIDE, CLIP, CLIPS, ToldPanes, aside_of
 from roam_live.program import Fault, read, reason, say, write
 from roam_live.streams import SHELLS
 
@@ -28,6 +28,9 @@ MOST_WAITING = 1 << 16
 
 PANES = "panes"
 CARRIED = ("bells", SHELLS)
+
+# What is asked for there once, for all who ask for it here.
+ASKED_HERE = (ASIDE, CLIPS)
 
 
 class CarriedSocket:
@@ -57,6 +60,28 @@ class PanesPeer:
         self.waiting = bytearray()
         # Whether it was told all.
         self.knows = False
+        # What it asked for that is told here, and what it said of another line; the newest of what it is still to be told of that, and how
+        # many bytes of it wait.
+        self.words: list[str] = []
+        self.said = b""
+        self.news: dict[str, str] = {}
+        self.beside = 0
+
+    def said_lines(self) -> list[str] | None:
+        """The lines that it said since, where each asks for what is told here, and what follows may do so; else None."""
+        *lines, rest = self.said.split(b"\n")
+        words = [word.encode() for word in ASKED_HERE]
+        if not all(line in words for line in lines) or not any(word.startswith(rest) for word in words):
+            return None
+        self.said = rest
+        return [line.decode() for line in lines]
+
+    def put_news(self) -> None:
+        """Has what it is still to be told wait, once all is taken that waited before."""
+        if not self.waiting:
+            self.waiting += "".join(f"{line}\n" for line in self.news.values()).encode()
+            self.beside = len(self.waiting)
+            self.news.clear()
 
 
 class SharedPanes:
@@ -96,11 +121,15 @@ class SharedPanes:
     def hear(self, lines: list[str]) -> None:
         """Tells what was told there; what can't be isn't passed on."""
         news = [line for line in lines if self.told.take(line)]
+        places, asides = [line for line in news if not aside_of(line)], {aside_of(line): line for line in news if aside_of(line)}
         for peer in list(self.peers):
-            if peer.knows:
-                self.tell(peer, news)
-            else:
+            if not peer.knows:
                 self.tell_all(peer)
+                continue
+            peer.news.update({key: line for key, line in asides.items() if (CLIPS if key == CLIP else ASIDE) in peer.words})
+            self.tell(peer, places)
+        # It isn't told to who comes later.
+        self.told.clip = None
 
     def lose(self) -> None:
         """Lets all go who follow: where the panes are isn't known now, and who comes again is told what is so then."""
@@ -127,21 +156,29 @@ class SharedPanes:
         lines = self.told.lines()
         if lines:
             peer.knows = True
+            if ASIDE in peer.words:
+                peer.news.update(self.told.lines_beside())
             self.tell(peer, lines)
 
     def tell(self, peer: PanesPeer, lines: list[str]) -> None:
-        """Tells one lines; who doesn't take what is told is let go."""
+        """Tells one lines; who doesn't take what is told of the panes is let go."""
         peer.waiting += "".join(f"{line}\n" for line in lines).encode()
-        if len(peer.waiting) > MOST_WAITING:
+        if len(peer.waiting) - peer.beside > MOST_WAITING:
             self.drop(peer)
+        else:
+            peer.put_news()
 
     def write(self, peer: PanesPeer) -> None:
         """Writes what one takes."""
         if not write(peer.end.fileno(), peer.waiting):
             self.drop(peer)
+        elif not peer.waiting:
+            peer.beside = 0
+            peer.put_news()
 
     def asked(self, peer: PanesPeer) -> None:
-        """Takes what one asks the server for: it has a connection of its own there from then on, since it is answered alone."""
+        """Takes what one says. Where it asks the server for something else than is told here it has a connection of its own there from then
+        on, since it is answered alone."""
         piece = read(peer.end.fileno())
         if piece is None:
             return
@@ -149,9 +186,25 @@ class SharedPanes:
         if not piece or not streams:
             self.drop(peer)
             return
+        peer.said += piece
+        lines = peer.said_lines()
+        if lines is not None:
+            for word in lines:
+                self.ask(peer, word)
+            return
         self.part(peer)
-        if not streams.begin(PANES, peer.end, piece):
+        if not streams.begin(PANES, peer.end, "".join(f"{word}\n" for word in peer.words).encode() + peer.said):
             peer.end.close()
+
+    def ask(self, peer: PanesPeer, word: str) -> None:
+        """Takes note that one asks for something, which is asked for there where nobody did before, and tells what is known of it."""
+        is_new = word not in peer.words
+        if is_new:
+            peer.words.append(word)
+        self.following.want(word)
+        if is_new and peer.knows and word == ASIDE:
+            peer.news.update(self.told.lines_beside())
+            peer.put_news()
 
     def part(self, peer: PanesPeer) -> None:
         """Tells one no more."""

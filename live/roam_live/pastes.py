@@ -35,10 +35,17 @@ TOO_LONG = f"nothing is pasted: it has more than {MOST_BYTES >> 20} MB, or waits
 
 
 class Behind:
-    """Acts that are typed behind a paste."""
+    """Acts that are typed behind a paste: pasted ones, or those that stand in a line of their own, or others."""
 
-    def __init__(self, acts: tuple[str, ...], is_pasted: bool) -> None:
-        self.acts, self.is_pasted = acts, is_pasted
+    def __init__(self, acts: tuple[str, ...], is_pasted: bool = False, is_line: bool = False) -> None:
+        self.acts, self.is_pasted, self.is_line = acts, is_pasted, is_line
+
+    def put(self, link: StartLink) -> None:
+        """Has them typed."""
+        if self.is_line:
+            link.say(" ; ".join(self.acts))
+        else:
+            link.type(*self.acts, is_pasted=self.is_pasted)
 
 
 class Paste:
@@ -124,7 +131,7 @@ class Pastes:
             paste.is_held = True
         elif word == UNTOLD:
             place = self.waiting.index(paste)
-            self.waiting[place] = Behind(tuple(pasted_acts(paste.text, paste.is_bracketed)), True)
+            self.waiting[place] = Behind(tuple(pasted_acts(paste.text, paste.is_bracketed)), is_pasted=True)
         else:
             self.waiting.remove(paste)
             if word == REFUSED:
@@ -148,17 +155,25 @@ class Pastes:
         if self.waiting and INTERRUPT in acts and not is_pasted:
             for paste in [one for one in self.waiting if isinstance(one, Paste)]:
                 self.fail(paste, DROPPED)
+        self.put(Behind(acts, is_pasted=is_pasted))
+
+    def type_together(self, *acts: str) -> None:
+        """Types acts in a line of their own, behind the pastes that wait."""
+        self.put(Behind(acts, is_line=True))
+
+    def put(self, behind: Behind) -> None:
+        """Types these now, or behind the pastes that wait."""
         if not self.waiting:
-            self.link.type(*acts, is_pasted=is_pasted)
-        elif acts:
-            self.waiting.append(Behind(acts, is_pasted))
+            behind.put(self.link)
+        elif behind.acts:
+            self.waiting.append(behind)
 
     def type_waiting(self) -> None:
         """Types what may be typed now."""
         while self.waiting:
             first = self.waiting[0]
             if isinstance(first, Behind):
-                self.link.type(*first.acts, is_pasted=first.is_pasted)
+                first.put(self.link)
             elif first.is_held:
                 # A line of its own, which nothing joins.
                 self.link.say(" ; ".join(["paste", *mark_acts(first.name)]))

@@ -23,18 +23,24 @@ MOST_STARTS = 64
 
 # What a line tells: where a pane is and which making of its number, that it is gone, which is in focus, or how many starts there were of
 # how many; and to who asked for it which modes a pane's program has set, or what else stands beside its terminal. It may have come from
-# another machine: its numbers are small.
+# another machine: its numbers are small, and a text for the clipboard is base64 and has 131,072 characters at most.
 TOLD = re.compile(r"(?P<pane>[1-9])((?: \d{1,4}){4}) (?P<life>\d{1,19})|(?P<gone>[1-9]) gone|focus (?P<focus>[1-9])"
                   r"|(?P<kind>starts|watchers) (?P<count>\d{1,4})(?: of \d{1,4})?"
-                  r"|modes (?P<set>[1-9] \d{1,19})(?P<modes>(?: [a-z0-9]{1,16}){0,16})"
-                  r"|shape (?P<shaped>[1-9] \d{1,19}) (?P<shape>[0-6])|title (?P<titled>[1-9] \d{1,19}) (?P<title>(?:[0-9a-f]{2}){0,800})"
-                  r"|bell [1-9] \d{1,19}", re.ASCII)
+                  r"|(?P<aside>modes [1-9] \d{1,19}(?: [a-z0-9]{1,16}){0,16}|shape [1-9] \d{1,19} [0-6]"
+                  r"|title [1-9] \d{1,19} (?:[0-9a-f]{2}){0,800})|bell [1-9] \d{1,19}|(?P<clip>clip [1-9] \d{1,19} "
+                  r"(?:[A-Za-z0-9+/]{4}){0,32767}(?:[A-Za-z0-9+/]{4}|[A-Za-z0-9+/]{3}=|[A-Za-z0-9+/]{2}==)?)", re.ASCII)
+LONGEST_LINE = (1 << 17) + 64
 
-# What a server is asked for by who goes by what stands beside the panes' terminals; that a program wants what is pasted between brackets,
-# and reports of the focus.
+# What a server is asked for by who goes by what stands beside the panes' terminals, and the words that begin the lines of that; that a
+# program wants what is pasted between brackets, and reports of the focus.
 ASIDE = "beside"
+ASIDES = ("modes", "shape", "title", "bell")
 BRACKETED = "paste"
 FOCUS = "focus"
+
+# What it is asked for by who sets a clipboard too, and the word of its lines.
+CLIPS = "clips"
+CLIP = "clip"
 
 # So many seconds a server has for what it is asked once, and what is told behind the focus for coming.
 ASKED = 1.0
@@ -66,6 +72,10 @@ class Places(namedtuple("Places", "rects focus starts watchers", defaults=(0, 0,
     def labels(self) -> str:
         """The panes' numbers as a session's status row has them: that in focus in brackets, each other between spaces."""
         return "".join(f"[{pane}]" if pane == self.focus else f" {pane} " for pane in in_order(self.rects))
+
+    def pane_at(self, row: int, col: int) -> int:
+        """The pane that has a place of the session; 0 where none does."""
+        return next((pane for pane, rect in self.rects.items() if covers(rect, row, col, True) and covers(rect, row, col, False)), 0)
 
     def is_full(self) -> bool:
         """Whether the server knows as many starts as it ever does."""
@@ -118,18 +128,32 @@ def distance(rect: Rect, row: float, col: float) -> float:
     return max(rect.row - row, row - below, 0) + max(rect.col - col, col - beside, 0)
 
 
+def aside_of(line: str) -> str:
+    """What a line tells of what stands beside a pane's terminal: its word and the pane, and of the clipboard its word alone; nothing where
+    it tells something else."""
+    word, _, rest = line.partition(" ")
+    return f"{word} {rest[:1]}" if word in ASIDES else CLIP if word == CLIP else ""
+
+
+class ToldAside(namedtuple("ToldAside", "life value line")):
+    """Something that stands beside the terminal of one making of a pane, and the line that tells it."""
+
+    life: str
+    value: str
+    line: str
+
+
 class ToldPanes:
     """What was told of a session's panes so far."""
 
     def __init__(self) -> None:
         self.panes: dict[int, str] = {}
         self.rects: dict[int, Rect] = {}
-        # Of each pane which making of its number it is, and which modes its program has set, as far as that is told of this making.
+        # Of each pane which making of its number it is; and the newest of what stands beside its terminal, by word and pane.
         self.lives: dict[int, str] = {}
-        self.modes: dict[int, tuple[str, frozenset[str]]] = {}
-        # And the shape of its cursor and its title, likewise.
-        self.shapes: dict[int, tuple[str, int]] = {}
-        self.titles: dict[int, tuple[str, str]] = {}
+        self.asides: dict[str, ToldAside] = {}
+        # The text for the clipboard that was told last, and the pane, until it is taken.
+        self.clip: tuple[int, str] | None = None
         self.focus = 0
         self.counts: dict[str, tuple[int, str]] = {}
 
@@ -145,18 +169,15 @@ class ToldPanes:
         elif found["gone"]:
             self.panes.pop(int(found["gone"]), None)
             self.rects.pop(int(found["gone"]), None)
-            self.modes.pop(int(found["gone"]), None)
+            self.forget_aside(found["gone"])
         elif found["focus"]:
             self.focus = int(found["focus"])
-        elif found["set"]:
-            pane_told, life = found["set"].split()
-            self.modes[int(pane_told)] = life, frozenset(found["modes"].split())
-        elif found["shaped"]:
-            pane_told, life = found["shaped"].split()
-            self.shapes[int(pane_told)] = life, int(found["shape"])
-        elif found["titled"]:
-            pane_told, life = found["titled"].split()
-            self.titles[int(pane_told)] = life, bytes.fromhex(found["title"]).decode("utf-8", "replace")
+        elif found["aside"]:
+            life, _, value = line.split(" ", 2)[2].partition(" ")
+            self.asides[aside_of(line)] = ToldAside(life, value, line)
+        elif found["clip"]:
+            pane_told, life, text = line.split(" ")[1:]
+            self.clip = (int(pane_told), text) if life == self.lives.get(int(pane_told)) else self.clip
         elif found["kind"]:
             self.counts[found["kind"]] = int(found["count"]), line
         return True
@@ -168,16 +189,28 @@ class ToldPanes:
         starts, watchers = (self.counts.get(kind, (0, ""))[0] for kind in ("starts", "watchers"))
         return Places(dict(sorted(self.rects.items())), self.focus, starts, watchers)
 
+    def forget_aside(self, pane: str) -> None:
+        """Knows nothing of what stands beside the terminal of a pane that is gone."""
+        for word in ASIDES:
+            self.asides.pop(f"{word} {pane}", None)
+
+    def value(self, word: str, pane: int) -> str:
+        """What is told by a word of what stands beside a pane's terminal; nothing where it isn't known of this making of the pane."""
+        told = self.asides.get(f"{word} {pane}")
+        return told.value if told and told.life == self.lives.get(pane) else ""
+
+    def taken_clip(self) -> tuple[int, str] | None:
+        """The text for the clipboard that was told since, and the pane."""
+        clip, self.clip = self.clip, None
+        return clip
+
     def has_set(self, pane: int, mode: str) -> bool:
         """Whether a pane's program is known to have set a mode."""
-        life, modes = self.modes.get(pane, ("", frozenset()))
-        return mode in modes and life == self.lives.get(pane)
+        return mode in self.value("modes", pane).split()
 
     def aside(self, pane: int) -> tuple[str, int]:
         """A pane's title, and the shape of its cursor, as far as they are known."""
-        life = self.lives.get(pane)
-        title, shape = self.titles.get(pane, ("", "")), self.shapes.get(pane, ("", 0))
-        return title[1] if title[0] == life else "", shape[1] if shape[0] == life else 0
+        return bytes.fromhex(self.value("title", pane)).decode("utf-8", "replace"), int(self.value("shape", pane) or 0)
 
     def is_whole(self) -> bool:
         """Whether all is known that is told at first."""
@@ -187,6 +220,10 @@ class ToldPanes:
         """The lines by which somebody who knows nothing knows as much, in the order of a server."""
         counts = [self.counts[kind][1] for kind in ("starts", "watchers") if kind in self.counts]
         return [*(line for _, line in sorted(self.panes.items())), f"focus {self.focus}", *counts] if self.places() else []
+
+    def lines_beside(self) -> dict[str, str]:
+        """The lines by which somebody knows as much of what stands beside the terminals, by word and pane. Bells have rung."""
+        return {key: told.line for key, told in self.asides.items()}
 
 
 def asked_places(path: str | os.PathLike[str], seconds: float = ASKED) -> Places | None:

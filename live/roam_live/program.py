@@ -381,15 +381,15 @@ LONGEST_LINE = 1 << 16
 
 
 class Lines:
-    """Lines of a stream that comes in any pieces."""
+    """Lines of a stream that comes in any pieces, none of them longer than that."""
 
-    def __init__(self) -> None:
-        self.rest = b""
+    def __init__(self, longest: int = LONGEST_LINE) -> None:
+        self.rest, self.longest = b"", longest
 
     def fed(self, piece: bytes) -> list[str]:
         """The lines that are whole now."""
         *lines, self.rest = (self.rest + piece).split(b"\n")
-        self.rest = self.rest if len(self.rest) < LONGEST_LINE else b""
+        self.rest = self.rest if len(self.rest) < self.longest else b""
         return [line.decode("utf-8", "replace") for line in lines]
 
 

@@ -3,7 +3,8 @@ import os
 import unittest
 from unittest import mock
 
-from roam_live.asides import TITLE_BACK, TITLE_KEPT, GivenAside, shaped, titled
+from aids import Case, read_now
+from roam_live.asides import CLIP_BEGIN, CLIP_END, TITLE_BACK, TITLE_KEPT, GivenAside, GivenClip, shaped, titled
 
 
 class Given(unittest.TestCase):
@@ -38,6 +39,40 @@ class Given(unittest.TestCase):
         with mock.patch.dict(os.environ, TERM="linux"):
             aside = GivenAside()
         self.assertEqual((aside.given("vi", 6), aside.taken_back()), (b"", b""))
+
+
+class Clips(Case):
+    """Texts for the clipboard."""
+
+    def test_whole(self):
+        """One goes whole, however little is taken at once, and the newest of those that came meanwhile behind it."""
+        reads, writes = self.pipe()
+        clip, got = GivenClip(), b""
+        clip.give("A" * 131072)
+        self.assertTrue(clip.put(writes) and clip.has_begun)
+        for text in ("YQ==", "YWI="):
+            clip.give(text)
+        while clip.waits():
+            got += read_now(reads)
+            self.assertTrue(clip.put(writes))
+        self.assertEqual(got + read_now(reads), CLIP_BEGIN + b"A" * 131072 + CLIP_END + CLIP_BEGIN + b"YWI=" + CLIP_END)
+        self.assertEqual((clip.has_begun, clip.taken_back()), (False, b""))
+
+    def test_taken_back(self):
+        """Where the terminal is given back one that has begun is ended, and no other begins."""
+        reads, writes = self.pipe()
+        clip = GivenClip()
+        clip.give("YQ==")
+        self.assertEqual((clip.taken_back(), clip.waits()), (b"", False))
+        os.write(writes, b"x" * 65536)
+        clip.give("A" * 131072)
+        self.assertTrue(clip.put(writes) and not clip.has_begun)
+        clip.give("B" * 131072)
+        read_now(reads)
+        self.assertTrue(clip.put(writes) and clip.has_begun)
+        clip.give("YQ==")
+        got = read_now(reads) + clip.taken_back()
+        self.assertEqual((got, clip.waits()), (CLIP_BEGIN + b"B" * 131072 + CLIP_END, False))
 
 
 if __name__ == "__main__":

@@ -30,7 +30,7 @@ class OuterTerminal:
         self.rows, self.cols = rows, cols
         self.waiting = bytearray()
         self.is_application = False
-        self.aside = ("", 0)
+        self.aside, self.reports, self.clips = ("", 0), "", []
 
     def size(self):
         """Its rows and columns."""
@@ -39,6 +39,14 @@ class OuterTerminal:
     def give(self, title, shape):
         """Keeps a title and a shape."""
         self.aside = title, shape
+
+    def ask(self, reports):
+        """Keeps which reports of the mouse it is asked for."""
+        self.reports = reports
+
+    def set_clip(self, text):
+        """Keeps a text for the clipboard."""
+        self.clips.append(text)
 
     def shown(self):
         """The rows that it shows, without spaces at their ends."""
@@ -57,6 +65,10 @@ class StartLink:
     def is_done(self):
         """Whether the session has taken all."""
         return self.has_taken
+
+    def untaken(self):
+        """How many lines it hasn't."""
+        return 0 if self.has_taken else 99
 
     def type(self, *acts, is_pasted=False):
         """Keeps acts."""
@@ -90,6 +102,7 @@ class PlayedPanes:
 
     def __init__(self, place):
         self.place = place
+        self.modes_of = {}
 
     @property
     def places(self):
@@ -111,6 +124,23 @@ class PlayedPanes:
     def knows_modes(self):
         """Whether it is told which modes programs have set."""
         return self.knows
+
+    @property
+    def focus_modes(self):
+        """The modes that the program in focus has set."""
+        return self.modes(self.places.focus) if self.places else []
+
+    def making(self, pane):
+        """Which making of its number a pane is."""
+        return f"{pane} 1" if self.places and pane in self.places.rects else ""
+
+    def follow_clips(self, clipped):
+        """Keeps what is called with texts for the clipboard."""
+        self.clipped = clipped
+
+    def modes(self, pane):
+        """Those of a pane's."""
+        return self.modes_of.get(pane, "").split()
 
     def wants_brackets(self):
         """Whether the program in focus wants what is pasted between brackets."""

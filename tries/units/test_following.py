@@ -208,8 +208,10 @@ class FrontEnds(Played):
         self.server = self.taken()
 
     def test_lines(self):
-        """Places are known once the focus is, and each that is new is a change; nothing is said to the server."""
+        """Places are known once the focus is, and each that is new is a change; the server is asked for what stands beside, and no more."""
         self.assertTrue(self.panes.is_awaited())
+        self.loop.turns(1)
+        self.assertEqual(self.server.recv(64), b"beside\n")
         self.assertIsNone(self.told(b"1 1 1 23 80 1\nfoc"))
         wanted = Places({1: Rect(1, 1, 23, 80)}, 1, 64, 2)
         self.assertEqual(self.told(b"us 1\nstarts 64 of 64\nwatchers 2 of 16\n"), wanted)
@@ -222,9 +224,8 @@ class FrontEnds(Played):
         self.assertEqual(self.words, [])
 
     def test_beside(self):
-        """A server that runs this program is asked for what stands beside the terminals, each time; by it a paste has brackets."""
-        with mock.patch("roam_live.following.runs_program", lambda peer: True):
-            self.lose_again()
+        """A server is asked for what stands beside the terminals, each time; by it a paste has brackets."""
+        self.lose_again()
         self.loop.turns(2)
         self.assertEqual(self.server.recv(64), b"beside\n")
         self.assertEqual((self.panes.wants_brackets(), self.panes.knows_modes()), (False, False))
@@ -240,7 +241,66 @@ class FrontEnds(Played):
         self.lose_again()
         self.assertFalse(self.panes.wants_brackets())
         self.told(b"1 1 1 23 80 1\nfocus 1\n")
+        self.assertTrue(self.panes.knows_modes())
+        self.told(b"bad line\n")
         self.assertFalse(self.panes.knows_modes())
+
+    def test_earlier(self):
+        """One that doesn't know what it is asked for says so, which is no sign that it tells nothing."""
+        self.assertIsNone(self.told(b"bad line\n"))
+        self.assertIsNotNone(self.told(b"1 1 1 23 80 1\nfocus 1\nbad line\n"))
+        self.assertEqual(self.words, [])
+
+    def follow_clips(self):
+        """Has texts for the clipboard be followed, over a connection that is had anew."""
+        self.clips = []
+        self.panes.follow_clips(lambda text, making: self.clips.append((text, making)))
+        self.lose_again()
+        self.loop.turns(1)
+        return self.server.recv(64)
+
+    def test_clips(self):
+        """Who sets a clipboard asks for texts too, at each connection; one of the pane in focus is told on, with its making, once."""
+        self.panes.following.ask("before")
+        self.assertEqual(self.follow_clips(), b"beside\nclips\n")
+        self.told(b"1 1 1 23 40 7\n2 1 42 23 39 1\nfocus 1\nclip 1 7 YQ==\n")
+        self.told(b"clip 1 6 YWI=\nclip 2 1 YWI=\n")
+        self.told(b"focus 2\n")
+        self.told(b"clip 1 7 YWI=\nclip 2 1 YWI=\n")
+        self.assertEqual(self.clips, [("YQ==", "1 7"), ("YWI=", "2 1")])
+        long = "A" * 131072
+        for begin in range(0, 131072, 16384):
+            self.told(b"clip 2 1 " * (begin == 0) + long[begin : begin + 16384].encode())
+        self.told(b"\n")
+        self.assertEqual(self.clips[2:], [(long, "2 1")])
+        self.told(b"x" * 70000)
+        self.assertLessEqual(len(self.panes.following.lines.rest), 131072 + 64)
+        self.now += 6
+        self.lose_again()
+        self.loop.turns(1)
+        self.assertEqual((self.server.recv(64), self.panes.making(1)), (b"beside\nclips\n", ""))
+
+    def test_clips_unknown(self):
+        """A server that doesn't know the word says so, and isn't asked again; the rest goes on."""
+        self.follow_clips()
+        self.told(b"1 1 1 23 80 1\nfocus 1\nbad line\nmodes 1 1 paste\n")
+        self.assertTrue(self.panes.wants_brackets() and self.panes.following.has_asked)
+        self.lose_again()
+        self.loop.turns(1)
+        self.assertEqual(self.server.recv(64), b"beside\n")
+        self.told(b"bad line\n")
+        self.assertEqual((self.panes.following.has_asked, self.words), (False, []))
+
+    def test_clips_refused(self):
+        """One that lets go who asks for texts is followed without, and asked again a minute later."""
+        self.follow_clips()
+        self.lose_again()
+        self.loop.turns(1)
+        self.assertEqual(self.server.recv(64), b"beside\n")
+        self.told(b"1 1 1 23 80 1\nfocus 1\n")
+        self.now += 60
+        self.loop.turns(2)
+        self.assertEqual(self.server.recv(64), b"clips\n")
 
     def test_let_go(self):
         """While nobody tells them the places aren't known; what comes next is told all anew."""

@@ -3,10 +3,11 @@ import os
 import pty
 import signal
 import termios
+from contextlib import suppress
 from unittest import mock
 
 from aids import Case, StillLoop, closed, read_now, record
-from roam_live import display, front_end, links, pastes, terminal
+from roam_live import display, front_end, links, mouse, pastes, terminal
 from roam_live.front_end import FrontEnd
 from roam_live.program import Fault, begun
 from roam_live.places import Places, Rect
@@ -378,7 +379,7 @@ class Loop(Fronts):
         self.assertEqual((self.front.left, self.front.status), ("", 1))
         self.front.left = None
         self.front.display.outer.waiting += b"x"
-        with mock.patch.object(front_end, "write", return_value=False):
+        with mock.patch.object(display, "write", return_value=False):
             self.turn(1)
         self.assertEqual(self.front.left, "")
 
@@ -428,7 +429,7 @@ class Loop(Fronts):
         start = self.connect()
         start.send(b"x")
         self.front.display.outer.waiting[:] = bytes(65536)
-        with mock.patch.object(front_end, "write", return_value=True):
+        with mock.patch.object(display, "write", return_value=True):
             with mock.patch.object(self.front.link, "told") as tells:
                 self.turn(1)
                 tells.assert_not_called()
@@ -518,10 +519,149 @@ class Loop(Fronts):
 
         with mock.patch.object(front_end, "FrontEnd") as made:
             made.return_value.run = runs
+            self.environment(ROAM_MOUSE="on", ROAM_CLIPBOARD="off")
             self.assertEqual(front_end.follow(self.place, True, "C-a", "never"), 5)
             self.assertEqual(made.call_args[0][:4], (self.place, True, "C-a", "never"))
+            self.assertEqual(made.call_args[1], {"is_whole": False, "has_mouse": True, "has_clips": False})
+            self.environment(ROAM_MOUSE="no")
+            self.assertRaises(Fault, front_end.follow, self.place, True, "C-a", "never")
         self.assertEqual(seen, [f"{begun(os.getpid())} watches\n"])
         self.assertEqual((list((self.place.folder / "attached").iterdir()), self.place.is_closed), ([], True))
+
+
+class Mouse(Fronts):
+    """Reports of the mouse at a terminal."""
+
+    def setUp(self):
+        self.environment(TERM="xterm", ROAM_MOUSE=None)
+        super().setUp()
+
+    def ask(self, modes):
+        """Has the program in focus have these modes, and tells what came to the terminal."""
+        self.panes.modes_of = {1: modes}
+        self.front.commands.told()
+        self.turn()
+        return self.shown()
+
+    def test_asked(self):
+        """The terminal is asked for what the program asks for, and what it reports is typed, wherever it is cut."""
+        start = self.connect()
+        self.paints()
+        self.assertFalse([mode for mode in (b"?1000", b"?1002", b"?1003", b"?1006") if mode in self.shown()])
+        self.assertEqual([self.ask(modes) for modes in ("buttons sgr", "drags", "motion sgr", "paste", "")],
+                         [mouse.ASKED["drags"], b"", mouse.ASKED["motion"], mouse.OFF, b""])
+        self.ask("drags sgr")
+        read_now(start)
+        for piece in (b"x\x1b", b"[<0;", b"5;7", b"M\x1b[<0;5;7m"):
+            self.type(piece)
+            self.now += 0.02
+        text = " ; ".join(f"char {byte:x}" for byte in b"\x1b[<0;5;7")
+        self.assertEqual(read_now(start), f"char 78\nfocus 1 ; {text} ; char 4d\nfocus 1 ; {text} ; char 6d\n".encode())
+
+    def test_left(self):
+        """However it is left the terminal is asked for no reports any more, before what stood there is back."""
+        ways = [lambda: self.type(b"\x02d"), lambda: self.front.leave("[the session has ended]"),
+                *[lambda number=number: os.write(self.wakes, bytes([number])) for number in (signal.SIGTERM, signal.SIGHUP, signal.SIGINT)]]
+        self.patch_of(self.front.link, "part")
+        for way in [*ways, lambda: self.patch_of(self.front, "turn", side_effect=ValueError)]:
+            self.front.left = None
+            self.connect()
+            self.assertIn(mouse.ASKED["motion"], self.ask("motion sgr"))
+            way()
+            with mock.patch.object(self.front.display.outer, "enter"), mock.patch.object(self.front, "connect"), suppress(ValueError):
+                self.front.run()
+            self.assertIn(mouse.OFF + terminal.LEFT, self.shown())
+
+    def test_own(self):
+        """Where roam has the mouse itself the terminal is asked as soon as the panes are known."""
+        self.front = FrontEnd(self.place, False, "C-b", "adaptive", lambda places: False, StillLoop(), has_mouse=True)
+        self.addCleanup(lambda: closed(self.front.display.outer.end))
+        self.addCleanup(lambda: self.front.link.close())
+        self.connect()
+        self.assertTrue(self.ask("").endswith(mouse.ASKED["drags"]))
+
+    def test_stopped(self):
+        """While it is stopped there are none either; continued it asks for them again, also where nothing could be said before."""
+        self.connect()
+        self.ask("drags sgr")
+        with mock.patch("os.kill"):
+            os.write(self.wakes, bytes([signal.SIGTSTP]))
+            self.turn(1)
+        shown = self.shown()
+        self.assertIn(mouse.OFF + terminal.LEFT, shown)
+        self.assertLess(shown.index(mouse.OFF + terminal.LEFT), shown.index(terminal.ENTERED + mouse.ASKED["drags"]))
+        os.write(self.wakes, bytes([signal.SIGCONT]))
+        self.turn(1)
+        self.assertIn(terminal.ENTERED + mouse.ASKED["drags"], self.shown())
+
+
+class Clipboard(Fronts):
+    """Texts for the terminal's clipboard."""
+
+    def setUp(self):
+        self.environment(TERM="xterm")
+        super().setUp()
+
+    def front_of(self, watches=False, has_clips=True):
+        """A front end that sets it, or doesn't, connected and with a painting."""
+        self.front = FrontEnd(self.place, watches, "C-b", "adaptive", lambda places: False, StillLoop(), has_clips=has_clips)
+        self.addCleanup(lambda: closed(self.front.display.outer.end))
+        self.addCleanup(lambda: self.front.link.close())
+        self.connect()
+        self.paints()
+        self.shown()
+        return self.front
+
+    def set(self, text, making="1 1"):
+        """Has the program in focus set a text, and tells what came to the terminal."""
+        self.panes.clipped(text, making)
+        self.turn()
+        return self.shown()
+
+    def test_last_key(self):
+        """It is set where the last key went to the pane in focus, in whichever way it was typed, and not before."""
+        self.place.told = PANES
+        self.front_of()
+        clip = b"\x1b]52;c;YQ==\x07"
+        for typed, made in ((b"", b""), (b"y", clip), (b"\x022", clip), (b"x", b""), (b"\x021y", clip), (b"\x02o", clip), (b"\x1b[A", b""),
+                            (b"\x021\x1b[200~y\x1b[201~", clip)):
+            self.type(typed)
+            self.shown()
+            self.assertEqual(self.set("YQ=="), made, typed)
+        self.assertEqual((self.set("YQ==", "1 2"), self.set("YQ==", "2 1"), self.set("YQ==", "")), (b"", b"", b""))
+
+    def test_pointed(self):
+        """A report of the mouse that was typed there is a key too."""
+        self.place.told = PANES
+        self.panes.modes_of = {1: "drags sgr"}
+        self.front_of()
+        self.type(b"\x1b[<0;5;7M")
+        self.assertEqual(self.set("YQ=="), b"\x1b]52;c;YQ==\x07")
+
+    def test_chosen(self):
+        """Where nobody chose it, and at a terminal that watches, texts aren't asked for."""
+        for more in ({"has_clips": False}, {"watches": True}):
+            self.panes.clipped = None
+            self.front_of(**more)
+            self.assertIsNone(self.panes.clipped)
+
+    def test_between(self):
+        """One stands behind all that was painted before it, and is whole where it is left in the middle of one."""
+        outer = self.front_of().display.outer
+        self.type(b"y")
+        self.shown()
+        clip, written = b"\x1b]52;c;" + b"QUJD" * 32768 + b"\x07", []
+        outer.waiting += b"painted"
+        self.panes.clipped("QUJD" * 32768, "1 1")
+        for _ in range(3):
+            self.turn(1)
+            outer.waiting += b"behind"
+        shown = self.shown()
+        self.assertTrue(shown.startswith(b"painted\x1b]52;c;QUJD") and b"behind" not in shown and len(shown) < 131072)
+        with mock.patch.object(terminal, "restore"), mock.patch("os.set_blocking"), mock.patch.object(display, "write") as writes:
+            writes.side_effect = lambda end, waiting: (written.append(bytes(waiting)), waiting.clear())
+            outer.leave("[detached]")
+        self.assertEqual(shown + written[0], b"painted" + clip + terminal.LEFT + b"[detached]\r\n")
 
 
 class Wishes(Case):

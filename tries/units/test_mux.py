@@ -24,7 +24,7 @@ class Mux(Case):
         self.base.mkdir(mode=0o700)
         for module in (sessions, remote):
             self.patch_of(module, "base", lambda: self.base)
-        self.environment(ROAM_PREFIX=None, ROAM_GUESS=None, ROAM_PANE=None, SHELL="/bin/sh")
+        self.environment(ROAM_PREFIX=None, ROAM_GUESS=None, ROAM_MOUSE=None, ROAM_CLIPBOARD=None, ROAM_PANE=None, SHELL="/bin/sh")
         self.said, self.text = self.heard(), self.printed()
         self.follows = self.patch_of(front_end, "follow", return_value=7)
         self.is_terminal = True
@@ -115,6 +115,16 @@ class Attaches(Mux):
         self.refuses("ROAM_PREFIX is 'C-3', and may be C-a to C-z, C-], C-\\, C-^ or C-_")
         self.environment(ROAM_PREFIX="C-a", ROAM_GUESS="often")
         self.refuses("ROAM_GUESS is 'often', and may be adaptive, always or never")
+        self.environment(ROAM_GUESS=None, ROAM_MOUSE="yes")
+        self.refuses("ROAM_MOUSE is 'yes', and may be off or on")
+        self.environment(ROAM_MOUSE=None, ROAM_CLIPBOARD="yes")
+        self.refuses("ROAM_CLIPBOARD is 'yes', and may be external, on or off")
+        for word, sets in (("on", True), ("off", False), ("external", False), (None, False)):
+            self.environment(ROAM_CLIPBOARD=word)
+            self.assertEqual(choices.sets_clipboard(), sets)
+        for word, has_mouse in (("on", True), ("off", False), ("", False)):
+            self.environment(ROAM_MOUSE=word)
+            self.assertEqual(choices.wants_mouse(), has_mouse)
         self.environment(ROAM_GUESS="always")
         self.mux()
         self.assertEqual(self.follows.call_args[0][2:4], ("C-a", "always"))

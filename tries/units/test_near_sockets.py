@@ -155,6 +155,100 @@ class Panes(Sockets):
         self.turn(2)
         self.assertEqual(self.sockets.panes.peers, [])
 
+    def asks(self, one, text=b"beside\n"):
+        """Has one ask for something here."""
+        one.send(text)
+        self.turn(4)
+
+    def test_beside(self):
+        """What stands beside the terminals is asked for there once, and told here to who asks for it: as it is, and what is new."""
+        self.turn(3)
+        self.tell(LINES)
+        first, other = self.connect(), self.connect()
+        read_now(first), read_now(other)
+        self.asks(first, b"besi")
+        self.assertEqual(read_now(self.panes()), b"")
+        self.asks(first, b"de\n")
+        self.assertEqual((self.names, read_now(self.panes())), (["panes"], b"beside\n"))
+        self.tell(b"modes 1 1 paste\ntitle 2 1 41\nbell 2 1\nshape 2 1 4\n")
+        self.assertEqual(read_now(first), b"modes 1 1 paste\ntitle 2 1 41\nbell 2 1\nshape 2 1 4\n")
+        self.tell(b"title 2 1 42\n")
+        second = self.connect()
+        self.asks(second, b"beside\nbeside\n")
+        self.assertEqual(read_now(second), LINES + b"modes 1 1 paste\ntitle 2 1 42\nshape 2 1 4\n")
+        self.assertEqual((read_now(first), read_now(other), read_now(self.panes())), (b"title 2 1 42\n", b"", b""))
+        self.tell(b"2 gone\nfocus 1\n")
+        third = self.connect()
+        self.asks(third)
+        self.assertTrue(read_now(third).endswith(b"of 16\nmodes 1 1 paste\n"))
+
+    def test_beside_again(self):
+        """It is asked for again where the connection was lost, and who asks for something else asks for it there too."""
+        self.turn(3)
+        self.tell(LINES)
+        one = self.connect()
+        self.asks(one)
+        self.near.close()
+        self.carrying = None
+        self.turn(3)
+        self.make()
+        self.carrying = self.near
+        self.turn(4)
+        self.assertEqual((self.names, read_now(self.panes())), (["panes"] * 2, b"beside\n"))
+        one = self.connect()
+        self.tell(LINES + b"modes 1 1 sgr\n")
+        self.assertEqual(read_now(one), LINES)
+        self.asks(one, b"beside\nclo")
+        self.asks(one, b"se 2 1\n")
+        self.assertEqual((self.names, read_now(self.panes())), (["panes"] * 3, b"beside\nclose 2 1\n"))
+
+    def test_clips(self):
+        """Texts for a clipboard are told to who asks for them, the newest once he reads, and to nobody who comes later."""
+        self.turn(3)
+        self.tell(LINES)
+        first, other, slow = self.connect(), self.connect(), self.connect()
+        for one in (first, other):
+            read_now(one)
+        self.asks(other)
+        self.asks(first, b"beside\nclips\n")
+        self.asks(slow, b"clips\n")
+        self.assertEqual(read_now(self.panes()), b"beside\nclips\n")
+        self.tell(b"clip 1 1 YQ==\nmodes 1 1 paste\nclip 1 1 ?\n")
+        self.assertEqual([read_now(one) for one in (first, other)], [b"clip 1 1 YQ==\nmodes 1 1 paste\n", b"modes 1 1 paste\n"])
+        for number in range(12):
+            self.sockets.panes.hear([f"clip {number % 2 + 1} 1 {number:04d}" + "A" * 131068])
+            self.turn()
+        self.sockets.panes.hear(["focus 2"])
+        got = b""
+        for _ in range(60):
+            self.turn()
+            got += read_now(slow)
+        told = [line[:13] for line in got.split(b"\n") if line.startswith(b"clip")]
+        self.assertEqual((told[0], told[-1], b"focus 2\n" in got), (b"clip 1 1 YQ==", b"clip 2 1 0011", True))
+        self.assertLess(len(told), 12)
+        late = self.connect()
+        self.asks(late, b"beside\nclips\n")
+        self.assertEqual(read_now(late), LINES.replace(b"focus 1", b"focus 2") + b"modes 1 1 paste\n")
+
+    def test_beside_slow(self):
+        """What stands beside lets nobody go: who reads nothing is told the newest once he does, and where the panes are before it."""
+        self.turn(3)
+        self.tell(LINES)
+        slow = self.connect()
+        self.asks(slow)
+        for number in range(200):
+            self.sockets.panes.hear([f"title 1 1 {number:06d}" + "41" * 700, f"modes 1 1 m{number}"])
+            if number % 100 == 0:
+                self.turn()
+        self.sockets.panes.hear(["focus 2"])
+        self.assertEqual(len(self.sockets.panes.peers), 1)
+        got = b""
+        for _ in range(60):
+            self.turn()
+            got += read_now(slow)
+        self.assertTrue(got.endswith(b"title 1 1 000199" + b"41" * 700 + b"\nmodes 1 1 m199\n"), got[-200:])
+        self.assertLess(got.index(b"focus 2\n"), got.index(b"title 1 1 000199"))
+
     def test_slow(self):
         """One who reads nothing is let go once 65,536 bytes wait, and the others are told all the same."""
         self.turn(3)

@@ -7,6 +7,10 @@ from aids import Case
 from roam_live import places
 from roam_live.places import Places, Rect, ToldPanes
 
+# What is no text for the clipboard.
+NO_CLIPS = ("Y", "YQ", "YQ=", "YQ===", "=", "====", "YQ==YQ==", "Y-==", "YQ==\n", "YQ==\x07", "\x1b\\\\\\", "?", "\u00e9AAA",
+            "A" * 131076, "A" * 131071)
+
 # A pane to the left over all rows, and two beside it, one above the other; their borders lie between.
 THREE = {1: Rect(1, 1, 23, 39), 2: Rect(1, 41, 11, 40), 3: Rect(13, 41, 11, 40)}
 
@@ -62,11 +66,23 @@ class Modes(Case):
         told = ToldPanes()
         for line in ("bell 1 1",):
             self.assertTrue(told.take(line), line)
-        for line in ("modes", "modes 1", "modes 0 1", "modes 1 1  paste", "modes 1 1 " + "a" * 17, "title 1 1 xyz", "title 1 1 4", "title 1 1 " + "41" * 801, "shape 1", "shape 1 1 7",
-                     "shape 1 1", "bell 1 1 x",
-                     "modes 1 1" + " a" * 17, "clip 1 1 YQ=="):
+        clips = [f"clip 1 1 {text}" for text in NO_CLIPS] + ["clip 1 1", "clip 1 YQ==", "clip 1 1 YQ== YQ==", "clip 0 1 YQ=="]
+        for line in ("modes", "modes 1", "modes 0 1", "modes 1 1  paste", "modes 1 1 " + "a" * 17, "title 1 1 xyz", "title 1 1 4",
+                     "title 1 1 " + "41" * 801, "shape 1", "shape 1 1 7", "shape 1 1", "bell 1 1 x", "modes 1 1" + " a" * 17, *clips):
             self.assertFalse(told.take(line), line)
         self.assertIsNone(told.places())
+
+
+    def test_clip(self):
+        """A text for the clipboard is base64, of 131,072 characters at most, and taken once; of another making of a pane it is nothing."""
+        told = ToldPanes()
+        for line in ("1 1 1 23 80 1", "focus 1", "clip 1 2 YQ==", "clip 2 1 YQ=="):
+            self.assertTrue(told.take(line), line)
+        self.assertIsNone(told.taken_clip())
+        for text in ("", "YQ==", "YWI=", "YWJj", "+/+/", "A" * 131072):
+            self.assertTrue(told.take(f"clip 1 1 {text}"), text[:9])
+            self.assertEqual((told.taken_clip(), told.taken_clip()), ((1, text), None))
+        self.assertEqual((told.lines(), told.lines_beside()), (["1 1 1 23 80 1", "focus 1"], {}))
 
 
 class Sides(Case):

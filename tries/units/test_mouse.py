@@ -1,0 +1,111 @@
+"""Reports of the mouse: read wherever they are cut, and in the form that a program asked for."""
+import unittest
+from unittest import mock
+
+from roam_live.asides import GivenAside
+from roam_live.keys import Keys, acts_of_bytes
+from roam_live.mouse import ASKED, MOUSE, OFF, MouseReport, is_wanted, report_of, sent, tracking_of
+
+REPORTS = {
+    "\x1b[<0;5;7M": MouseReport(0, 7, 5, False), "\x1b[<2;500;200m": MouseReport(2, 200, 500, True),
+    "\x1b[<35;1;1M": MouseReport(35, 1, 1, False), "\x1b[<64;80;24M": MouseReport(64, 24, 80, False),
+    "\x1b[<255;99999;99999m": MouseReport(255, 99999, 99999, True),
+}
+NO_REPORTS = ("", "\x1b[<0;5M", "\x1b[<0;5;7;1M", "\x1b[<-1;5;7M", "\x1b[<0;5;7", "\x1b[<1000;1;1M", "\x1b[<0;123456;1M", "\x1b[0;5;7M",
+              "\x1b[<\u0661;5;7M", "\x1b[<0;5;7M\n")
+
+# A report, whether programs with 1000, 1002 and 1003 are sent it.
+WANTED = ((0, False, (1, 1, 1)), (0, True, (1, 1, 1)), (66, False, (1, 1, 1)), (128, False, (1, 1, 1)), (32, False, (0, 1, 1)),
+          (34 + 16, False, (0, 1, 1)), (35, False, (0, 0, 1)), (35 + 4, False, (0, 0, 1)))
+
+# A report in the old form, or nothing.
+OLD = (
+    (0, 1, 1, False, "\x1b[M !!"), (2, 1, 1, True, "\x1b[M#!!"), (16, 3, 2, True, "\x1b[M3\"#"), (65, 24, 80, False, "\x1b[Map8"),
+    (35, 2, 3, False, "\x1b[MC#\""), (0, 1, 95, False, "\x1b[M \x7f!"), (0, 95, 1, False, "\x1b[M !\x7f"), (0, 1, 96, False, ""),
+    (0, 96, 1, False, ""), (64 + 28, 1, 1, False, "\x1b[M|!!"), (128, 1, 1, False, ""),
+)
+
+
+class Reports(unittest.TestCase):
+    """A report, and what is made of it."""
+
+    def test_read(self):
+        for text, report in REPORTS.items():
+            self.assertEqual(report_of(text), report)
+        for text in NO_REPORTS:
+            self.assertIsNone(report_of(text), text)
+
+    def test_kinds(self):
+        """Buttons, the wheel and motion are told apart, whatever keys are held."""
+        for keys in (0, 4, 8, 16, 28):
+            kinds = [(report.number(), report.moves(), report.is_wheel(), report.is_held())
+                     for report in (MouseReport(button + keys, 1, 1, False) for button in (1, 65, 67, 128, 34, 35))]
+            self.assertEqual(kinds, [(1, False, False, True), (65, False, True, True), (67, False, True, True), (128, False, False, True),
+                                     (2, True, False, True), (3, True, False, False)])
+
+    def test_wanted(self):
+        """A program is sent the kinds that its mode has, and none without one."""
+        for button, is_release, wanted in WANTED:
+            found = [is_wanted(MouseReport(button, 1, 1, is_release), [word, "sgr"]) for word in ("buttons", "drags", "motion")]
+            self.assertEqual(found, [bool(word) for word in wanted], button)
+            self.assertFalse(is_wanted(MouseReport(button, 1, 1, is_release), ["sgr", "paste", "other"]))
+        self.assertEqual([tracking_of(words.split()) for words in ("", "sgr", "buttons sgr", "drags", "paste motion")],
+                         ["", "", "buttons", "drags", "motion"])
+
+    def test_sent(self):
+        """In the old form each number is a character below 80, or it is dropped; that of 1006 has all."""
+        for *report, text in OLD:
+            self.assertEqual(sent(MouseReport(*report), ["buttons"]), text, report)
+        for text, report in REPORTS.items():
+            self.assertEqual(sent(report, ["sgr", "drags"]), text)
+
+
+class Among(unittest.TestCase):
+    """Reports among keys."""
+
+    def test_cut(self):
+        """Wherever a stream is cut its reports are taken out, and its keys are what they are without; nothing of a report waits in vain."""
+        stream = b"a\x1b[<0;5;7Mb\x1b[A\x1b[<64;80;24M\x1b[<35;500;200m\xc3\xa9"
+        wanted = [("a", "a"), (MOUSE, "\x1b[<0;5;7M"), ("b", "b"), ("up", "\x1b[A"), (MOUSE, "\x1b[<64;80;24M"),
+                  (MOUSE, "\x1b[<35;500;200m"), ("\u00e9", "\u00e9")]
+        for cut in range(len(stream) + 1):
+            keys = Keys()
+            found = [key for piece in (stream[:cut], stream[cut:]) for key in keys.fed(piece)]
+            self.assertEqual(([tuple(key) for key in found], keys.waits()), (wanted, False), cut)
+        keys = Keys()
+        self.assertEqual([tuple(key) for byte in stream for key in keys.fed(bytes([byte]))], wanted)
+
+    def test_waits(self):
+        """What has begun as a report goes on as long as that takes, where an escape is a key soon; another key ends it."""
+        for begun, waits in ((b"\x1b", True), (b"\x1b[", True), (b"\x1b[<", False), (b"\x1b[<0;5", False)):
+            keys = Keys()
+            self.assertEqual((keys.fed(begun), keys.waits()), ([], waits))
+        self.assertEqual([key.name for key in keys.fed(b";7M")], [MOUSE])
+        self.assertEqual((keys.fed(b"\x1b[<"), [key.name for key in keys.fed(b"x\x1b[<u")]), ([], ["unknown", "unknown"]))
+
+    def test_typed(self):
+        """Where it stands in what is pasted or sent it is what it is."""
+        self.assertEqual(acts_of_bytes(b"\x1b[<0M"), [f"char {byte:x}" for byte in b"\x1b[<0M"])
+
+
+class Asked(unittest.TestCase):
+    """What the outer terminal is asked for."""
+
+    def test_asked(self):
+        """Each is asked for once, none before another, and none where the terminal is given back."""
+        with mock.patch.dict("os.environ", TERM="xterm"):
+            aside = GivenAside()
+        self.assertEqual((aside.asked(""), aside.taken_back()), (b"", b""))
+        self.assertEqual([aside.asked(words) for words in ("drags", "drags", "motion", "", "drags")],
+                         [OFF + b"\x1b[?1002h\x1b[?1006h", b"", OFF + b"\x1b[?1003h\x1b[?1006h", OFF, ASKED["drags"]])
+        self.assertEqual((aside.taken_back(), aside.taken_back(), aside.asked("motion")), (OFF, b"", ASKED["motion"]))
+
+    def test_console(self):
+        """A console of Linux has another form, and isn't asked."""
+        with mock.patch.dict("os.environ", TERM="linux"):
+            aside = GivenAside()
+        self.assertEqual((aside.asked("drags"), aside.taken_back()), (b"", b""))
+
+
+if __name__ == "__main__":
+    unittest.main()

@@ -1,0 +1,307 @@
+"""What a person points at: reports as acts for the programs in panes, on a terminal that shows a part of the session."""
+from aids import Case
+from roam_live.mouse import report_of
+from roam_live.places import Places, Rect
+from roam_live.told import ToldRecord
+from test_display import Person
+
+# A pane to the left over all rows, and two beside it, one above the other; 1 is in focus.
+PANES = Places({1: Rect(1, 1, 23, 39), 2: Rect(1, 41, 11, 40), 3: Rect(13, 41, 11, 40)}, 1, 1)
+
+
+def report(button, row, col, is_release=False):
+    """A report of the outer terminal."""
+    return f"\x1b[<{button};{col};{row}{'m' if is_release else 'M'}".encode()
+
+
+def typed(lines):
+    """What is typed by lines of acts: for each the acts that are no characters, and the text of those that are."""
+    found = []
+    for line in lines:
+        acts = line.split(" ; ")
+        text = "".join(chr(int(act.split()[1], 16)) for act in acts if act.startswith("char "))
+        found.append((*[act for act in acts if not act.startswith("char ")], *[text] * bool(text)))
+    return found
+
+
+class Pointed(Case):
+    """A person at a terminal of 24 by 80, with panes that are known."""
+
+    def setUp(self):
+        self.stop_clock()
+
+    def person(self, modes, told=PANES, size=(24, 80), **more):
+        """A person who is shown the session, whose panes have modes."""
+        person = Person(*size, told=told, **more)
+        person.panes.modes_of = modes
+        person.commands.told()
+        person.answers()
+        return person
+
+    def points(self, person, *reports):
+        """What is typed for reports, each 20 ms after the one before."""
+        for one in reports:
+            person.commands.fed(report(*one) if isinstance(one, tuple) else one)
+            self.now += 0.02
+            person.loop.do_due()
+        return typed(person.said())
+
+
+class Programs(Pointed):
+    """Reports for the program in the pane in focus."""
+
+    def test_asked(self):
+        """The terminal is asked for reports while the program in focus has asked for them, and for all motion where it has for that."""
+        person = self.person({2: "buttons sgr", 3: "motion"})
+        for focus, modes, asked in ((1, {}, ""), (2, {}, "drags"), (3, {}, "motion"), (1, {}, ""), (2, {2: "sgr paste"}, ""),
+                                    (2, {2: "drags"}, "drags")):
+            person.panes.modes_of.update(modes)
+            person.tell(PANES._replace(focus=focus))
+            self.assertEqual(person.display.outer.reports, asked)
+        watcher = self.person({1: "motion"}, watches=True)
+        self.assertEqual(watcher.display.outer.reports, "")
+        self.assertEqual(self.points(watcher, (0, 1, 1), (0, 1, 1, True)), [])
+
+    def test_corner(self):
+        """A report counts from the pane's corner, named with the pane in one line of acts, in the form that its program has."""
+        for modes, press, release in (("buttons sgr", "\x1b[<0;1;1M", "\x1b[<0;40;11m"), ("buttons", "\x1b[M !!", "\x1b[M#H+")):
+            person = self.person({2: modes}, PANES._replace(focus=2))
+            self.assertEqual(self.points(person, (0, 1, 41), (0, 11, 80, True)), [("focus 2", press), ("focus 2", release)])
+
+    def test_own(self):
+        """What is in another pane, on a border, in the last row or outside is nobody's, and so is what is let go and wasn't pressed."""
+        person = self.person({1: "motion sgr", 2: "motion sgr"}, PANES._replace(focus=2))
+        for place in ((1, 39), (1, 40), (12, 41), (13, 41), (24, 41), (25, 41), (1, 81), (0, 41), (1, 0), (99999, 99999)):
+            self.assertEqual(self.points(person, (0, *place), (0, *place, True), (35, *place), (64, *place)), [], place)
+        self.assertEqual(self.points(person, (0, 1, 41, True), (32, 1, 42), b"\x1b[<0;41M"), [])
+
+    def test_kinds(self):
+        """A program gets the kinds that its mode has."""
+        for modes, kinds in (("buttons", 3), ("drags", 4), ("motion", 5)):
+            person = self.person({1: f"{modes} sgr"})
+            found = self.points(person, (35, 2, 2), (0, 2, 3), (32, 2, 4), (0, 2, 4, True), (65, 3, 3))
+            self.assertEqual(len(found), kinds, modes)
+            self.assertEqual(found[-2:], [("focus 1", "\x1b[<0;4;2m"), ("focus 1", "\x1b[<65;3;3M")])
+
+    def test_old(self):
+        """Beyond column 95 the old form has no report, also where the press had one."""
+        wide = Places({1: Rect(1, 1, 23, 200)}, 1, 1)
+        person = self.person({1: "drags"}, wide, (24, 200))
+        found = self.points(person, (0, 1, 96), (0, 1, 96, True), (0, 2, 95), (32, 2, 96), (0, 2, 96, True))
+        self.assertEqual(found, [("focus 1", "\x1b[M \x7f\"")])
+        person.panes.modes_of = {1: "drags sgr"}
+        self.assertEqual(self.points(person, (0, 1, 200)), [("focus 1", "\x1b[<0;200;1M")])
+
+    def test_dragged_out(self):
+        """What is dragged out of a pane stays its program's, at the nearest place; what it was told is held it is told is let go."""
+        person = self.person({2: "drags sgr"}, PANES._replace(focus=2))
+        found = self.points(person, (0, 5, 50), (32, 5, 10), (32, 20, 10), (32, 20, 5), (0, 1, 1, True), (0, 1, 1, True))
+        self.assertEqual([text for _, text in found], ["\x1b[<0;10;5M", "\x1b[<32;1;5M", "\x1b[<32;1;11M", "\x1b[<0;1;1m"])
+        found = self.points(person, (0, 5, 50), (32, 24, 90), (0, 25, 200, True))
+        self.assertEqual([text for _, text in found], ["\x1b[<0;10;5M", "\x1b[<32;40;11M", "\x1b[<0;40;11m"])
+
+    def test_forgets(self):
+        """A program that has the mouse no more gets nothing of a button that is held, and neither does another pane's."""
+        person = self.person({1: "drags sgr", 2: "drags sgr"})
+        self.assertEqual(len(self.points(person, (0, 1, 1))), 1)
+        person.panes.modes_of[1] = "sgr"
+        self.assertEqual(self.points(person, (32, 1, 2), (0, 1, 2, True)), [])
+        person.panes.modes_of[1] = "drags sgr"
+        self.assertEqual(len(self.points(person, (0, 1, 1))), 1)
+        person.tell(PANES._replace(focus=2))
+        self.assertEqual(self.points(person, (32, 1, 2), (32, 1, 50), (0, 1, 50, True)), [])
+        person.tell(PANES._replace(rects={2: Rect(1, 1, 23, 80)}, focus=2))
+        person.answers()
+        self.assertEqual(self.points(person, (0, 1, 2, True)), [])
+
+    def test_thinned(self):
+        """Motion goes each 20 ms, the newest, and before what follows it; the same place isn't told twice. Nothing else waits."""
+        person = self.person({1: "motion sgr"})
+        person.commands.fed(b"".join(report(35, 1, col) for col in range(1, 10)))
+        self.assertEqual(typed(person.said()), [("focus 1", "\x1b[<35;1;1M")])
+        self.now += 0.0199
+        person.loop.do_due()
+        self.assertEqual(person.said(), [])
+        self.now += 0.0002
+        person.loop.do_due()
+        self.assertEqual(typed(person.said()), [("focus 1", "\x1b[<35;9;1M")])
+        person.commands.fed(report(35, 1, 12) + report(0, 1, 12) + report(64, 1, 12) * 3 + report(0, 1, 12, True))
+        self.assertEqual([text for _, text in typed(person.said())],
+                         ["\x1b[<35;12;1M", "\x1b[<0;12;1M", *["\x1b[<64;12;1M"] * 3, "\x1b[<0;12;1m"])
+        self.now += 1
+        person.commands.fed(report(35, 1, 12) * 2)
+        self.assertEqual(len(person.said()), 1)
+        self.now += 1
+        person.loop.do_due()
+        self.assertEqual((person.said(), [name for name in person.loop.due if name == "motion"]), ([], []))
+
+    def test_slow(self):
+        """While what was typed is on its way motion waits, and the newest goes then; the focus that goes meanwhile takes it along."""
+        person = self.person({1: "motion sgr"})
+        person.link.has_taken = False
+        self.assertEqual(self.points(person, (35, 1, 1), (35, 1, 2), (35, 1, 3)), [])
+        self.assertEqual(len(self.points(person, (0, 2, 2))), 2)
+        self.assertEqual(self.points(person, (32, 3, 3)), [])
+        person.link.has_taken = True
+        self.now += 0.02
+        person.loop.do_due()
+        self.assertEqual(typed(person.said()), [("focus 1", "\x1b[<32;3;3M")])
+        person.link.has_taken = False
+        self.points(person, (32, 4, 4))
+        person.link.has_taken = True
+        person.tell(PANES._replace(focus=2))
+        self.assertEqual(self.points(person, b""), [])
+
+    def test_part(self):
+        """On a terminal that shows a part of the session places are those of that part, and the last row is nobody's."""
+        person = self.person({2: "buttons sgr"}, PANES._replace(focus=2), (12, 40))
+        person.display.take(ToldRecord("part", (0, 30)))
+        person.answers()
+        self.assertEqual(self.points(person, (0, 1, 1), (0, 1, 11), (0, 11, 40), (0, 12, 40)),
+                         [("focus 2", "\x1b[<0;1;1M"), ("focus 2", "\x1b[<0;30;11M")])
+        person.display.take(ToldRecord("part", (12, 40)))
+        self.assertEqual(self.points(person, (0, 1, 1)), [])
+        person.tell(PANES._replace(focus=3))
+        person.panes.modes_of[3] = "buttons sgr"
+        self.assertEqual(self.points(person, (0, 1, 1), (0, 11, 40), (0, 12, 1)),
+                         [("focus 3", "\x1b[<0;1;1M"), ("focus 3", "\x1b[<0;40;11M")])
+
+    def test_whole(self):
+        """Where the session is shown whole, its own status row is nobody's either."""
+        person = self.person({1: "buttons sgr"}, Places({1: Rect(1, 1, 9, 30)}, 1, 1), is_whole=True)
+        person.paints(10, 30)
+        self.assertEqual(self.points(person, (0, 9, 30), (0, 10, 1), (0, 11, 1), (0, 1, 31)), [("focus 1", "\x1b[<0;30;9M")])
+
+    def test_nothing_shown(self):
+        """Under the help, in the scroll mode, at a question and while nothing is painted there are no reports; the help stays, and so does
+        the question."""
+        person = self.person({1: "drags sgr"})
+        person.types(b"\x02?")
+        self.assertEqual(self.points(person, (0, 1, 1), (0, 1, 1, True)), [])
+        self.assertEqual(person.display.cover, person.commands.help)
+        person.types(b"x")
+        person.answers()
+        for keys in (b"\x02[", b"q\x02x"):
+            person.types(keys)
+            person.said()
+            self.assertEqual(self.points(person, (0, 1, 1)), [])
+        self.assertIn("y closes it", person.display.told)
+        person.types(b"n")
+        self.assertEqual(len(self.points(person, (0, 1, 1))), 1)
+        person.display.is_stale = True
+        self.assertEqual(self.points(person, (0, 1, 1)), [])
+        person.display.is_stale = False
+        person.commands.paused = True
+        self.assertEqual(self.points(person, (0, 1, 1)), [])
+
+    def test_prefix(self):
+        """A report comes between the prefix and its key, and isn't one."""
+        person = self.person({1: "drags sgr"})
+        person.types(b"\x02")
+        self.assertEqual(len(self.points(person, (0, 1, 1))), 1)
+        self.assertEqual(person.types(b"o"), ["next"])
+
+    def test_pasted(self):
+        """What looks like one in a paste is pasted, but for its escape where that isn't."""
+        person = self.person({1: "drags sgr"})
+        acts = person.types(b"\x1b[200~\x1b[<0;1;1M\x1b[201~")
+        self.assertTrue("".join(chr(int(act.split()[1], 16)) for act in acts).endswith("[<0;1;1M"))
+        self.assertEqual(person.said(), [])
+
+    def test_own_focus(self):
+        """Where this person put the focus elsewhere, and that isn't told yet, the pane before has no reports."""
+        person = self.person({1: "drags sgr", 2: "drags sgr"})
+        person.types(b"\x022")
+        self.assertEqual(self.points(person, (0, 1, 1)), [])
+        self.assertEqual(self.points(person, (0, 1, 41)), [("focus 2", "\x1b[<0;1;1M")])
+        self.assertEqual(report_of(report(0, 1, 41).decode()).col, 41)
+
+
+class Own(Pointed):
+    """What is pointed at where roam has the mouse itself."""
+
+    def having(self, modes=None, told=PANES, **more):
+        """A person who has it."""
+        person = self.person(modes or {}, told, **more)
+        person.types(b"\x02m")
+        person.said()
+        return person
+
+    def test_switched(self):
+        """C-b m has the terminal asked for reports whatever programs ask for, and again for theirs alone; a line tells it."""
+        person = self.person({2: "motion"})
+        self.assertEqual(self.points(person, (0, 1, 50), (64, 1, 1), (0, 1, 40)), [])
+        for asked, line in (("drags", "the mouse focuses, scrolls and drags borders; C-b m ends that"),
+                            ("", "the mouse selects text, but where a program has it")):
+            person.types(b"\x02m")
+            self.assertEqual((person.display.outer.reports, person.display.told), (asked, line))
+        person.types(b"\x02m")
+        person.tell(PANES._replace(focus=2))
+        self.assertEqual(person.display.outer.reports, "motion")
+        watcher = self.person({}, watches=True)
+        watcher.types(b"\x02m")
+        self.assertEqual((watcher.display.outer.reports, watcher.display.told), ("", ""))
+        unknown = Person(24, 80)
+        unknown.types(b"\x02m")
+        self.assertEqual(unknown.display.outer.reports, "")
+
+    def test_click(self):
+        """A click focuses the pane there, whose program has it where it asked for that; what follows it is that pane's."""
+        person = self.having({3: "drags sgr"})
+        reports = (0, 3, 3), (0, 3, 3, True), (0, 2, 45), (0, 2, 45, True), (2, 2, 45), (2, 2, 45, True)
+        self.assertEqual(self.points(person, *reports), [("focus 2",)])
+        self.assertEqual(person.commands.places().focus, 2)
+        self.assertEqual(self.points(person, (0, 13, 41), (32, 14, 41), (0, 14, 41, True)),
+                         [("focus 3", "\x1b[<0;1;1M"), ("focus 3", "\x1b[<32;1;2M"), ("focus 3", "\x1b[<0;1;2m")])
+        self.assertEqual(self.points(person, (0, 1, 1), (32, 13, 41), (0, 13, 41, True)), [("focus 1",)])
+
+    def test_hover(self):
+        """Motion without a button focuses nothing."""
+        person = self.having({1: "motion sgr", 2: "motion sgr"})
+        found = self.points(person, (35, 1, 50), (35, 1, 1), (0, 1, 1), (32, 2, 60), (0, 2, 60, True))
+        self.assertEqual(found, [("focus 1", text) for text in ("\x1b[<35;1;1M", "\x1b[<0;1;1M", "\x1b[<32;39;2M", "\x1b[<0;39;2m")])
+
+    def test_wheel(self):
+        """The wheel goes to the program under it, which it focuses; on the other screen it is arrows, three a notch."""
+        person = self.having({2: "buttons sgr other", 3: "other"})
+        self.assertEqual(self.points(person, (64, 1, 41), (66, 1, 41)), [("focus 2", "\x1b[<64;1;1M"), ("focus 2", "\x1b[<66;1;1M")])
+        self.assertEqual(self.points(person, (64, 13, 41), (65, 13, 41), (66, 13, 41), (128, 13, 41)),
+                         [("focus 3", *["key up"] * 3), ("focus 3", *["key down"] * 3)])
+        self.assertEqual(person.commands.typing.is_typing(), True)
+
+    def test_scrolls(self):
+        """Over a shell's pane the wheel shows the rows that scrolled off, three a notch, until it is back at the newest."""
+        person = self.having()
+        self.assertEqual(self.points(person, (65, 1, 41)), [])
+        self.assertEqual(self.points(person, (64, 1, 41), (64, 1, 41), (65, 1, 41)),
+                         [("focus 2", "view 3"), ("focus 2", "view 3"), ("focus 2", "view -3")])
+        self.assertTrue(person.display.told.startswith("3 rows back: "))
+        self.assertEqual(person.types(b"k"), ["view 1"])
+        self.assertEqual(self.points(person, (65, 1, 41), (65, 1, 41)), [("focus 2", "view -3"), ("focus 2", "view -500")])
+        self.assertEqual((person.display.told, person.types(b"k")), ("", ["char 6b"]))
+        for _ in range(200):
+            self.points(person, (64, 1, 41))
+        self.assertTrue(person.display.told.startswith("500 rows back: "))
+        self.assertEqual(person.types(b"q"), ["view -500"])
+
+    def test_scrolls_by_keys(self):
+        """In the scroll mode of keys the wheel scrolls too, also where a program has the mouse; a click there is nothing, and one in
+        another pane ends it."""
+        person = self.person({1: "motion sgr"})
+        person.types(b"\x02[")
+        found = self.points(person, (64, 1, 1), (0, 1, 1), (0, 1, 1, True), (35, 1, 1), (0, 1, 50), (64, 1, 50))
+        self.assertEqual(found, [("focus 1", "view 3")])
+        person.types(b"q\x02m\x02[kk")
+        person.said()
+        before = len(person.link.acts)
+        self.assertEqual(self.points(person, (0, 1, 50)), [("focus 2",)])
+        self.assertEqual((person.link.acts[before:], person.commands.typing.is_typing(), person.display.told), (["view -500"], True, ""))
+
+    def test_border(self):
+        """A border is dragged with the first button alone; in another pane's place nothing comes of it."""
+        person = self.having()
+        for button in (1, 2, 4, 64, 65):
+            self.assertEqual(self.points(person, (button, 5, 40), (32 + button, 5, 45), (button, 5, 45, True)), [], button)
+        self.assertEqual(self.points(person, (0, 5, 40), (32, 5, 45)), [("focus 1", "grow 5")])
+        off = self.person({})
+        self.assertEqual(self.points(off, (0, 5, 40), (32, 5, 45)), [])
