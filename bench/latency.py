@@ -162,7 +162,7 @@ def roam_keys(program, folder, **environment):
     known = {"ROAM": program, "XDG_RUNTIME_DIR": folder, **environment}
     with on_terminal([str(TOOLS / "mux"), "measured"], **known) as master:
         yield master
-        subprocess.run([str(TOOLS / "mux"), "kill", "measured"], env=dict(os.environ, **known), check=False)
+        subprocess.run([str(TOOLS / "mux"), "kill", "-f", "measured"], env=dict(os.environ, **known), check=False)
 
 
 def pane_sides(stack, program, folder):

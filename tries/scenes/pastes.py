@@ -8,8 +8,8 @@ import signal
 import subprocess
 import time
 
-from tried import Outer, check, comes, noted, said, scene, three_panes, tool
-from scenes.machines import ssh_words
+from tried import Outer, check, comes, noted, said, scene, tool
+from scenes.machines import far_ends, ssh_words
 
 # So many pastes are typed with keys round each, and so many bytes at once are timed.
 PASTES = 100
@@ -101,7 +101,8 @@ def paste_lines(folder):
 @scene
 def paste_speed(folder):
     """Large pastes arrive whole, and soon."""
-    outer = three_panes()
+    outer = Outer(tool("mux", "other"))
+    outer.shows("$ ")
     path = folder / "pasted"
     reads(outer, path, r"\033[?2004h")
     whole = b""
@@ -114,6 +115,7 @@ def paste_speed(folder):
         print(f"        in {time.monotonic() - begun:.2f} s", flush=True)
     outer.type(pasted("a\x1b[20\x1b[A\x07\x9b201~\tb" + "c" * 50))
     check("no control character comes in one", has(path, whole + pasted("a[20[A201~\tb" + "c" * 50)), path.read_bytes()[-80:])
+    subprocess.run(tool("mux", "kill", "-f", "other"), check=True)
 
 
 def is_in_order(got, texts, keys):
@@ -220,7 +222,7 @@ def paste_far(folder):
     for number in range(3):
         outer.type(b"%d" % number + pasted(text))
         keys += b"%d" % number + pasted(text)
-        ends = [int(note.read_text(encoding="utf-8").split()[0]) for note in far.glob("roam/other/relays/*")]
+        ends = far_ends(far)
         time.sleep(0.02 * number)
         for process in ends:
             os.kill(process, signal.SIGKILL)
