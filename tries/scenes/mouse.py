@@ -12,7 +12,8 @@ import os, sys, termios, tty
 modes, path = sys.argv[1:]
 before = termios.tcgetattr(0)
 tty.setraw(0)
-os.write(1, b"".join(b"\\033[?%dh" % int(mode) for mode in modes.split(",")) + b"\\033[2J\\033[Hat " + os.path.basename(path).encode() + b" ")
+os.write(1, b"".join(b"\\033[?%dh" % int(mode) for mode in modes.split(",")))
+os.write(1, b"\\033[2J\\033[Hat " + os.path.basename(path).encode() + b" ")
 piece = b""
 while piece != b"q":
     piece = os.read(0, 4096)
@@ -107,6 +108,30 @@ def mouse_reports(folder):
     check("a report that comes later isn't typed", outer.shows("nothing") and not any("[<" in row for row in outer.rows()), outer.rows)
     outer.type(b"\x02d")
     outer.ends()
+
+
+@scene
+def mouse_thinned(folder):
+    """Of motion a program is told each 20 ms at most, and the place where it ends; of the wheel it is told each notch."""
+    outer = Outer(tool("mux", SESSION))
+    outer.shows("$ ")
+    program = Noting(folder, outer, "1003,1006")
+    begun = time.monotonic()
+    for turn in range(200):
+        outer.type(report(35, 2 + turn // 70, 1 + turn % 70))
+        time.sleep(0.004)
+    seconds = time.monotonic() - begun
+    ends = b"\x1b[<35;60;4M"
+    check("where motion ends is told", comes(lambda: program.noted().endswith(ends)), program.noted()[-60:])
+    count = program.noted().count(b"M")
+    check(f"of 200 motions in {seconds:.1f} s it is told of {count}, one each 20 ms at most", count <= seconds / 0.02 + 2, count)
+    before = len(program.noted())
+    notches = [report(64 + turn % 2, 1 + turn % 20, 5) for turn in range(100)]
+    for notch in notches:
+        outer.type(notch)
+        time.sleep(0.001)
+    check("and of each of 100 notches", comes(lambda: program.noted()[before:] == b"".join(notches)), program.noted()[before:][-60:])
+    program.quit()
 
 
 @scene
