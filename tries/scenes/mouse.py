@@ -3,6 +3,7 @@ import os
 import time
 
 from tried import SESSION, Outer, check, comes, scene, three_panes, tool
+from roam_live import terminal
 from roam_live.mouse import ASKED, OFF
 from scenes.machines import ssh_words
 
@@ -147,6 +148,10 @@ def mouse_leaves(folder):
         leaves(outer)
         is_off = outer.ends() and bytes(outer.written).rfind(OFF) > bytes(outer.written).rfind(b"?1003h")
         check(f"{name}: and for nothing in the end", is_off and outer.is_restored(), bytes(outer.written[-200:]))
+    begin = len(first.written)
+    first.type(b"\x02\x1a")
+    is_off = asks(first, OFF + terminal.LEFT, begin) and asks(first, terminal.ENTERED + ASKED["motion"], begin)
+    check("C-b C-z: nothing is asked while it is stopped, and again then", is_off, bytes(first.written[begin:]))
     watcher = Outer(tool("mux", "watch", SESSION))
     watcher.shows("at noted")
     time.sleep(0.3)
