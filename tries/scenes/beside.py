@@ -27,7 +27,7 @@ while text:
     while select.select([0], [], [], 0 if text else 1)[0]:
         noted += os.read(0, 4096)
 open(sys.argv[2], "wb").write(noted)
-os.write(1, b"\\033c")
+os.write(1, b"\\030\\033\\\\\\033c")
 termios.tcsetattr(0, termios.TCSAFLUSH, before)
 """
 
@@ -44,7 +44,7 @@ def writes(folder, outer, text):
     path.write_bytes(text)
     noted.unlink(missing_ok=True)
     outer.type(f"python3 {script} {path} {noted}; echo do''ne\r".encode())
-    outer.shows("done", 30)
+    check("and the shell is there again", outer.shows("done", 30), outer.rows)
     return noted.read_bytes()
 
 

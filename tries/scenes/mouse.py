@@ -3,6 +3,7 @@ import os
 import time
 
 from tried import SESSION, Outer, check, comes, scene, three_panes, tool
+from roam_live import terminal
 from roam_live.mouse import ASKED, OFF
 from scenes.machines import ssh_words
 
@@ -12,7 +13,8 @@ import os, sys, termios, tty
 modes, path = sys.argv[1:]
 before = termios.tcgetattr(0)
 tty.setraw(0)
-os.write(1, b"".join(b"\\033[?%dh" % int(mode) for mode in modes.split(",")) + b"\\033[2J\\033[Hat " + os.path.basename(path).encode() + b" ")
+os.write(1, b"".join(b"\\033[?%dh" % int(mode) for mode in modes.split(",")))
+os.write(1, b"\\033[2J\\033[Hat " + os.path.basename(path).encode() + b" ")
 piece = b""
 while piece != b"q":
     piece = os.read(0, 4096)
@@ -110,6 +112,30 @@ def mouse_reports(folder):
 
 
 @scene
+def mouse_thinned(folder):
+    """Of motion a program is told each 20 ms at most, and the place where it ends; of the wheel it is told each notch."""
+    outer = Outer(tool("mux", SESSION))
+    outer.shows("$ ")
+    program = Noting(folder, outer, "1003,1006")
+    begun = time.monotonic()
+    for turn in range(200):
+        outer.type(report(35, 2 + turn // 70, 1 + turn % 70))
+        time.sleep(0.004)
+    seconds = time.monotonic() - begun
+    ends = b"\x1b[<35;60;4M"
+    check("where motion ends is told", comes(lambda: program.noted().endswith(ends)), program.noted()[-60:])
+    count = program.noted().count(b"M")
+    check(f"of 200 motions in {seconds:.1f} s it is told of {count}, one each 20 ms at most", count <= seconds / 0.02 + 2, count)
+    before = len(program.noted())
+    notches = [report(64 + turn % 2, 1 + turn % 20, 5) for turn in range(100)]
+    for notch in notches:
+        outer.type(notch)
+        time.sleep(0.001)
+    check("and of each of 100 notches", comes(lambda: program.noted()[before:] == b"".join(notches)), program.noted()[before:][-60:])
+    program.quit()
+
+
+@scene
 def mouse_leaves(folder):
     """Where a front end leaves, is stopped or told to end the terminal reports nothing any more."""
     first = Outer(tool("mux", SESSION))
@@ -122,6 +148,10 @@ def mouse_leaves(folder):
         leaves(outer)
         is_off = outer.ends() and bytes(outer.written).rfind(OFF) > bytes(outer.written).rfind(b"?1003h")
         check(f"{name}: and for nothing in the end", is_off and outer.is_restored(), bytes(outer.written[-200:]))
+    begin = len(first.written)
+    first.type(b"\x02\x1a")
+    is_off = asks(first, OFF + terminal.LEFT, begin) and asks(first, terminal.ENTERED + ASKED["motion"], begin)
+    check("C-b C-z: nothing is asked while it is stopped, and again then", is_off, bytes(first.written[begin:]))
     watcher = Outer(tool("mux", "watch", SESSION))
     watcher.shows("at noted")
     time.sleep(0.3)

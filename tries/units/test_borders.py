@@ -4,6 +4,7 @@ import unittest
 
 from aids import Case
 from roam_live.borders import LEAST, NO_PANE, PaneSplit, border_at, end_of, least_of, panes_of, splits_of, way_between
+from roam_live.mouse import MouseReport, is_wanted, report_of
 from roam_live.places import Places, Rect
 from test_pointing import Pointed
 
@@ -305,6 +306,39 @@ class Dragged(Pointed):
         person.display.cover = "help"
         self.drag((0, 5, 45, True))
         self.assertEqual((person.commands.pointing.border, session.rects()[1].cols), (None, 39))
+
+
+class Anywhere(Pointed):
+    """Whatever is pointed at, in whichever order."""
+
+    def test_inside(self):
+        """A program is sent reports that it asked for, in its form, for places inside of its pane, and where roam hasn't the mouse none is
+        sent past the pane in focus."""
+        kinds, count = ("", "buttons", "drags sgr", "motion sgr", "motion", "buttons sgr other", "other"), 0
+        for seed in range(12):
+            chance, rects = random.Random(seed), played(seed).rects()
+            modes = {pane: chance.choice(kinds) for pane in rects}
+            focus = chance.choice(sorted(rects))
+            person = self.person(modes, Places(rects, focus, 1))
+            person.commands.pointing.is_on = seed % 2 == 1
+            for _ in range(60):
+                button = chance.choice((0, 1, 2, 16, 32, 33, 35, 64, 65, 66))
+                one = button, chance.randint(0, 26), chance.randint(0, 82), *([True] if button < 32 and chance.random() < 0.4 else [])
+                for pane, text in [line for line in self.points(person, one) if len(line) == 2 and line[1].startswith("\x1b")]:
+                    number = int(pane.removeprefix("focus "))
+                    told, count = self.read(text, modes[number]), count + 1
+                    self.assertTrue(1 <= told.row <= rects[number].rows and 1 <= told.col <= rects[number].cols, (seed, one, text))
+                    self.assertTrue(is_wanted(told, modes[number].split()), (seed, one, text))
+                    self.assertTrue(person.commands.pointing.is_on or number == focus, (seed, one, text))
+        self.assertGreater(count, 100)
+
+    def read(self, text, modes):
+        """The report that a program with these modes reads."""
+        if "sgr" in modes:
+            return report_of(text)
+        self.assertTrue(text.startswith("\x1b[M") and len(text) == 6 and max(text) <= "\x7f", text)
+        button, col, row = (ord(letter) - 32 for letter in text[3:])
+        return MouseReport(button, row, col, button & 3 == 3 and not button & 32)
 
 
 def place_of(border, rects):
