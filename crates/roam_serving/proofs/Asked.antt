@@ -81,6 +81,14 @@ asked_none now moment closer = record { busy = λ h. refl; asked = λ none. none
 not_free : (o : Option (ℕ × ℕ)) → o ≡ None → IsSome o → ⊥
 not_free o none some = let no = subst (λ p. IsSome p) none some in cc
 
+-- no close is under way, and so none was before a step that leaves one that is
+pub still_none : (mid new : Closer) → (IsSome mid.closing → new ≡ mid) → new.closing ≡ None → mid.closing ≡ None
+still_none mid new busy none = by mid.closing refl
+  where
+    by : (o : Option (ℕ × ℕ)) → mid.closing ≡ o → mid.closing ≡ None
+    by None is = is
+    by (Some making) is = ap (λ (c : Closer). c.closing) (sym (busy (subst (λ o. IsSome o) (sym is) refl))) ∙ none
+
 pub asked_by : (now : PaneList) (line : List ℕ) (moment : ℕ) (old new : Closer) (said : List ℕ) → old.closing ≡ None
     → DoesLine now line moment old new said → IsAsked now moment old new
 asked_by now line moment old new said free does = record {

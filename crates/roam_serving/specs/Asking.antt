@@ -1,5 +1,6 @@
 -- What the line of a program comes to that follows the panes.
-use Rattle.std.specs.Prelude.{◌≡◌, ◌⊎◌, ◌++◌, ◌||◌, ℕ, true, false, List, [], None, IfSome, IsSome, codes}
+use Rattle.std.specs.Prelude.{◌≡◌, ◌⊎◌, ◌++◌, ◌||◌, ℕ, true, false, List, [], ◌∷◌, None, IfSome, IsSome, codes}
+use Rattle.std.specs.List.{filter}
 use Rattle.roam_pane_list.specs.Closes.{IsAlone, IsClose, IsPane, close_text, focus_after, is_making}
 use Rattle.roam_pane_list.specs.declared.closes.Close.{Close}
 use Rattle.roam_pane_list.specs.declared.pane_list.PaneList.{PaneList}
@@ -7,7 +8,8 @@ use Rattle.roam_typing.specs.Lines.{IsFirst}
 use Rattle.roam_serving.specs.Asides.{is_beside_line}
 use Rattle.roam_serving.specs.Clips.{is_clips_line}
 use Rattle.roam_serving.specs.Closing.{Closes, IsThere}
-use Rattle.roam_serving.specs.Seats.{is_keeper_line, role_after}
+use Rattle.roam_serving.specs.Following.{is_there, turned}
+use Rattle.roam_serving.specs.Seats.{any_new, is_keeper_line, kept_place, role_after, seated}
 use Rattle.roam_serving.specs.declared.closing.Closer.{Closer}
 use Rattle.roam_serving.specs.declared.following.Follower.{Follower}
 
@@ -63,3 +65,20 @@ pub record Settles (panes : PaneList) (old new : Closer) : Type 0 where
   pub let_go : old.datagram ≡ None → IfSome old.closing (λ making. IsPane making.0 → IsThere panes making.0 making.1 → new.client ≡ None)
   pub others : new ≡ record old { client = new.client; closing = new.closing }
   pub kept : (new.client ≡ old.client) ⊎ (new.client ≡ None)
+
+-- ---- what is left
+
+-- no whole line of it waits to be done
+abbrev pub HasNoLine : {S : Type 0} → Follower S → Type 0
+HasNoLine f = (line rest : List ℕ) → IsFirst f.lines.kept line rest → ⊥
+
+abbrev pub HaveNoLine : {S : Type 0} → List (Follower S) → Type 0
+HaveNoLine [] = Unit {0}
+HaveNoLine (f ∷ fs) = HasNoLine f × HaveNoLine fs
+
+-- Where no close is under way, no whole line of any of them waited once they were told; then the keeper has his place, those that left go,
+-- and the first stands last.
+pub record HaveAsked {S : Type 0} (closer : Closer) (all : List (Follower S)) : Type 0 where
+  pub told : List (Follower S)
+  pub done : closer.closing ≡ None → HaveNoLine told
+  pub seats : all ≡ turned (filter is_there (kept_place (seated (any_new told) told)))

@@ -2,7 +2,7 @@
 ghost use Rattle.std.specs.Prelude.{◌≡◌, ◌≢◌, ◌⊎◌, ◌++◌, ◌∷◌, ◌≤◌, ◌<◌, ℕ, List, [], length, is_some, take, drop, true, false, string_bytes, None, IfOk, IfErr, OnOk, IfSome, IsOkUnless};
 ghost use Rattle.std.specs.List.{AllZip, filter};
 ghost use Rattle.roam_typing.specs.Lines.{IsFirst};
-ghost use Rattle.roam_serving.specs.Asking.{DoesLine, IsAsked, Settles, TakesLine};
+ghost use Rattle.roam_serving.specs.Asking.{DoesLine, HasNoLine, HaveAsked, HaveNoLine, IsAsked, Settles, TakesLine};
 ghost use Rattle.roam_serving.specs.Clipping.{TellsEachClips, any_wants};
 ghost use Rattle.roam_serving.specs.Following.{AreTold, GoesOn, HandsAside, HaveCome, IsFresh, IsReply, IsTold, MayHear, RenewsBeside, Replies, Tells, TellsBeside, is_there, most_taken, news, panes_path, room, turned};
 ghost use Rattle.roam_serving.specs.Programs.{Wrote};
@@ -108,6 +108,7 @@ impl<S: Stream + Drop> Follower<S> {
         ensures added { OnOk result (self.new.waiting.items ≡ self.old.waiting.items ++ news self.old.told now.now) }
         ensures told { OnOk result (self.new.told ≡ now.now) }
         ensures program { self.new.program ≡ self.old.program }
+        ensures lines { self.new.lines ≡ self.old.lines }
         ensures fault { IsOkUnless result Fault.OutOfMemory }
     {
         let text = lines_between(alloc, &self.told, now)?;
@@ -143,6 +144,7 @@ impl<S: Stream + Drop> Follower<S> {
         ensures took { (n : ℕ) × (self.new.waiting.items ≡ drop n self.old.waiting.items)
             × Wrote S.contents self.old.program.stream self.new.program.stream (take n self.old.waiting.items) }
         ensures told { self.new.told ≡ self.old.told }
+        ensures lines { self.new.lines ≡ self.old.lines }
     {
         if self.aside.is_clear() {
             self.hand_over();
@@ -177,6 +179,7 @@ impl<S: Stream + Drop> Follower<S> {
         requires free { closer.old.closing ≡ None }
         ensures takes { result ≡ true → TakesLine now.now moment closer.old closer.new self.old self.new }
         ensures none { result ≡ false → (closer.new ≡ closer.old) × (self.new ≡ self.old) }
+        ensures done { result ≡ false → HasNoLine self.new }
         ensures replies { Replies self.old self.new }
     {
         let Some(line) = self.lines.first() else {
@@ -198,6 +201,7 @@ impl<S: Stream + Drop> Follower<S> {
         ensures takes { result ≡ true → (mid : FollowerOf S) × (bytes : List ℕ) × (mid.lines.kept ≡ self.old.lines.kept ++ bytes)
             × (mid.waiting ≡ self.old.waiting) × TakesLine now.now moment closer.old closer.new mid self.new }
         ensures none { result ≡ false → closer.new ≡ closer.old }
+        ensures done { result ≡ false → HasNoLine self.new }
         ensures asked { IsAsked now.now moment closer.old closer.new }
         ensures replies { Replies self.old self.new }
     {
@@ -215,6 +219,7 @@ impl<S: Stream + Drop> Follower<S> {
     ) -> bool
         ensures asked { IsAsked now.now moment closer.old closer.new }
         ensures replies { Replies self.old self.new }
+        ensures done { result ≡ false → closer.new.closing ≡ None → HasNoLine self.new }
     {
         for _ in 0..MOST_LINES {
             if !closer.is_free() || !self.take_line(alloc, now, closer, moment) {
@@ -229,6 +234,7 @@ impl<S: Stream + Drop> Follower<S> {
     fn tell(&mut self, alloc: Global, now: &PaneList)
         ensures tells { IfSome self.new.program.stream (λ _. Tells S.contents now.now self.old self.new) }
         ensures room { length self.new.waiting.items ≤ room }
+        ensures lines { self.new.lines ≡ self.old.lines }
     {
         let is_added = self.add(alloc, now).is_ok();
         self.hand_over_whole();
@@ -328,6 +334,7 @@ fn tell_each<S: Stream + Drop>(
 ) -> bool
     ensures told { AllZip (λ old new. IsTold S.contents now.now old new) all.old all.new }
     ensures asked { IsAsked now.now moment closer.old closer.new }
+    ensures done { result ≡ false → closer.new.closing ≡ None → HaveNoLine all.new }
 {
     let Some((first, others)) = all.split_first_mut() else {
         return false;
@@ -347,7 +354,8 @@ fn tell_seated<S: Stream + Drop>(
     moment: u64,
 ) -> bool
     ensures told { AllZip (λ old new. IsTold S.contents now.now old new) all.old all.new }
-    ensures seated { (told : List (FollowerOf S)) × (all.new ≡ kept_place (seated (any_new told) told)) }
+    ensures seated { (told : List (FollowerOf S)) × (all.new ≡ kept_place (seated (any_new told) told))
+        × (result ≡ false → closer.new.closing ≡ None → HaveNoLine told) }
     ensures asked { IsAsked now.now moment closer.old closer.new }
 {
     let may_ask = tell_each(alloc, all, now, closer, moment);
@@ -376,6 +384,7 @@ fn tell_all<S: Stream + Drop>(
 ) -> bool
     ensures told { AreTold S.contents now.now all.old.items all.new.items }
     ensures asked { IsAsked now.now moment closer.old closer.new }
+    ensures done { result ≡ false → HaveAsked closer.new all.new.items }
 {
     let may_ask = tell_seated(alloc, all, now, closer, moment);
     turn(all);
@@ -414,6 +423,8 @@ pub(crate) struct Followers {
     path: String,
     listener: UnixListener,
     all: Vec<Follower<UnixStream>>,
+    // Whether more may be asked for already than was done after the last turn.
+    may_ask: bool,
 }
 
 impl Followers {
@@ -440,6 +451,7 @@ impl Followers {
             path,
             listener,
             all: Vec::new(alloc),
+            may_ask: false,
         })
     }
 
@@ -464,14 +476,18 @@ impl Followers {
         ensures path { self.new.path ≡ self.old.path }
         ensures told { AreTold ⟦<UnixStream as Stream>⟧.contents now.now self.old.all.items self.new.all.items }
         ensures asked { (settled : CloserOf) × Settles now.now closer.old settled × IsAsked now.now moment settled closer.new }
+        ensures done { result ≡ false → HaveAsked closer.new self.new.all.items }
+        ensures noted { self.new.may_ask ≡ result }
     {
         closer.settle(now);
-        tell_all(alloc, &mut self.all, now, closer, moment)
+        self.may_ask = tell_all(alloc, &mut self.all, now, closer, moment);
+        self.may_ask
     }
 
     /// Tells the programs that asked what is new of what stands beside the panes' terminals.
     pub(crate) fn tell_beside(&mut self, alloc: Global, now: &BesideList, panes: &Panes)
         ensures path { self.new.path ≡ self.old.path }
+        ensures noted { self.new.may_ask ≡ self.old.may_ask }
         ensures told { AllZip (λ old new. TellsBeside ⟦<UnixStream as Stream>⟧.contents now.now panes.now.all.items old new)
             self.old.all.items self.new.all.items }
     {
@@ -487,6 +503,7 @@ impl Followers {
         panes: &Panes,
     ) -> bool
         ensures path { self.new.path ≡ self.old.path }
+        ensures noted { self.new.may_ask ≡ self.old.may_ask }
         ensures told { TellsEachClips ⟦<UnixStream as Stream>⟧.contents may now.now panes.now.all.items result self.old.all.items
             self.new.all.items }
     {

@@ -6,7 +6,7 @@ ghost use Rattle.roam_sockets.specs.Addresses.{number_of};
 ghost use Rattle.roam_sockets.specs.Clients.{Accepts, IsOf, IsQueuedFor};
 ghost use Rattle.roam_sockets.specs.declared.udp.Udp.{Udp as UdpOf};
 ghost use Rattle.roam_sockets.specs.Waits.{wait_for};
-ghost use Rattle.roam_serving.specs.Asking.{IsAsked, Settles};
+ghost use Rattle.roam_serving.specs.Asking.{HaveAsked, IsAsked, Settles};
 ghost use Rattle.roam_serving.specs.Clipping.{AreToldClips};
 ghost use Rattle.roam_serving.specs.Closing.{GivesOwn, HearsAnswer, own_address};
 ghost use Rattle.roam_serving.specs.Following.{AreAllTold, HaveCome, most_taken, panes_path};
@@ -161,6 +161,7 @@ fn tell_beside(
 )
     ensures told { AreToldBeside ⟦<UnixStream as Stream>⟧.contents telling.old telling.new moment panes.now.all.items
         followers.old.all.items followers.new.all.items }
+    ensures noted { followers.new.may_ask ≡ followers.old.may_ask }
 {
     if !followers.is_beside_asked() {
         telling.rest();
@@ -185,6 +186,7 @@ fn tell_clips(
 )
     ensures told { AreToldClips ⟦<UnixStream as Stream>⟧.contents clipping.old clipping.new moment panes.now.all.items
         followers.old.all.items followers.new.all.items }
+    ensures noted { followers.new.may_ask ≡ followers.old.may_ask }
 {
     if !followers.want_clips() {
         clipping.rest();
@@ -325,6 +327,8 @@ impl<R: Clock + Drop> ServerPorts<R> {
         ensures told { AreAllTold ⟦<UnixStream as Stream>⟧.contents now.now self.old.followers.all.items self.new.followers.all.items }
         ensures asked { (settled : CloserOf) × Settles now.now self.old.closer settled
             × IsAsked now.now self.old.moment settled self.new.closer }
+        ensures done { self.new.followers.may_ask ≡ false → HaveAsked self.new.closer self.new.followers.all.items }
+        ensures stirs { self.new.followers.may_ask ≡ true → self.new.waits.quiet ≡ false }
         ensures moment { self.new.moment ≡ self.old.moment }
     {
         self.take_followers();
@@ -341,6 +345,8 @@ impl<R: Clock + Drop> ServerPorts<R> {
         ensures panes { self.new.panes ≡ self.old.panes }
         ensures told { AreToldBeside ⟦<UnixStream as Stream>⟧.contents self.old.telling self.new.telling self.old.moment
             self.old.panes.all.items self.old.followers.all.items self.new.followers.all.items }
+        ensures noted { self.new.followers.may_ask ≡ self.old.followers.may_ask }
+        ensures waits { self.new.waits ≡ self.old.waits }
         ensures moment { self.new.moment ≡ self.old.moment }
     {
         tell_beside(
@@ -357,6 +363,8 @@ impl<R: Clock + Drop> ServerPorts<R> {
         ensures panes { self.new.panes ≡ self.old.panes }
         ensures told { AreToldClips ⟦<UnixStream as Stream>⟧.contents self.old.clipping self.new.clipping self.old.moment
             self.old.panes.all.items self.old.followers.all.items self.new.followers.all.items }
+        ensures noted { self.new.followers.may_ask ≡ self.old.followers.may_ask }
+        ensures waits { self.new.waits ≡ self.old.waits }
         ensures moment { self.new.moment ≡ self.old.moment }
     {
         tell_clips(

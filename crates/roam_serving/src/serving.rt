@@ -85,7 +85,7 @@ fn panes_of(server: &Server) -> PaneList
 fn tell_and_rest<C: Clock + Drop>(turns: u64, server: &Server, ports: &mut ServerPorts<C>)
     ensures told { HasToldAll ⟦<UnixStream as Stream>⟧.contents server.now ports.new.moment ports.new.panes.all.items
         ports.new.followers.all.items }
-    ensures rested { HasRested turns server.now ports.new.moment ports.new.clients ports.new.udp
+    ensures rested { HasRested turns server.now ports.new.moment ports.new.clients ports.new.followers.may_ask ports.new.udp
         (sooner ports.new.telling.due ports.new.clipping.due) ports.new.waits.longest }
 {
     ports.tell_panes(&panes_of(server));
@@ -109,7 +109,7 @@ fn serve_turns<C: Clock + Drop>(
     // After each turn, and so after the last.
     ensures told { 0 < turns → HasToldAll ⟦<UnixStream as Stream>⟧.contents server.new ports.new.moment ports.new.panes.all.items
         ports.new.followers.all.items }
-    ensures rested { 0 < turns → HasRested turns server.new ports.new.moment ports.new.clients ports.new.udp
+    ensures rested { 0 < turns → HasRested turns server.new ports.new.moment ports.new.clients ports.new.followers.may_ask ports.new.udp
         (sooner ports.new.telling.due ports.new.clipping.due) ports.new.waits.longest }
 {
     for _ in 0..turns {

@@ -9,6 +9,6 @@ abbrev pub invariant-loop : goal.invariant-loop
 invariant-loop g l = record {
   turns : ServesTurns l.counter l.initial.server l.server;
   told : 0 < l.counter → HasToldAll (λ s. None) l.server l.ports.moment l.ports.panes.all.items l.ports.followers.all.items;
-  rested : 0 < l.counter → HasRested l.turns l.server l.ports.moment l.ports.clients l.ports.udp (sooner l.ports.telling.due l.ports.clipping.due)
+  rested : 0 < l.counter → HasRested l.turns l.server l.ports.moment l.ports.clients l.ports.followers.may_ask l.ports.udp (sooner l.ports.telling.due l.ports.clipping.due)
       l.ports.waits.longest;
 }

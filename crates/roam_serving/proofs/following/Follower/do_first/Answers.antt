@@ -17,3 +17,6 @@ returns-clause-takes g c = λ h.
       does = c.do_line-said.ensures.does;
       waits = c.say.ensures.said;
     }
+
+pub returns-in_default-clause-done : goal.returns-in_default-clause-done
+returns-in_default-clause-done g c = λ h. c.first.ensures.none c.in_default.is

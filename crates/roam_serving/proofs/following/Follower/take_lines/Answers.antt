@@ -1,5 +1,5 @@
-use Rattle.std.proofs.Common.{subst, sym}
-use Rattle.roam_serving.specs.Asking.{IsAsked}
+use Rattle.std.proofs.Common.{◌∙◌, ap, rules, subst, sym}
+use Rattle.roam_serving.specs.Asking.{HasNoLine, IsAsked}
 use Rattle.roam_serving.specs.Following.{Replies}
 use Rattle.roam_serving.proofs.Asked.{asked_more}
 use Rattle.roam_serving.proofs.Telling.{both_said}
@@ -27,3 +27,13 @@ loop-preserved g c = record {
   asked = asked_more _ _ _ _ _ c.loop.invariant.asked c.take_line.ensures.asked;
   replies = both_said _ _ _ c.loop.invariant.replies c.take_line.ensures.replies;
 }
+
+pub returns-then-not-is_free-clause-done : goal.returns-then-not-is_free-clause-done
+returns-then-not-is_free-clause-done g c = elim c.then-not-is_free.branch [
+  | then-not-is_free-via-then-not-is_free w ↦ λ h none.
+      let free = c.is_free.ensures.free.1 (ap (λ k. k.closing) (sym w.closer-is) ∙ none) in
+      let busy = w.if-not-is_free.true in
+      absurd (search rules)
+  | then-not-is_free-via-else-not-is_free+then-not-take_line w ↦ λ h none.
+      subst (λ f. HasNoLine f) (sym w.self-is) (w.take_line.ensures.done w.if-not-take_line.true)
+]
