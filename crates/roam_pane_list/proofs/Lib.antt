@@ -1,4 +1,5 @@
 mod Besides
+mod Clipped
 pub mod Following
 pub mod ReadAgain
 mod Titles

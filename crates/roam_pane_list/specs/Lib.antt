@@ -2,5 +2,6 @@ pub mod Known
 pub mod Lines
 pub mod BesideLines
 pub mod Besides
+pub mod Clips
 pub mod Closes
 pub mod Reading

@@ -1,5 +1,6 @@
 //! Laws of the definitions, each the contract of a function that does nothing when it runs.
 ghost use Rattle.roam_pane_list.specs.BesideLines.{BesideArrives, BesideIsNews};
+ghost use Rattle.roam_pane_list.specs.Clips.{ClipsAreNews, ClipsArrive};
 ghost use Rattle.roam_pane_list.specs.Lines.{LinesArrive, LinesAreNews};
 
 /// Who reads the lines between what was told and what is so now knows then what is so now.
@@ -22,4 +23,15 @@ pub fn beside_arrives()
 /// Each of these lines says what wasn't known before it.
 pub fn beside_is_news()
     ensures news { BesideIsNews }
+{}
+
+/// Who was told something of the texts for the clipboard that a pane's program says, and reads the lines of what is new, knows then how many
+/// there are.
+pub fn clips_arrive()
+    ensures arrive { ClipsArrive }
+{}
+
+/// Each of these lines says what wasn't known before it.
+pub fn clips_are_news()
+    ensures news { ClipsAreNews }
 {}

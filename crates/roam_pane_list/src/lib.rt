@@ -3,6 +3,8 @@
 
 mod beside_lines;
 mod beside_list;
+mod clip_lines;
+mod clip_list;
 mod closes;
 pub mod laws;
 mod lines;
@@ -10,6 +12,8 @@ mod pane_list;
 
 pub use beside_lines::push_beside;
 pub use beside_list::{BesideList, BesidePane, in_life};
+pub use clip_lines::push_clip;
+pub use clip_list::{ClipList, ClipPane};
 pub use closes::{Close, Closing, acts_for, read_close};
 pub use lines::lines_between;
 pub use pane_list::{ListedPane, PaneList};

@@ -2,7 +2,9 @@ mod Answering
 mod Asked
 mod Bound
 mod Bringing
+mod Clipped
 mod News
+mod Rung
 mod Seated
 mod Sifting
 mod Turning

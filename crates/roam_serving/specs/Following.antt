@@ -13,6 +13,7 @@ use Rattle.roam_pane_list.specs.declared.pane_list.PaneList.{PaneList}
 use Rattle.roam_typing.specs.Lines.{nothing_came}
 use Rattle.roam_pane_list.specs.declared.beside_list.BesideList.{BesideList}
 use Rattle.roam_serving.specs.Asides.{IsFreshAside, Renews}
+use Rattle.roam_serving.specs.Clips.{AreFreshClips}
 use Rattle.roam_serving.specs.Programs.{Wrote}
 use Rattle.roam_serving.specs.declared.panes.Pane.{Pane}
 use Rattle.roam_serving.specs.declared.following.Follower.{Follower}
@@ -41,6 +42,7 @@ pub record IsFresh {S : Type 0} (f : Follower S) : Type 0 where
   pub lines : f.lines ≡ nothing_came
   pub role : f.role ≡ Other
   pub aside : IsFreshAside f.aside
+  pub clips : AreFreshClips f.clips
 
 -- what is said to a line by which nothing is done; nothing is said to a close of a pane that is gone
 abbrev pub IsReply : List ℕ → Type 0
@@ -80,9 +82,9 @@ pub record MayHear {S : Type 0} (f : Follower S) : Type 0 where
   pub none : f.waiting.items ≡ []
 
 -- what is new of that waits for it where it may be told, and only then; nothing else of it changes
-abbrev pub RenewsBeside : {S : Type 0} → BesideList → List Pane → Follower S → Follower S → Type 0
-RenewsBeside now panes old new =
-    (new ≡ old) ⊎ (MayHear old × Renews now panes old.aside new.aside × (new ≡ record old { aside = new.aside }))
+pub data RenewsBeside {S : Type 0} (now : BesideList) (panes : List Pane) (old new : Follower S) : Type 0 where
+  waits : (MayHear old → ⊥) → new ≡ old → RenewsBeside now panes old new
+  renews : MayHear old → Renews now panes old.aside new.aside → new ≡ record old { aside = new.aside } → RenewsBeside now panes old new
 
 -- what else waits is handed to it, the first of it, once that is whole: a line stands in no other; nothing else of it changes
 pub record GoesOn {S : Type 0} (contents : S → Option (List ℕ)) (old new : Follower S) : Type 0 where
@@ -92,19 +94,23 @@ pub record GoesOn {S : Type 0} (contents : S → Option (List ℕ)) (old new : F
   pub wrote : Wrote contents old.program.stream new.program.stream (take count old.waiting.items)
   pub others : new ≡ record old { program = new.program; waiting = new.waiting }
 
--- The program was told what is new of that, where it might be; the first of what waits of it was written, and the rest waits; nothing else
--- of it changes.
+-- The first of what waits of that was written to the program, and the rest waits; once all was, what else waits goes on; nothing else of it
+-- changes.
+pub record HandsAside {S : Type 0} (contents : S → Option (List ℕ)) (old new : Follower S) : Type 0 where
+  pub count : ℕ
+  pub then : Follower S
+  pub waits : then.aside.text.items ≡ drop count old.aside.text.items
+  pub wrote : Wrote contents old.program.stream then.program.stream (take count old.aside.text.items)
+  pub aside : then.aside ≡ record old.aside { text = then.aside.text }
+  pub others : then ≡ record old { program = then.program; aside = then.aside }
+  pub goes : GoesOn contents then new
+
+-- the program was told what is new of that, where it might be, and handed what waits
 pub record TellsBeside {S : Type 0} (contents : S → Option (List ℕ)) (now : BesideList) (panes : List Pane)
     (old new : Follower S) : Type 0 where
   pub mid : Follower S
   pub renews : RenewsBeside now panes old mid
-  pub count : ℕ
-  pub then : Follower S
-  pub waits : then.aside.text.items ≡ drop count mid.aside.text.items
-  pub wrote : Wrote contents mid.program.stream then.program.stream (take count mid.aside.text.items)
-  pub aside : then.aside ≡ record mid.aside { text = then.aside.text }
-  pub others : then ≡ record mid { program = then.program; aside = then.aside }
-  pub goes : GoesOn contents then new
+  pub hands : HandsAside contents mid new
 
 -- one that is still there was
 abbrev pub IsTold : {S : Type 0} → (S → Option (List ℕ)) → PaneList → Follower S → Follower S → Type 0

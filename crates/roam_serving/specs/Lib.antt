@@ -1,5 +1,7 @@
 pub mod Asides
 pub mod Asking
+pub mod Clipping
+pub mod Clips
 pub mod Closing
 pub mod Following
 pub mod Inflows

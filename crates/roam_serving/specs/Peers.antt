@@ -1,11 +1,12 @@
 -- The peers of a pane's socket: the programs that come to it.
-use Rattle.std.specs.Prelude.{ℕ, ◌≡◌, ◌≢◌, ◌+◌, ◌-◌, ◌≤◌, ◌⊎◌, Bool, true, List, length, slice_get, Option, Some, None, IsSome, IfSome, is_some, Result, Ok, Err}
+use Rattle.std.specs.Prelude.{ℕ, ◌≡◌, ◌≢◌, ◌+◌, ◌-◌, ◌≤◌, ◌⊎◌, Bool, true, false, List, length, slice_get, Option, Some, None, IsSome, IfSome, is_some, Result, Ok, Err}
 use Rattle.std.specs.declared.io.Error.{Error}
 use Rattle.roam_faults.specs.Streams.{IsForNow}
 use Rattle.mio.specs.declared.net.uds.stream.UnixStream.{UnixStream}
 use Rattle.roam_serving.specs.Inflows.{Brings, IsFreshInflow}
 use Rattle.roam_serving.specs.Sieves.{IsFree}
 use Rattle.roam_serving.specs.declared.peers.Making.{Making}
+use Rattle.roam_serving.specs.declared.inflows.Inflow.{Inflow}
 use Rattle.roam_serving.specs.declared.panes.Pane.{Pane}
 
 -- a peer that answers a read or a write so has failed: it isn't only that nothing goes at this moment
@@ -22,6 +23,21 @@ life_in (Some making) = Some making.life
 abbrev pub peer_in : Option Making → Option UnixStream
 peer_in None = None
 peer_in (Some making) = making.peer.stream
+
+-- a peer came to the making that is there
+abbrev pub has_peer : Option Pane → Bool
+has_peer None = false
+has_peer (Some pane) = is_some (peer_in pane.making)
+
+-- what came in the life of a pane, where there is a socket for it
+abbrev pub inflow_in : Option Pane → Option Inflow
+inflow_in None = None
+inflow_in (Some pane) = Some pane.inflow
+
+-- At the socket of a pane nothing happened behind which more may wait: no peer came or went, and nothing came.
+pub record IsStill (pane : ℕ) (old new : List Pane) : Type 0 where
+  pub peer : has_peer (slice_get new (pane - 1)) ≡ has_peer (slice_get old (pane - 1))
+  pub inflow : inflow_in (slice_get new (pane - 1)) ≡ inflow_in (slice_get old (pane - 1))
 
 -- from now on this making of the pane is there, or none: a peer that came to it stays, and any other goes, with all that came
 pub record Lives (life : Option ℕ) (p q : Pane) : Type 0 where

@@ -6,13 +6,18 @@ use Rattle.roam_hub.specs.Servers.{ServerView, Stands, is_server_due}
 use Rattle.roam_hub.specs.Waits.{IsQuiet, has_come}
 use Rattle.roam_pane_list.specs.declared.pane_list.PaneList.{PaneList}
 use Rattle.roam_hub.specs.declared.addresses.Addr.{Addr}
+use Rattle.roam_sockets.specs.Clients.{Accepts, AnswersOf, KeepsOpen}
 use Rattle.roam_sockets.specs.Lanes.{SendsTo, is_any_waiting}
 use Rattle.roam_sockets.specs.Waits.{wait_for}
+use Rattle.roam_sockets.specs.declared.clients.Clients.{Clients}
 use Rattle.roam_sockets.specs.declared.udp.Udp.{Udp}
+use Rattle.roam_serving.specs.Clipping.{AreToldClips}
 use Rattle.roam_serving.specs.Following.{AreAllTold, ArePanesOf}
 use Rattle.roam_serving.specs.Tellings.{AreToldBeside, sooner}
+use Rattle.roam_serving.specs.declared.clipping.ClipTimes.{ClipTimes}
 use Rattle.roam_serving.specs.declared.following.Follower.{Follower}
 use Rattle.roam_serving.specs.declared.panes.Pane.{Pane}
+use Rattle.roam_serving.specs.declared.tellings.AsideTimes.{AsideTimes}
 
 -- datagrams are kept back so that they go at a pace
 abbrev pub is_paced : Option Udp → Bool
@@ -25,6 +30,13 @@ SendsBy now to None new datagram result = (new ≡ None) × (result ≡ false)
 SendsBy now to (Some old) None datagram result = ⊥
 SendsBy now to (Some old) (Some new) datagram result = SendsTo now to old.paced.lanes.items new.paced.lanes.items datagram result None None
 
+-- What waited for client starts was written, some of it or all that goes at this moment, as is noted; then some may have come.
+pub record Flushes (answers : AnswersOf UnixStream) (old new : Clients) : Type 0 where
+  pub mid : Clients
+  pub keeps : KeepsOpen answers old.all.items mid.all.items mid.is_flushed
+  pub accepts : Accepts mid new
+  pub noted : new.is_flushed ≡ mid.is_flushed
+
 -- those that followed before and those that came were told the panes of a server
 pub record HasTold (contents : UnixStream → Option (List ℕ)) (server : ServerView) (followers : List (Follower UnixStream)) : Type 0 where
   pub panes : PaneList
@@ -32,13 +44,19 @@ pub record HasTold (contents : UnixStream → Option (List ℕ)) (server : Serve
   pub before : List (Follower UnixStream)
   pub told : AreAllTold contents panes before followers
 
--- so they were, and then what is new of what stands beside the panes' terminals, as far as that was to be told
+-- So they were, and then what is new of what stands beside the panes' terminals, as far as that was to be told, and of texts for the
+-- clipboard.
 pub record HasToldAll (contents : UnixStream → Option (List ℕ)) (server : ServerView) (moment : ℕ) (panes : List Pane)
     (followers : List (Follower UnixStream)) : Type 0 where
   pub mid : List (Follower UnixStream)
   pub told : HasTold contents server mid
-  pub last : Option ℕ
-  pub beside : AreToldBeside contents last moment panes mid followers
+  pub telling : AsideTimes
+  pub told_telling : AsideTimes
+  pub later : List (Follower UnixStream)
+  pub beside : AreToldBeside contents telling told_telling moment panes mid later
+  pub clipping : ClipTimes
+  pub told_clipping : ClipTimes
+  pub clips : AreToldClips contents clipping told_clipping moment panes later followers
 
 -- a server next has something due at a moment, or never: before it a tick does nothing, and at it one does something
 pub record IsNextDue (server : ServerView) (due : Option ℕ) : Type 0 where
@@ -49,9 +67,11 @@ pub record IsNextDue (server : ServerView) (due : Option ℕ) : Type 0 where
 abbrev pub is_for_good : ℕ → Bool
 is_for_good turns = turns == 2 ^ 64 - 1
 
--- Where it waited, it was until something is due, or what stands beside the panes' terminals is to be told, or only a millisecond where
--- datagrams are kept back; where the turns are counted, for the shortest wait.
-pub record HasRested (turns : ℕ) (server : ServerView) (now : ℕ) (udp : Option Udp) (telling : Option ℕ) (longest : Option ℕ) : Type 0 where
+-- Where it waited, all that goes to client starts at this moment was written, and it was until something is due, or what stands beside the
+-- panes' terminals is to be told, or only a millisecond where datagrams are kept back; where the turns are counted, for the shortest wait.
+pub record HasRested (turns : ℕ) (server : ServerView) (now : ℕ) (clients : Clients) (udp : Option Udp) (telling : Option ℕ)
+    (longest : Option ℕ) : Type 0 where
   pub due : Option ℕ
   pub is_due : MatchBool (is_for_good turns) (IsNextDue server due) (due ≡ Some 0)
+  pub flushed : IfSome longest (λ _. clients.is_flushed ≡ true)
   pub waited : IfSome longest (λ long. long ≡ wait_for (sooner due telling) now (is_paced udp))

@@ -14,6 +14,11 @@ is_keeper_line line = bytes_eq line (codes "keeper")
 abbrev pub role_after : List ℕ → Role → Role
 role_after line role = if is_keeper_line line then New else role
 
+abbrev pub is_other_role : Role → Bool
+is_other_role Other = true
+is_other_role New = false
+is_other_role Keeper = false
+
 abbrev pub is_new_role : Role → Bool
 is_new_role Other = false
 is_new_role New = true

@@ -1,16 +1,29 @@
 -- When what stands beside the panes' terminals is told.
-use Rattle.std.specs.Prelude.{ℕ, ◌≡◌, ◌⊎◌, ◌-◌, ◌||◌, Bool, true, false, List, [], ◌∷◌, min, nat_le, Option, Some, None}
+use Rattle.std.specs.Prelude.{ℕ, zero, suc, ◌≡◌, ◌+◌, ◌-◌, ◌||◌, ◌&&◌, ◌==◌, Bool, true, false, not, List, [], ◌∷◌, min, nat_le, Option, Some, None, if◌then◌else◌}
 use Rattle.std.specs.List.{AllZip}
+use Rattle.roam_pane_list.specs.Besides.{beside_at, in_life}
 use Rattle.roam_pane_list.specs.declared.beside_list.BesideList.{BesideList}
+use Rattle.roam_pane_list.specs.declared.beside_list.BesidePane.{BesidePane}
 use Rattle.roam_serving.specs.Asides.{AreBeside}
 use Rattle.roam_serving.specs.Following.{TellsBeside}
 use Rattle.roam_serving.specs.declared.following.Follower.{Follower}
 use Rattle.roam_serving.specs.declared.panes.Pane.{Pane}
+use Rattle.roam_serving.specs.declared.tellings.AsideTimes.{AsideTimes}
 
 -- so many milliseconds have passed since a moment, if there was one
 abbrev pub is_time : Option ℕ → ℕ → ℕ → Bool
 is_time None now pace = true
 is_time (Some last) now pace = nat_le pace (now - last)
+
+-- so many milliseconds after a moment, if there was one
+abbrev pub after : Option ℕ → ℕ → Option ℕ
+after None pace = None
+after (Some last) pace = Some (min 18446744073709551615 (last + pace))
+
+-- when it is to be looked again: where something might be told now, only once something is new
+abbrev pub again_at : Bool → Option ℕ → ℕ → Option ℕ
+again_at true last pace = None
+again_at false last pace = after last pace
 
 -- the sooner of two moments, if there is any
 abbrev pub sooner : Option ℕ → Option ℕ → Option ℕ
@@ -23,10 +36,36 @@ abbrev pub any_asked : {S : Type 0} → List (Follower S) → Bool
 any_asked [] = false
 any_asked (f ∷ fs) = f.aside.is_asked || any_asked fs
 
+-- a bell rang in a pane that is there
+abbrev pub rang_in : Option BesidePane → Option BesidePane → Bool
+rang_in shown None = false
+rang_in shown (Some b) = not ((in_life b.life shown).settings.bells == b.settings.bells)
+
+-- one rang in the first n panes
+unfoldable pub has_rung : ℕ → BesideList → BesideList → Bool
+has_rung zero shown now = false
+has_rung (suc n) shown now = has_rung n shown now || rang_in (beside_at shown (suc n)) (beside_at now (suc n))
+
+-- when a bell was told last, once one may be told, or not yet
+abbrev pub rang_at : Bool → Bool → ℕ → Option ℕ → Option ℕ
+rang_at may rung moment rang = if (may && rung) then Some moment else rang
+
+-- what is known once this was told at a moment
+abbrev pub times_told : BesideList → ℕ → AsideTimes → AsideTimes
+times_told now moment t = record {
+  shown = now;
+  told = Some moment;
+  rang = rang_at (is_time t.rang moment 1000) (has_rung 9 t.shown now) moment t.rang;
+  due = again_at (is_time t.rang moment 1000) t.rang 1000;
+}
+
 -- Each program was told what is new beside the panes' terminals, where it might be; nobody was where nobody asked for it, or it was told a
--- while ago.
-pub record AreToldBeside {S : Type 0} (contents : S → Option (List ℕ)) (last : Option ℕ) (moment : ℕ) (panes : List Pane)
+-- while ago: then it is to be looked again once it may be.
+pub record AreToldBeside {S : Type 0} (contents : S → Option (List ℕ)) (times times' : AsideTimes) (moment : ℕ) (panes : List Pane)
     (olds news : List (Follower S)) : Type 0 where
-  pub quiet : (any_asked olds ≡ false) ⊎ (is_time last moment 20 ≡ false) → news ≡ olds
-  pub told : any_asked olds ≡ true → is_time last moment 20 ≡ true → (may_ring : Bool) × (shown : BesideList) × (now : BesideList)
-      × AreBeside may_ring shown panes now × AllZip (TellsBeside contents now panes) olds news
+  pub unasked : any_asked olds ≡ false → (news ≡ olds) × (times' ≡ record times { due = None })
+  pub early : any_asked olds ≡ true → is_time times.told moment 20 ≡ false
+      → (news ≡ olds) × (times' ≡ record times { due = after times.told 20 })
+  pub told : any_asked olds ≡ true → is_time times.told moment 20 ≡ true → (now : BesideList)
+      × AreBeside (is_time times.rang moment 1000) times.shown panes now × AllZip (TellsBeside contents now panes) olds news
+      × (times' ≡ times_told now moment times)

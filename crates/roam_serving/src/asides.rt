@@ -1,5 +1,5 @@
 //! What a program that follows the panes is told of what stands beside their terminals.
-ghost use Rattle.std.specs.Prelude.{◌≡◌, ◌<◌, ◌||◌, [], true, ℕ, take, drop, IfOk, IsOkUnless, Some, None, string_bytes};
+ghost use Rattle.std.specs.Prelude.{◌≡◌, ◌≢◌, ◌<◌, ◌||◌, [], true, false, ℕ, take, drop, IfOk, IsOkUnless, Some, None, string_bytes};
 ghost use Rattle.roam_pane_list.specs.Besides.{beside_at};
 ghost use Rattle.roam_serving.specs.Asides.{IsFreshAside, Renews, beside_news, is_beside_line, told_at, told_before};
 ghost use Rattle.roam_serving.specs.Programs.{Wrote};
@@ -99,6 +99,7 @@ impl Aside {
     /// Whether nothing of it waits.
     pub(crate) fn is_clear(&self) -> bool
         ensures clear { result ≡ true → self.now.text.items ≡ [] }
+        ensures some { result ≡ false → self.now.text.items ≢ [] }
     {
         self.text.is_empty()
     }
@@ -118,6 +119,13 @@ impl Aside {
             self.text = text.into_bytes();
             self.told = Some(*now);
         }
+    }
+
+    /// This text waits from now on.
+    pub(crate) fn put(&mut self, text: Vec<u8>)
+        ensures put { self.new ≡ record self.old { text = text } }
+    {
+        self.text = text;
     }
 
     /// Hands the program what waits; what it took goes.

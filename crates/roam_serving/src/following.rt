@@ -3,7 +3,8 @@ ghost use Rattle.std.specs.Prelude.{◌≡◌, ◌≢◌, ◌⊎◌, ◌++◌, �
 ghost use Rattle.std.specs.List.{AllZip, filter};
 ghost use Rattle.roam_typing.specs.Lines.{IsFirst};
 ghost use Rattle.roam_serving.specs.Asking.{DoesLine, IsAsked, Settles, TakesLine};
-ghost use Rattle.roam_serving.specs.Following.{AreTold, GoesOn, HaveCome, IsFresh, IsReply, IsTold, MayHear, RenewsBeside, Replies, Tells, TellsBeside, is_there, most_taken, news, panes_path, room, turned};
+ghost use Rattle.roam_serving.specs.Clipping.{TellsEachClips, any_wants};
+ghost use Rattle.roam_serving.specs.Following.{AreTold, GoesOn, HandsAside, HaveCome, IsFresh, IsReply, IsTold, MayHear, RenewsBeside, Replies, Tells, TellsBeside, is_there, most_taken, news, panes_path, room, turned};
 ghost use Rattle.roam_serving.specs.Programs.{Wrote};
 ghost use Rattle.roam_serving.specs.Tellings.{any_asked};
 ghost use Rattle.roam_serving.specs.Seats.{any_new, kept_place, seated};
@@ -11,6 +12,8 @@ ghost use Rattle.roam_serving.specs.declared.closing.Closer.{Closer as CloserOf}
 ghost use Rattle.roam_serving.specs.declared.following.Follower.{Follower as FollowerOf};
 
 use crate::asides::{Aside, is_beside};
+use crate::clipping::{any_wants, tell_each_clips};
+use crate::clips::{ClipsTold, is_clips};
 use crate::closing::Closer;
 use crate::panes::Panes;
 use crate::programs::Program;
@@ -20,7 +23,9 @@ use mio::{Interest, Registry, Token};
 use roam_cells::Fault;
 use roam_faults::RunFault;
 use roam_frames::Stream;
-use roam_pane_list::{BesideList, Closing, PaneList, acts_for, lines_between, read_close};
+use roam_pane_list::{
+    BesideList, ClipList, Closing, PaneList, acts_for, lines_between, read_close,
+};
 use roam_sockets::listen;
 use roam_typing::{Front, Lines};
 use std::alloc::Global;
@@ -48,10 +53,11 @@ const MOST_LINES: u32 = 16;
 pub(crate) struct Follower<S> {
     pub(crate) program: Program<S>,
     told: PaneList,
-    waiting: Vec<u8>,
+    pub(crate) waiting: Vec<u8>,
     lines: Lines,
     pub(crate) role: Role,
-    aside: Aside,
+    pub(crate) aside: Aside,
+    pub(crate) clips: ClipsTold,
 }
 
 // Does what a line asks for, and answers what is said to it: nothing where its pane is gone, or is being closed.
@@ -65,7 +71,7 @@ fn do_line(
     requires free { closer.old.closing ≡ None }
     ensures does { DoesLine now.now line.now moment closer.old closer.new result.now }
 {
-    if is_keeper(line) || is_beside(line) {
+    if is_keeper(line) || is_beside(line) || is_clips(line) {
         return b"";
     }
     let Some(close) = read_close(line) else {
@@ -93,6 +99,7 @@ impl<S: Stream + Drop> Follower<S> {
             lines: Lines::new(alloc),
             role: Role::Other,
             aside: Aside::new(alloc),
+            clips: ClipsTold::new(),
         }
     }
 
@@ -178,6 +185,7 @@ impl<S: Stream + Drop> Follower<S> {
         let said = do_line(alloc, line, now, closer, moment);
         let role = role_after(line, self.role);
         self.aside.heard(line);
+        self.clips.ask(line);
         self.say(said);
         self.lines.took();
         self.role = role;
@@ -233,6 +241,7 @@ impl<S: Stream + Drop> Follower<S> {
     // Whether it may be told now what stands beside the panes' terminals: it asked for it, and nothing waits for it.
     fn may_hear(&self) -> bool
         ensures may { result ≡ true → MayHear self.now }
+        ensures busy { result ≡ false → MayHear self.now → ⊥ }
     {
         self.aside.is_asked() && self.aside.is_clear() && self.waiting.is_empty()
     }
@@ -255,14 +264,21 @@ impl<S: Stream + Drop> Follower<S> {
         }
     }
 
+    // Hands the program what waits of what is told to it beside, and then what else does.
+    pub(crate) fn hand_aside(&mut self)
+        ensures hands { HandsAside S.contents self.old self.new }
+    {
+        let had_more = !self.aside.is_clear();
+        self.aside.hand(&mut self.program);
+        self.go_on(had_more);
+    }
+
     // Tells the program what is new of that, where it may be told, and hands it what waits of it.
     fn tell_beside(&mut self, alloc: Global, now: &BesideList, panes: &Panes)
         ensures tells { TellsBeside S.contents now.now panes.now.all.items self.old self.new }
     {
         self.renew_beside(alloc, now, panes);
-        let had_more = !self.aside.is_clear();
-        self.aside.hand(&mut self.program);
-        self.go_on(had_more);
+        self.hand_aside();
     }
 
     // Whether it is there.
@@ -460,6 +476,28 @@ impl Followers {
             self.old.all.items self.new.all.items }
     {
         tell_each_beside(alloc, &mut self.all, now, panes);
+    }
+
+    /// Tells the programs that want them which texts for the clipboard are new, where one may be told. Tells whether one was for any.
+    pub(crate) fn tell_clips(
+        &mut self,
+        alloc: Global,
+        now: &ClipList,
+        may: bool,
+        panes: &Panes,
+    ) -> bool
+        ensures path { self.new.path ≡ self.old.path }
+        ensures told { TellsEachClips ⟦<UnixStream as Stream>⟧.contents may now.now panes.now.all.items result self.old.all.items
+            self.new.all.items }
+    {
+        tell_each_clips(alloc, &mut self.all, now, may, panes)
+    }
+
+    /// Whether a program wants texts for the clipboard.
+    pub(crate) fn want_clips(&self) -> bool
+        ensures wants { result ≡ any_wants self.now.all.items }
+    {
+        any_wants(&self.all)
     }
 
     /// Whether a program asked for that.

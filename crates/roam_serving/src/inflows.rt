@@ -1,12 +1,13 @@
 //! What comes of a pane's program, on its way to the pane's terminal, and what stands beside that.
 ghost use Rattle.std.specs.Prelude.{◌≡◌, ◌≤◌, ◌++◌, ℕ, List, [], length, min, take, is_some, None, IfSome};
 ghost use Rattle.roam_serving.specs.Asides.{title_codes};
+ghost use Rattle.roam_serving.specs.Clips.{clip_codes};
 ghost use Rattle.roam_serving.specs.Inflows.{Carries, IsFreshInflow};
 ghost use Rattle.roam_serving.specs.Sieves.{Goes, IsFree, bytes_given};
 
 use crate::sieves::Sieve;
 use roam_beside::Beside;
-use roam_pane_list::BesidePane;
+use roam_pane_list::{BesidePane, ClipPane};
 use std::alloc::Global;
 
 // A filter, where one is asked for.
@@ -99,6 +100,23 @@ impl Inflow {
         ensures title { result.now ≡ title_codes self.now.beside.texts.said.title }
     {
         self.beside.title().unwrap_or(&[])
+    }
+
+    /// How many texts for the clipboard were said in this life of the pane.
+    pub(crate) fn clips_of(&self, life: u64) -> ClipPane
+        ensures clips { result ≡ record { life = life; clips = self.now.beside.texts.said.clips } }
+    {
+        ClipPane {
+            life,
+            clips: self.beside.clips(),
+        }
+    }
+
+    /// The last of them, in base64, or nothing.
+    pub(crate) fn clip(&self) -> &[u8]
+        ensures clip { result.now ≡ clip_codes self.now.beside.texts.said.clip }
+    {
+        self.beside.clip().unwrap_or(&[])
     }
 
     /// How many bytes go on of what waits, which may be none for want of memory; nothing waits where it answers none.

@@ -2,6 +2,8 @@
 #![tactic(auto)]
 
 mod asides;
+mod clipping;
+mod clips;
 mod closing;
 mod following;
 mod inflows;

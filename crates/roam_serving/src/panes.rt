@@ -3,8 +3,9 @@ ghost use Rattle.std.specs.Prelude.{◌≡◌, ◌≢◌, ◌⊎◌, ◌++◌, �
 ghost use Rattle.std.specs.List.{All};
 ghost use Rattle.roam_serving.specs.Panes.{path_of, paths_of};
 ghost use Rattle.roam_serving.specs.Asides.{AreBeside, pane_beside, shown_bells, title_of};
+ghost use Rattle.roam_serving.specs.Clips.{AreClips, clip_of, pane_clips};
 ghost use Rattle.roam_serving.specs.Inflows.{IsFreshInflow};
-ghost use Rattle.roam_serving.specs.Peers.{Changes, Lives, Asks, Hears};
+ghost use Rattle.roam_serving.specs.Peers.{Changes, Lives, Asks, Hears, has_peer, inflow_in};
 ghost use Rattle.roam_serving.specs.Sieves.{bytes_given};
 
 use crate::inflows::Inflow;
@@ -14,7 +15,7 @@ use mio::{Interest, Registry, Token};
 use roam_acts::limits::{MOST_PANES, PANES_END};
 use roam_cells::Fault;
 use roam_faults::RunFault;
-use roam_pane_list::{BesideList, BesidePane};
+use roam_pane_list::{BesideList, BesidePane, ClipList, ClipPane};
 use roam_sockets::listen;
 use std::alloc::Global;
 use std::fs::{Files, remove_file};
@@ -71,6 +72,7 @@ impl Pane {
     fn read(&mut self, registry: &Registry, buf: &mut [u8]) -> Option<usize>
         ensures within { IfSome result (λ n. n ≤ length buf.new) }
         ensures hears { Hears (is_some result) (bytes_given result buf.new) self.old self.new }
+        ensures none { result ≡ None → self.new.inflow ≡ self.old.inflow }
     {
         read(
             &mut self.making,
@@ -88,6 +90,16 @@ impl Pane {
         match life_of(&self.making) {
             None => None,
             Some(life) => Some(self.inflow.beside_of(life)),
+        }
+    }
+
+    // How many texts for the clipboard the program has said, where the pane is there.
+    fn clips(&self) -> Option<ClipPane>
+        ensures clips { result ≡ pane_clips (Some self.now) }
+    {
+        match life_of(&self.making) {
+            None => None,
+            Some(life) => Some(self.inflow.clips_of(life)),
         }
     }
 
@@ -200,6 +212,8 @@ impl Panes {
     pub(crate) fn read(&mut self, registry: &Registry, pane: u8, buf: &mut [u8]) -> Option<usize>
         ensures within { IfSome result (λ n. n ≤ length buf.new) }
         ensures hears { Changes (Hears (is_some result) (bytes_given result buf.new)) pane self.old.all.items self.new.all.items }
+        ensures none { result ≡ None → 1 ≤ pane
+            → inflow_in (slice_get self.new.all.items (pane - 1)) ≡ inflow_in (slice_get self.old.all.items (pane - 1)) }
     {
         let at = usize::from(pane);
         if at < 1 || self.all.len() < at {
@@ -244,8 +258,43 @@ impl Panes {
         list
     }
 
+    // How many texts for the clipboard the program of a pane has said, where the pane is there.
+    fn clips_at(&self, pane: u8) -> Option<ClipPane>
+        ensures clips { 1 ≤ pane → result ≡ pane_clips (slice_get self.now.all.items (pane - 1)) }
+    {
+        let at = usize::from(pane);
+        if at < 1 || self.all.len() < at {
+            return None;
+        }
+        self.all[at - 1].clips()
+    }
+
+    /// The last text for the clipboard that the program of a pane said, in base64, or nothing.
+    pub(crate) fn clip(&self, pane: u8) -> &[u8]
+        ensures clip { 1 ≤ pane → result.now ≡ clip_of self.now.all.items pane }
+    {
+        let at = usize::from(pane);
+        if at < 1 || self.all.len() < at {
+            return &[];
+        }
+        self.all[at - 1].inflow.clip()
+    }
+
+    /// How many texts for the clipboard the panes' programs have said.
+    pub(crate) fn clip_counts(&self) -> ClipList
+        ensures are { AreClips self.now.all.items result }
+    {
+        let mut list = ClipList::unknown();
+        for pane in 1..PANES_END {
+            list.set(pane, self.clips_at(pane));
+        }
+        list
+    }
+
     /// Whether a peer came to a pane that is there.
-    pub(crate) fn has_peer(&self, pane: u8) -> bool {
+    pub(crate) fn has_peer(&self, pane: u8) -> bool
+        ensures peer { 1 ≤ pane → result ≡ has_peer (slice_get self.now.all.items (pane - 1)) }
+    {
         let at = usize::from(pane);
         if at < 1 || self.all.len() < at {
             return false;
@@ -257,6 +306,8 @@ impl Panes {
     pub(crate) fn write(&mut self, registry: &Registry, pane: u8, bytes: &[u8]) -> usize
         ensures within { result ≤ length bytes.now }
         ensures asks { Changes (Asks (nat_lt 0 result)) pane self.old.all.items self.new.all.items }
+        ensures inflow { 1 ≤ pane
+            → inflow_in (slice_get self.new.all.items (pane - 1)) ≡ inflow_in (slice_get self.old.all.items (pane - 1)) }
     {
         let at = usize::from(pane);
         if at < 1 || self.all.len() < at {

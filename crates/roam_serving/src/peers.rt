@@ -215,6 +215,7 @@ pub(crate) fn read(
     ensures waits { life_in making.old ≡ None → (making.new ≡ making.old) × (inflow.new ≡ inflow.old) }
     ensures one { IfSome (peer_in making.old) (λ _. (making.new ≡ making.old) ⊎ (peer_in making.new ≡ None)) }
     ensures brings { Brings inflow.old inflow.new (bytes_given result buf.new) }
+    ensures none { result ≡ None → inflow.new ≡ inflow.old }
 {
     let making = making.as_mut()?;
     if let Some(count) = inflow.go_on(buf) {

@@ -7,16 +7,18 @@ ghost use Rattle.roam_sockets.specs.Clients.{Accepts, IsOf, IsQueuedFor};
 ghost use Rattle.roam_sockets.specs.declared.udp.Udp.{Udp as UdpOf};
 ghost use Rattle.roam_sockets.specs.Waits.{wait_for};
 ghost use Rattle.roam_serving.specs.Asking.{IsAsked, Settles};
+ghost use Rattle.roam_serving.specs.Clipping.{AreToldClips};
 ghost use Rattle.roam_serving.specs.Closing.{GivesOwn, HearsAnswer, own_address};
 ghost use Rattle.roam_serving.specs.Following.{AreAllTold, HaveCome, most_taken, panes_path};
-ghost use Rattle.roam_serving.specs.Rests.{SendsBy, is_paced};
+ghost use Rattle.roam_serving.specs.Rests.{Flushes, SendsBy, is_paced};
 ghost use Rattle.roam_serving.specs.declared.closing.Closer.{Closer as CloserOf};
 ghost use Rattle.roam_serving.specs.Tellings.{AreToldBeside, sooner};
 ghost use Rattle.roam_serving.specs.Panes.{IsPortOf, clients_path, paths_of};
 ghost use Rattle.roam_serving.specs.Inflows.{IsFreshInflow};
-ghost use Rattle.roam_serving.specs.Peers.{Asks, Changes, Hears, Lives};
+ghost use Rattle.roam_serving.specs.Peers.{Asks, Changes, Hears, IsStill, Lives};
 ghost use Rattle.roam_serving.specs.Sieves.{bytes_given};
 
+use crate::clipping::ClipTimes;
 use crate::closing::{Closer, OWN};
 use crate::following::Followers;
 use crate::panes::Panes;
@@ -57,6 +59,7 @@ pub struct ServerPorts<R> {
     panes: Panes,
     followers: Followers,
     telling: AsideTimes,
+    clipping: ClipTimes,
     closer: Closer,
     alloc: Global,
     is_udp_next: bool,
@@ -156,8 +159,8 @@ fn tell_beside(
     panes: &Panes,
     moment: u64,
 )
-    ensures told { AreToldBeside ⟦<UnixStream as Stream>⟧.contents telling.old.told moment panes.now.all.items followers.old.all.items
-        followers.new.all.items }
+    ensures told { AreToldBeside ⟦<UnixStream as Stream>⟧.contents telling.old telling.new moment panes.now.all.items
+        followers.old.all.items followers.new.all.items }
 {
     if !followers.is_beside_asked() {
         telling.rest();
@@ -170,6 +173,26 @@ fn tell_beside(
     let now = panes.besides(telling.may_ring(moment), telling.shown());
     followers.tell_beside(alloc, &now, panes);
     telling.tells(&now, moment);
+}
+
+// Tells the programs that want them which texts for the clipboard are new, where it is time.
+fn tell_clips(
+    alloc: Global,
+    clipping: &mut ClipTimes,
+    followers: &mut Followers,
+    panes: &Panes,
+    moment: u64,
+)
+    ensures told { AreToldClips ⟦<UnixStream as Stream>⟧.contents clipping.old clipping.new moment panes.now.all.items
+        followers.old.all.items followers.new.all.items }
+{
+    if !followers.want_clips() {
+        clipping.rest();
+        return;
+    }
+    let now = panes.clip_counts();
+    let any = followers.tell_clips(alloc, &now, clipping.is_time(moment), panes);
+    clipping.tells(any, moment);
 }
 
 impl<R: Clock + Drop> ServerPorts<R> {
@@ -212,6 +235,7 @@ impl<R: Clock + Drop> ServerPorts<R> {
                 panes,
                 followers,
                 telling: AsideTimes::new(),
+                clipping: ClipTimes::new(),
                 closer: Closer::new(own.session, own.id),
                 alloc,
                 is_udp_next: false,
@@ -245,6 +269,7 @@ impl<R: Clock + Drop> ServerPorts<R> {
     // Takes client starts that wait at their socket, once in 20 milliseconds and after each wait; so it is with those who follow the panes.
     fn look(&mut self, alloc: Global, has_waited: bool)
         ensures clients { Accepts self.old.clients self.new.clients }
+        ensures flushed { self.new.clients.is_flushed ≡ self.old.clients.is_flushed }
         ensures others { self.new ≡ record self.old { clients = self.new.clients; looked = self.new.looked; may_come = self.new.may_come } }
     {
         if has_waited || self.moment.wrapping_sub(self.looked) >= LOOKS {
@@ -258,9 +283,14 @@ impl<R: Clock + Drop> ServerPorts<R> {
     /// stands beside the panes' terminals is to be told, where nothing came since the last call and no datagram of its own start waits.
     pub fn rest(&mut self, due: Option<u64>)
         ensures quiet { self.new.waits.quiet ≡ true }
+        // A wait leaves nothing of what waits for a client start whose stream would take more.
         ensures waited { IfSome self.new.waits.longest (λ longest. (self.old.waits.quiet ≡ true) × (self.old.closer.closing ≡ None)
-            × (longest ≡ wait_for (sooner due self.old.telling.due) self.old.moment (is_paced self.new.udp))) }
+            × (self.new.clients.is_flushed ≡ true)
+            × (longest ≡ wait_for (sooner due (sooner self.old.telling.due self.old.clipping.due)) self.old.moment
+            (is_paced self.new.udp))) }
+        ensures flushed { Flushes ⟦<UnixStream as Stream>⟧.answers self.old.clients self.new.clients }
         ensures telling { self.new.telling ≡ self.old.telling }
+        ensures clipping { self.new.clipping ≡ self.old.clipping }
         ensures panes { self.new.panes ≡ self.old.panes }
         ensures followers { self.new.followers ≡ self.old.followers }
         ensures moment { self.new.moment ≡ self.old.moment }
@@ -270,7 +300,8 @@ impl<R: Clock + Drop> ServerPorts<R> {
         }
         let is_paced = !flush_udp(&mut self.udp, self.moment);
         let waits = self.waits.is_quiet();
-        let due = sooner(due, self.telling.due());
+        let telling = sooner(self.telling.due(), self.clipping.due());
+        let due = sooner(due, telling);
         self.waits.rest(wait_for(due, self.moment, is_paced));
         self.look(self.alloc, waits);
     }
@@ -308,13 +339,29 @@ impl<R: Clock + Drop> ServerPorts<R> {
     /// Tells the programs that asked what is new of what stands beside the panes' terminals, each 20 milliseconds at most.
     pub fn tell_beside(&mut self)
         ensures panes { self.new.panes ≡ self.old.panes }
-        ensures told { AreToldBeside ⟦<UnixStream as Stream>⟧.contents self.old.telling.told self.old.moment self.old.panes.all.items
-            self.old.followers.all.items self.new.followers.all.items }
+        ensures told { AreToldBeside ⟦<UnixStream as Stream>⟧.contents self.old.telling self.new.telling self.old.moment
+            self.old.panes.all.items self.old.followers.all.items self.new.followers.all.items }
         ensures moment { self.new.moment ≡ self.old.moment }
     {
         tell_beside(
             self.alloc,
             &mut self.telling,
+            &mut self.followers,
+            &self.panes,
+            self.moment,
+        );
+    }
+
+    /// Tells the programs that asked for the texts for the clipboard which are new, once a second at most; the keeper of shells none.
+    pub fn tell_clips(&mut self)
+        ensures panes { self.new.panes ≡ self.old.panes }
+        ensures told { AreToldClips ⟦<UnixStream as Stream>⟧.contents self.old.clipping self.new.clipping self.old.moment
+            self.old.panes.all.items self.old.followers.all.items self.new.followers.all.items }
+        ensures moment { self.new.moment ≡ self.old.moment }
+    {
+        tell_clips(
+            self.alloc,
+            &mut self.clipping,
             &mut self.followers,
             &self.panes,
             self.moment,
@@ -401,6 +448,7 @@ impl<R: Clock + Drop> Ports for ServerPorts<R> {
         ensures hears { Changes (Hears (is_some result) (bytes_given result buf.new)) pane self.old.panes.all.items
             self.new.panes.all.items }
         ensures stirs { IfSome result (λ _. self.new.waits.quiet ≡ false) }
+        ensures still { self.new.waits.quiet ≡ true → 1 ≤ pane → IsStill pane self.old.panes.all.items self.new.panes.all.items }
     {
         let had_peer = self.panes.has_peer(pane);
         let count = self.panes.read(self.waits.registry(), pane, buf);
@@ -415,9 +463,12 @@ impl<R: Clock + Drop> Ports for ServerPorts<R> {
         ensures within { result ≤ length bytes.now }
         ensures asks { Changes (Asks (nat_lt 0 result)) pane self.old.panes.all.items self.new.panes.all.items }
         ensures stirs { 0 < result → self.new.waits.quiet ≡ false }
+        ensures still { self.new.waits.quiet ≡ true → 1 ≤ pane → IsStill pane self.old.panes.all.items self.new.panes.all.items }
     {
+        let had_peer = self.panes.has_peer(pane);
         let count = self.panes.write(self.waits.registry(), pane, bytes);
-        if count > 0 {
+        // Where a peer is gone the next may wait.
+        if count > 0 || had_peer != self.panes.has_peer(pane) {
             self.waits.stir();
         }
         count

@@ -7,6 +7,7 @@ ghost use Rattle.roam_hub.specs.Servers.{Stands};
 ghost use Rattle.roam_serving.specs.Following.{ArePanesOf, pane_of};
 ghost use Rattle.roam_serving.specs.Rests.{HasRested, HasToldAll};
 ghost use Rattle.roam_serving.specs.Runs.{Serves, ServesTurns};
+ghost use Rattle.roam_serving.specs.Tellings.{sooner};
 
 use crate::server_ports::{OwnStart, ServerPorts};
 use mio::net::UnixStream;
@@ -84,10 +85,12 @@ fn panes_of(server: &Server) -> PaneList
 fn tell_and_rest<C: Clock + Drop>(turns: u64, server: &Server, ports: &mut ServerPorts<C>)
     ensures told { HasToldAll ⟦<UnixStream as Stream>⟧.contents server.now ports.new.moment ports.new.panes.all.items
         ports.new.followers.all.items }
-    ensures rested { HasRested turns server.now ports.new.moment ports.new.udp ports.new.telling.due ports.new.waits.longest }
+    ensures rested { HasRested turns server.now ports.new.moment ports.new.clients ports.new.udp
+        (sooner ports.new.telling.due ports.new.clipping.due) ports.new.waits.longest }
 {
     ports.tell_panes(&panes_of(server));
     ports.tell_beside();
+    ports.tell_clips();
     ports.rest(if turns == FOR_GOOD {
         server.next_due()
     } else {
@@ -106,8 +109,8 @@ fn serve_turns<C: Clock + Drop>(
     // After each turn, and so after the last.
     ensures told { 0 < turns → HasToldAll ⟦<UnixStream as Stream>⟧.contents server.new ports.new.moment ports.new.panes.all.items
         ports.new.followers.all.items }
-    ensures rested { 0 < turns
-        → HasRested turns server.new ports.new.moment ports.new.udp ports.new.telling.due ports.new.waits.longest }
+    ensures rested { 0 < turns → HasRested turns server.new ports.new.moment ports.new.clients ports.new.udp
+        (sooner ports.new.telling.due ports.new.clipping.due) ports.new.waits.longest }
 {
     for _ in 0..turns {
         serve_turn(alloc, server, ports);

@@ -1,7 +1,7 @@
 //! When what stands beside the panes' terminals is told.
-ghost use Rattle.std.specs.Prelude.{◌≡◌, ◌≤◌, true, Some, None};
+ghost use Rattle.std.specs.Prelude.{◌≡◌, None};
 ghost use Rattle.roam_pane_list.specs.Besides.{nothing_beside};
-ghost use Rattle.roam_serving.specs.Tellings.{is_time, sooner};
+ghost use Rattle.roam_serving.specs.Tellings.{after, has_rung, is_time, rang_in, sooner, times_told};
 
 use roam_acts::limits::PANES_END;
 use roam_pane_list::{BesideList, BesidePane, in_life};
@@ -22,8 +22,8 @@ pub(crate) struct AsideTimes {
     due: Option<u64>,
 }
 
-// Whether so many milliseconds have passed since a moment, if there was one.
-fn is_time(last: Option<u64>, now: u64, pace: u64) -> bool
+/// Whether so many milliseconds have passed since a moment, if there was one.
+pub(crate) fn is_time(last: Option<u64>, now: u64, pace: u64) -> bool
     ensures time { result ≡ is_time last now pace }
 {
     match last {
@@ -43,13 +43,20 @@ pub(crate) fn sooner(one: Option<u64>, other: Option<u64>) -> Option<u64>
     }
 }
 
-// So many milliseconds after a moment.
-fn after(last: Option<u64>, pace: u64) -> Option<u64> {
-    last.map(|last| last.saturating_add(pace))
+/// So many milliseconds after a moment, if there was one.
+pub(crate) fn after(last: Option<u64>, pace: u64) -> Option<u64>
+    ensures after { result ≡ after last pace }
+{
+    match last {
+        None => None,
+        Some(last) => Some(last.saturating_add(pace)),
+    }
 }
 
 // Whether a bell rang in a pane that is there.
-fn rang_in(shown: Option<BesidePane>, now: Option<BesidePane>) -> bool {
+fn rang_in(shown: Option<BesidePane>, now: Option<BesidePane>) -> bool
+    ensures rang { result ≡ rang_in shown now }
+{
     match now {
         None => false,
         Some(now) => in_life(now.life, shown).settings.bells != now.settings.bells,
@@ -57,19 +64,23 @@ fn rang_in(shown: Option<BesidePane>, now: Option<BesidePane>) -> bool {
 }
 
 // Whether a bell rang in one of the panes.
-fn has_rung(shown: &BesideList, now: &BesideList) -> bool {
+fn has_rung(shown: &BesideList, now: &BesideList) -> bool
+    ensures rung { result ≡ has_rung 9 shown.now now.now }
+{
+    let mut rung = false;
     for pane in 1..PANES_END {
-        if rang_in(shown.get(pane), now.get(pane)) {
-            return true;
-        }
+        let was = shown.get(pane);
+        let is = now.get(pane);
+        let rang = rang_in(was, is);
+        rung = rung || rang;
     }
-    false
+    rung
 }
 
 impl AsideTimes {
     /// Nothing was told.
     pub(crate) fn new() -> AsideTimes
-        ensures none { (result.shown ≡ nothing_beside) × (result.told ≡ None) × (result.due ≡ None) }
+        ensures none { result ≡ record { shown = nothing_beside; told = None; rang = None; due = None } }
     {
         AsideTimes {
             shown: BesideList::unknown(),
@@ -116,14 +127,14 @@ impl AsideTimes {
 
     /// It isn't time: it is to be looked again once it is.
     pub(crate) fn wait(&mut self)
-        ensures waits { self.new ≡ record self.old { due = self.new.due } }
+        ensures waits { self.new ≡ record self.old { due = after self.old.told 20 } }
     {
         self.due = after(self.told, TELLING);
     }
 
     /// This was told at a moment; where no bell might be told, it is to be looked again once one may.
     pub(crate) fn tells(&mut self, now: &BesideList, moment: u64)
-        ensures told { (self.new.shown ≡ now.now) × (self.new.told ≡ Some moment) }
+        ensures told { self.new ≡ times_told now.now moment self.old }
     {
         let may_ring = self.may_ring(moment);
         self.rang = if may_ring && has_rung(&self.shown, now) {

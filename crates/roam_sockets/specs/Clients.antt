@@ -99,8 +99,9 @@ pub record IsFlushed {S : Type 0} (answers : AnswersOf S) (old new : ClientPeer 
 abbrev pub is_open : {S : Type 0} → ClientPeer S → Bool
 is_open peer = not peer.carrier.over
 
--- what waited for each was written, some of it or as much as goes, and those stay whose stream isn't over
-pub record KeepsOpen {S : Type 0} (answers : AnswersOf S) (olds news : List (ClientPeer S)) : Type 0 where
+-- What waited for each was written, some of it, or as much as goes of each where that was all; and those stay whose stream isn't over.
+pub record KeepsOpen {S : Type 0} (answers : AnswersOf S) (olds news : List (ClientPeer S)) (is_all : Bool) : Type 0 where
   pub mids : List (ClientPeer S)
   pub each : AllZip (IsFlushed answers) olds mids
+  pub done : is_all ≡ true → AllZip (IsDone answers) olds mids
   pub open_ones : news ≡ filter is_open mids

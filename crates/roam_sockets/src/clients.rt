@@ -38,6 +38,8 @@ pub struct Clients {
     all: Vec<ClientPeer<UnixStream>>,
     last: u64,
     turn: usize,
+    // Whether all that went at that moment was written when it was written last.
+    is_flushed: bool,
 }
 
 /// The address of the peer of a number: its low 40 bits, in network 0.
@@ -136,6 +138,15 @@ fn flush_all<S: Stream>(all: &mut [ClientPeer<S>]) -> bool
     flush_all(others) && is_done
 }
 
+// Writes what waits for each, lets those go whose stream is over, and tells whether that was all that goes at this moment.
+fn flush_open<S: Stream + Drop>(all: &mut Vec<ClientPeer<S>>) -> bool
+    ensures keeps { KeepsOpen S.answers all.old.items all.new.items result }
+{
+    let is_all = flush_all(all);
+    all.retain(|peer| !peer.carrier.is_over());
+    is_all
+}
+
 // The place of the one of a number.
 fn place_of(all: &[ClientPeer<UnixStream>], number: u64) -> Option<usize>
     ensures found { IfSome result (λ at. IsPlaceOf all.now at number) }
@@ -184,6 +195,7 @@ impl Clients {
             all: Vec::new(alloc),
             last: 0,
             turn: 0,
+            is_flushed: true,
         })
     }
 
@@ -193,6 +205,7 @@ impl Clients {
         ensures added { OnOk result ((self.new.last ≡ self.old.last + 1)
             × (numbers_of self.new.all.items ≡ numbers_of self.old.all.items ++ (self.old.last + 1) ∷ [])) }
         ensures more { OnOk result (length self.new.all.items ≡ length self.old.all.items + 1) }
+        ensures flushed { self.new.is_flushed ≡ self.old.is_flushed }
         ensures err { OnErr result (Stays self.old self.new × (length self.new.all.items ≡ length self.old.all.items)) }
         ensures fault { IsOkUnless result Fault.OutOfMemory }
     {
@@ -206,6 +219,7 @@ impl Clients {
     // Takes one that came; where 96 are there, or 2^40 numbers were given, or memory is wanting, it is closed.
     fn take(&mut self, alloc: Global, waits: &Waits, mut stream: UnixStream)
         ensures one { AcceptsOne self.old self.new }
+        ensures flushed { self.new.is_flushed ≡ self.old.is_flushed }
         ensures few { length self.old.all.items ≤ most_peers → length self.new.all.items ≤ most_peers }
     {
         if self.all.len() >= MOST_PEERS || self.last >= NUMBERS_END - 1 {
@@ -219,6 +233,7 @@ impl Clients {
     /// Takes those that wait at the socket; where 96 are there, or 2^40 numbers were given, or memory is wanting, they are closed.
     pub fn accept(&mut self, alloc: Global, waits: &Waits)
         ensures accepts { Accepts self.old self.new }
+        ensures flushed { self.new.is_flushed ≡ self.old.is_flushed }
         ensures few { length self.old.all.items ≤ most_peers → length self.new.all.items ≤ most_peers }
     {
         for _ in 0..MOST_PEERS {
@@ -259,11 +274,11 @@ impl Clients {
     /// Writes what waits for them, as much as goes now, and lets those go that left. Tells whether that was all that goes at this moment.
     pub fn flush(&mut self) -> bool
         ensures last { self.new.last ≡ self.old.last }
-        ensures keeps { KeepsOpen ⟦<UnixStream as Stream>⟧.answers self.old.all.items self.new.all.items }
+        ensures keeps { KeepsOpen ⟦<UnixStream as Stream>⟧.answers self.old.all.items self.new.all.items result }
+        ensures flushed { self.new.is_flushed ≡ result }
     {
-        let is_all = flush_all(&mut self.all);
-        self.all.retain(|peer| !peer.carrier.is_over());
-        is_all
+        self.is_flushed = flush_open(&mut self.all);
+        self.is_flushed
     }
 
     /// Removes the socket's file.

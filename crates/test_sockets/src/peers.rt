@@ -4,8 +4,8 @@
 //! its number: `lives N` or `goes`, `gives TEXT` or `gives nothing`, `takes TEXT` or `takes nothing of TEXT`; with `told`, panes 1 and 2,
 //! each with its life, its first row and its rows or `none`, of which a program that follows them is told (pane 2 is in focus where it is
 //! there), and how many client starts edit and watch, where that is known; with `beside` and a moment, at which what stands beside the
-//! panes' terminals is told. `files are removed` by the ports. `start asks ACT, ACT` or `is
-//! quiet`: a datagram of the server's own start comes, with these acts, or none.
+//! panes' terminals is told; with `clips` and a moment, at which texts for the clipboard are. `files are removed` by the ports. `start asks
+//! ACT, ACT` or `is quiet`: a datagram of the server's own start comes, with these acts, or none.
 use crate::acts::has;
 use crate::files::{first_untrue, is_so, ports_for};
 use crate::programs::Programs;
@@ -132,17 +132,30 @@ fn asks(alloc: Global, ports: &mut ServerPorts<&HostRuntime>, acts: &str) -> boo
     }
 }
 
-// At this moment what stands beside the panes' terminals is told.
-fn is_beside(ports: &mut ServerPorts<&HostRuntime>, words: &str) -> bool {
+// It is this moment.
+fn is_now(ports: &mut ServerPorts<&HostRuntime>, words: &str) -> bool {
     match words.parse::<u64>() {
         Ok(moment) => {
             ports.set_moment(moment);
             ports.now();
-            ports.tell_beside();
             true
         }
         Err(_) => false,
     }
+}
+
+// At this moment what stands beside the panes' terminals is told.
+fn is_beside(ports: &mut ServerPorts<&HostRuntime>, words: &str) -> bool {
+    let is_moment = is_now(ports, words);
+    ports.tell_beside();
+    is_moment
+}
+
+// At this moment texts for the clipboard are told.
+fn are_clips(ports: &mut ServerPorts<&HostRuntime>, words: &str) -> bool {
+    let is_moment = is_now(ports, words);
+    ports.tell_clips();
+    is_moment
 }
 
 fn is_start(alloc: Global, ports: &mut ServerPorts<&HostRuntime>, words: &str) -> bool {
@@ -177,6 +190,7 @@ fn is_done(
         "pane" => Ok(is_numbered(ports, words)),
         "told" => Ok(is_told(rt.alloc(), ports, words)),
         "beside" => Ok(is_beside(ports, words)),
+        "clips" => Ok(are_clips(ports, words)),
         "files" => are_files(rt, ports, words),
         "start" => Ok(is_start(rt.alloc(), ports, words)),
         _ => programs.does(rt, who, words),
@@ -251,6 +265,11 @@ fn first_wrong_of<'a>(rt: &HostRuntime, stories: &'a str) -> Result<Option<&'a s
 ///
 /// What stands beside a pane's terminal is told to who asked for it: as it is, and then what is new, each 20 ms at most, and bells once a
 /// second at most; of another life of the pane what is new in it.
+///
+/// Texts for the clipboard are told to who asked for them, the newest, once a second at most: none that was said before, and none for a
+/// question; of another life of the pane those of it.
+///
+/// They are told beside the rest, in either order; who didn't ask for them is told what he was, and so is the keeper of shells.
 ///
 /// Programs follow and close. Two are told each what is new for it; a line that asks for no close, for one of a pane that is gone, or of
 /// the last pane; of two closes the second waits until a turn was taken with the first, and a pane that is still there then may be closed
@@ -431,6 +450,85 @@ first writes \u{1b}]2;z\u{7}\u{7}
 pane 1 gives \u{1b}]2;z\u{7}\u{7}
 beside 2100
 second reads title 1 2 7a/bell 1 2/
+files are removed
+
+folder clips
+ports clips
+first connects clips/p1
+pane 1 lives 1
+first writes \u{1b}]52;c;YQ==\u{7}
+pane 1 gives \u{1b}]52;c;YQ==\u{7}
+second connects clips/panes
+second types clips/
+told 1 1 23, none
+second reads 1 1 1 23 80 1/focus 1/
+clips 0
+second waits
+first writes \u{1b}]52;;Yg==\u{7}
+pane 1 gives \u{1b}]52;;Yg==\u{7}
+beside 5
+second waits
+clips 10
+second reads clip 1 1 Yg==/
+first writes \u{1b}]52;c;Yw==\u{7}
+pane 1 gives \u{1b}]52;c;Yw==\u{7}
+clips 500
+second waits
+first writes \u{1b}]52;c;ZA==\u{7}
+pane 1 gives \u{1b}]52;c;ZA==\u{7}
+clips 1009
+second waits
+clips 1010
+second reads clip 1 1 ZA==/
+first writes \u{1b}]52;c;?\u{7}
+pane 1 gives \u{1b}]52;c;?\u{7}
+clips 2010
+second waits
+pane 1 lives 2
+first connects clips/p1
+clips 3000
+second waits
+first writes \u{1b}]52;c;ZQ==\u{7}
+pane 1 gives \u{1b}]52;c;ZQ==\u{7}
+clips 3001
+second reads clip 1 2 ZQ==/
+files are removed
+
+folder both
+ports both
+first connects both/p1
+pane 1 lives 1
+second connects both/panes
+second types clips/beside/
+told 1 1 23, none
+second reads 1 1 1 23 80 1/focus 1/
+beside 0
+clips 0
+second waits
+first writes \u{1b}]52;c;YQ==\u{7}\u{7}
+pane 1 gives \u{1b}]52;c;YQ==\u{7}\u{7}
+beside 20
+clips 20
+second reads bell 1 1/clip 1 1 YQ==/
+second leaves
+second connects both/panes
+second types beside/
+told 1 1 23, none
+second reads 1 1 1 23 80 1/focus 1/
+beside 2000
+clips 2000
+first writes \u{1b}]52;c;Yg==\u{7}\u{7}
+pane 1 gives \u{1b}]52;c;Yg==\u{7}\u{7}
+beside 4000
+clips 4000
+second reads bell 1 1/
+second types clips/keeper/
+told 1 1 23, none
+clips 6000
+first writes \u{1b}]52;c;Yw==\u{7}
+pane 1 gives \u{1b}]52;c;Yw==\u{7}
+clips 8000
+second waits
 files are removed
 
 folder followers

@@ -13,6 +13,7 @@ returns-clause-takes g c = λ h.
       said = c.do_line-said.result.now;
       role = c.role_after-role.ensures.role;
       aside = ap (λ f. f.aside) c.say.ensures.others ∙ c.heard.ensures.asked;
+      clips = ap (λ f. f.clips) c.say.ensures.others ∙ c.ask.ensures.asked;
       does = c.do_line-said.ensures.does;
       waits = c.say.ensures.said;
     }

@@ -1,4 +1,3 @@
-use Rattle.std.proofs.Common.{refl}
 use Rattle.roam_serving.proofs.following.Follower.tell_beside.Goals as goal
 
 pub returns : goal.returns
@@ -6,12 +5,6 @@ returns g c = record {
   tells = record {
     mid = c.renew_beside.new.self;
     renews = c.renew_beside.ensures.renews;
-    count = c.hand.ensures.took.0;
-    then = record c.renew_beside.new.self { program = c.hand.new.program; aside = c.hand.new.self };
-    waits = c.hand.ensures.took.1;
-    wrote = c.hand.ensures.took.2;
-    aside = c.hand.ensures.others;
-    others = refl;
-    goes = c.go_on.ensures.goes;
+    hands = c.hand_aside.ensures.hands;
   };
 }

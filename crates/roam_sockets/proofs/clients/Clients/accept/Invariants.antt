@@ -1,9 +1,10 @@
-use Rattle.std.proofs.Common.{length, ◌≤◌}
+use Rattle.std.proofs.Common.{length, ◌≡◌, ◌≤◌}
 use Rattle.roam_sockets.specs.Clients.{Accepts, most_peers}
 use Rattle.roam_sockets.proofs.clients.Clients.accept.Given as goal
 
 abbrev pub invariant-loop : goal.invariant-loop
 invariant-loop l = record {
   accepts : Accepts l.initial.self l.self;
+  flushed : l.self.is_flushed ≡ l.initial.self.is_flushed;
   few : length l.initial.self.all.items ≤ most_peers → length l.self.all.items ≤ most_peers;
 }

@@ -1,0 +1,56 @@
+-- The texts for the clipboard that the programs of the panes say (this project's profile).
+use Rattle.std.specs.Prelude.{ℕ, zero, suc, ◌≡◌, ◌≤◌, ◌-◌, ◌++◌, Bool, false, List, [], slice_get, Option, Some, None, codes}
+use Rattle.std.specs.Str.{bytes_eq}
+use Rattle.roam_pane_list.specs.Clips.{clip_lines, clip_texts, clips_at}
+use Rattle.roam_pane_list.specs.declared.clip_list.ClipList.{ClipList}
+use Rattle.roam_pane_list.specs.declared.clip_list.ClipPane.{ClipPane}
+use Rattle.roam_serving.specs.Peers.{life_in}
+use Rattle.roam_serving.specs.declared.clips.ClipsTold.{ClipsTold}
+use Rattle.roam_serving.specs.declared.panes.Pane.{Pane}
+
+-- a line asks for them
+abbrev pub is_clips_line : List ℕ → Bool
+is_clips_line line = bytes_eq line (codes "clips")
+
+-- nothing was asked for, and none is known
+pub record AreFreshClips (c : ClipsTold) : Type 0 where
+  pub asked : c.is_asked ≡ false
+  pub told : c.told ≡ None
+
+-- ---- what was said
+
+-- how many texts the program of a making of a pane has said
+abbrev pub count_of : Option ℕ → Pane → Option ClipPane
+count_of None pane = None
+count_of (Some life) pane = Some (record { life = life; clips = pane.inflow.beside.texts.said.clips })
+
+-- how many that of a pane has said that is there
+abbrev pub pane_clips : Option Pane → Option ClipPane
+pane_clips None = None
+pane_clips (Some pane) = count_of (life_in pane.making) pane
+
+-- a text, or nothing
+abbrev pub clip_codes : Option (List ℕ) → List ℕ
+clip_codes None = []
+clip_codes (Some clip) = clip
+
+-- the last text that the program of a pane said, in base64
+abbrev pub pane_clip : Option Pane → List ℕ
+pane_clip None = []
+pane_clip (Some pane) = clip_codes pane.inflow.beside.texts.said.clip
+
+-- that of a pane by its number
+abbrev pub clip_of : List Pane → ℕ → List ℕ
+clip_of panes p = pane_clip (slice_get panes (p - 1))
+
+-- so many texts were said in the panes
+pub record AreClips (panes : List Pane) (now : ClipList) : Type 0 where
+  pub at : (p : ℕ) → 1 ≤ p → p ≤ 9 → clips_at now p ≡ pane_clips (slice_get panes (p - 1))
+
+-- ---- what is told
+
+-- the text of what is new of the first n panes, each with its own last text: the one that its count counts
+unfoldable pub clip_news : ℕ → ClipList → ClipList → List Pane → List ℕ
+clip_news zero told now panes = []
+clip_news (suc n) told now panes =
+    clip_news n told now panes ++ clip_texts (clip_of panes (suc n)) (clip_lines (suc n) (clips_at told (suc n)) (clips_at now (suc n)))

@@ -1,0 +1,158 @@
+//! Which texts for the clipboard the programs that follow the panes are told, and when.
+ghost use Rattle.std.specs.Prelude.{◌≡◌, true, false, length, nat_lt, None};
+ghost use Rattle.roam_serving.specs.Clipping.{GivesClips, IsFree, TellsClips, TellsEachClips, any_wants, times_clipped, notes_clips, wants_clips};
+ghost use Rattle.roam_serving.specs.Tellings.{is_time};
+
+use crate::clips::clip_news;
+use crate::following::Follower;
+use crate::panes::Panes;
+use crate::seats::Role;
+use crate::tellings::{after, is_time};
+use roam_frames::Stream;
+use roam_pane_list::ClipList;
+use std::alloc::Global;
+
+/// How many milliseconds lie between texts for the clipboard at least.
+const CLIPPING: u64 = 1000;
+
+/// When a program was told one last, and when it is to be looked again.
+#[derive(Drop)]
+pub(crate) struct ClipTimes {
+    told: Option<u64>,
+    due: Option<u64>,
+}
+
+impl ClipTimes {
+    /// None was told.
+    pub(crate) fn new() -> ClipTimes
+        ensures none { result ≡ record { told = None; due = None } }
+    {
+        ClipTimes {
+            told: None,
+            due: None,
+        }
+    }
+
+    /// Whether one may be told at this moment.
+    pub(crate) fn is_time(&self, now: u64) -> bool
+        ensures time { result ≡ is_time self.now.told now 1000 }
+    {
+        is_time(self.told, now, CLIPPING)
+    }
+
+    /// When it is to be looked again, if at a moment.
+    pub(crate) fn due(&self) -> Option<u64>
+        ensures due { result ≡ self.now.due }
+    {
+        self.due
+    }
+
+    /// Nobody wants them.
+    pub(crate) fn rest(&mut self)
+        ensures rests { self.new ≡ record self.old { due = None } }
+    {
+        self.due = None;
+    }
+
+    /// One was told at a moment, or none; where none might be, it is to be looked again once one may.
+    pub(crate) fn tells(&mut self, any: bool, moment: u64)
+        ensures tells { self.new ≡ times_clipped any moment self.old }
+    {
+        self.due = if self.is_time(moment) {
+            None
+        } else {
+            after(self.told, CLIPPING)
+        };
+        if any {
+            self.told = Some(moment);
+        }
+    }
+}
+
+impl<S: Stream + Drop> Follower<S> {
+    // Whether it asked for them, and isn't the keeper of shells.
+    fn wants_clips(&self) -> bool
+        ensures wants { result ≡ wants_clips self.now }
+    {
+        self.clips.is_asked() && self.role == Role::Other
+    }
+
+    // Whether nothing waits for it.
+    fn is_free(&self) -> bool
+        ensures free { result ≡ true → IsFree self.now }
+        ensures busy { result ≡ false → IsFree self.now → ⊥ }
+    {
+        self.aside.is_clear() && self.waiting.is_empty()
+    }
+
+    // What is new waits for the program from now on, where it may be told; tells whether some does.
+    fn renew_clips(&mut self, alloc: Global, now: &ClipList, may: bool, panes: &Panes) -> bool
+        ensures gives { GivesClips may now.now panes.now.all.items result self.old self.new }
+    {
+        let Some(told) = self.clips.told() else {
+            self.clips.note(now);
+            return false;
+        };
+        if !may {
+            return false;
+        }
+        if !self.is_free() {
+            return false;
+        }
+        match clip_news(alloc, &told, now, panes) {
+            Ok(text) => self.give_clips(text, now),
+            Err(_) => false,
+        }
+    }
+
+    // This text of what is new waits for the program from now on; tells whether there is any.
+    fn give_clips(&mut self, text: Vec<u8>, now: &ClipList) -> bool
+        ensures text { self.new.aside.text ≡ text }
+        ensures some { result ≡ nat_lt 0 (length text.items) }
+        ensures noted { self.new ≡ record (notes_clips now.now self.old) { aside = record self.old.aside { text = self.new.aside.text } } }
+    {
+        let has_text = !text.is_empty();
+        self.aside.put(text);
+        self.clips.note(now);
+        has_text
+    }
+
+    // Tells the program what is new, where it wants that and may be told, and hands it what waits; tells whether some is new.
+    fn tell_clips(&mut self, alloc: Global, now: &ClipList, may: bool, panes: &Panes) -> bool
+        ensures tells { TellsClips S.contents may now.now panes.now.all.items result self.old self.new }
+    {
+        if !self.wants_clips() {
+            return false;
+        }
+        let gave = self.renew_clips(alloc, now, may, panes);
+        self.hand_aside();
+        gave
+    }
+}
+
+/// Tells each program that wants them which texts for the clipboard are new, where one may be told, and tells whether one was for any.
+pub(crate) fn tell_each_clips<S: Stream + Drop>(
+    alloc: Global,
+    all: &mut [Follower<S>],
+    now: &ClipList,
+    may: bool,
+    panes: &Panes,
+) -> bool
+    ensures told { TellsEachClips S.contents may now.now panes.now.all.items result all.old all.new }
+{
+    let Some((first, others)) = all.split_first_mut() else {
+        return false;
+    };
+    let gave = first.tell_clips(alloc, now, may, panes);
+    tell_each_clips(alloc, others, now, may, panes) || gave
+}
+
+/// Whether one of these wants them.
+pub(crate) fn any_wants<S: Stream + Drop>(all: &[Follower<S>]) -> bool
+    ensures any { result ≡ any_wants all.now }
+{
+    let Some((first, others)) = all.split_first() else {
+        return false;
+    };
+    first.wants_clips() || any_wants(others)
+}
