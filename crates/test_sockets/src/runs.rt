@@ -131,8 +131,10 @@ fn hears(rt: &HostRuntime, text: &str, word: &str) -> Result<bool, Fail> {
     let lines = lines_of(rt.alloc(), text)?;
     let attach = unanswered(Typed::Nothing, 3);
     let mut client = client_for(rt, &attach)?;
-    let connection = Connection::bind(rt, rt.alloc(), Moments::Set(0))?;
-    let mut ports = ClientPorts::new(connection, Vec::new(rt.alloc()));
+    let moments: Moments<&HostRuntime> = Moments::Set(0);
+    let connection = Connection::bind(rt, rt.alloc(), moments)?;
+    let painted: Vec<u8> = Vec::new(rt.alloc());
+    let mut ports = ClientPorts::new(connection, painted);
     let mut typist = Typist::of(rt.alloc(), lines.as_slice());
     let ended = follow(rt.alloc(), &attach, &mut typist, &mut client, &mut ports);
     Ok(is_end(ended, word))

@@ -50,29 +50,33 @@ impl Place {
     }
 
     // Hears what a server tells in five turns.
-    fn meet(&mut self, alloc: Global) -> bool {
+    fn meet(&mut self, alloc: Global) -> Result<bool, Fail> {
         for _ in 0..5u8 {
-            if self.server.meet(alloc, self.ports.ports()).is_err() {
-                return false;
-            }
+            self.server.meet(alloc, self.ports.ports())?;
             self.round(alloc);
         }
-        true
+        Ok(true)
+    }
+
+    // Whether there are so many.
+    fn are_so_many(&self, line: &str) -> bool {
+        match line.split_once(' ') {
+            Some(("acts", count)) => {
+                count.parse::<usize>() == Ok(self.shared.client().unacknowledged())
+            }
+            Some(("terminals", count)) => count.parse::<usize>() == Ok(self.shared.len()),
+            _ => false,
+        }
     }
 
     // Whether this is so, or is done.
-    fn is_so(&mut self, alloc: Global, line: &str) -> bool {
+    fn is_so(&mut self, alloc: Global, line: &str) -> Result<bool, Fail> {
         match line {
-            "round" => self.round(alloc),
+            "round" => Ok(self.round(alloc)),
             "meets" => self.meet(alloc),
-            "ends" => self.shared.is_ending(),
-            "goes on" => !self.shared.is_ending(),
-            _ => match line.split_once(' ') {
-                Some(("acts", count)) => count.parse::<usize>()
-                    == Ok(self.shared.client().unacknowledged()),
-                Some(("terminals", count)) => count.parse::<usize>() == Ok(self.shared.len()),
-                _ => false,
-            },
+            "ends" => Ok(self.shared.is_ending()),
+            "goes on" => Ok(!self.shared.is_ending()),
+            _ => Ok(self.are_so_many(line)),
         }
     }
 }
@@ -86,7 +90,7 @@ fn is_done(
 ) -> Result<bool, Fail> {
     match line.split_once(' ') {
         Some((who @ ("first" | "second"), words)) => programs.does(rt, who, words),
-        _ => Ok(place.is_so(rt.alloc(), line)),
+        _ => place.is_so(rt.alloc(), line),
     }
 }
 
