@@ -278,10 +278,11 @@ fn ended<C: Clock + Drop, W: Write + Drop>(ports: &ClientPorts<C, W>) -> Result<
     Ok(ports.end())
 }
 
-// Takes the turns of a start, and waits where one brought nothing. `Write` where nobody reads what is painted any more, where showing it
-// has failed for half a second, and where the outer terminal took not all of what was last shown; `Act` at a line of the stream that is no
-// act; `OutOfMemory`.
-fn follow<C: Clock + Drop, W: Write + Drop, T: Read>(
+/// Takes the turns of a start that types what comes over a stream, and waits where one brought nothing. Answers what was heard of the
+/// server in the end. `Write` where nobody reads what is painted any more, where showing it has failed for half a second, and where the
+/// outer terminal took not all of what was last shown; `Act` at a line of the stream that is no act, once all acts before it were taken;
+/// `OutOfMemory`.
+pub fn follow<C: Clock + Drop, W: Write + Drop, T: Read>(
     alloc: Global,
     attach: &Attach<'_>,
     typist: &mut Typist<T>,

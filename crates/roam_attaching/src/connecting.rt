@@ -1,12 +1,12 @@
 //! The way of a client start to its server, the clock and the wait. What they carried isn't told.
 ghost use Rattle.std.specs.Prelude.{◌≡◌, ◌⊎◌, ◌≤◌, ℕ, true, false, length, None, Some, IfOk, IfSome, IfErr};
-ghost use Rattle.roam_attaching.specs.Ways.{IsFrom, has_ended};
+ghost use Rattle.roam_attaching.specs.Ways.{AllWent, IsFrom, MoreGoes, has_ended};
 
 use mio::event::Source;
 use mio::net::UnixStream;
 use roam_cells::Fault;
 use roam_faults::RunFault;
-use roam_frames::Carrier;
+use roam_frames::{Carrier, Stream};
 use roam_hub::Addr;
 use roam_sockets::{Moments, Udp, Waits};
 use roam_turns::Ports;
@@ -52,7 +52,10 @@ impl Way {
     }
 
     // Sends what waits, as much as goes now, and tells whether that was all that goes at this moment.
-    fn flush(&mut self, now: u64) -> bool {
+    fn flush(&mut self, now: u64) -> bool
+        ensures all { result ≡ true → AllWent ⟦<UnixStream as Stream>⟧.answers self.old self.new }
+        ensures more { result ≡ false → MoreGoes ⟦<UnixStream as Stream>⟧.answers self.old self.new }
+    {
         match self {
             Way::Udp(udp) => udp.flush(now),
             Way::Stream(carrier) => carrier.flush(),
@@ -171,7 +174,7 @@ impl<R: Clock + Drop> Connection<R> {
 
     /// Notes that something came, so that there is no wait.
     pub fn stir(&mut self)
-        ensures others { self.new ≡ record self.old { waits = self.new.waits } }
+        ensures stirs { self.new ≡ record self.old { waits = record self.old.waits { quiet = false } } }
     {
         self.waits.stir();
     }
@@ -179,7 +182,11 @@ impl<R: Clock + Drop> Connection<R> {
     /// Sends what waits to go, and waits until something comes, so many milliseconds at most, where nothing came since the last call.
     pub fn rest(&mut self, longest: u64)
         ensures quiet { self.new.waits.quiet ≡ true }
-        ensures waited { IfSome self.new.waits.longest (λ long. (self.old.waits.quiet ≡ true) × (long ≡ longest)) }
+        ensures waited { IfSome self.new.waits.longest (λ long. (self.old.waits.quiet ≡ true) × (long ≡ longest)
+            × AllWent ⟦<UnixStream as Stream>⟧.answers self.old.way self.new.way) }
+        // It waits where nothing came, but where more goes at once.
+        ensures busy { self.old.waits.quiet ≡ true → self.new.waits.longest ≡ None
+            → MoreGoes ⟦<UnixStream as Stream>⟧.answers self.old.way self.new.way }
         ensures others { self.new ≡ record self.old { waits = self.new.waits; way = self.new.way } }
     {
         if !self.way.flush(self.moment) {

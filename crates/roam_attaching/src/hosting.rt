@@ -1,10 +1,13 @@
 //! A client start that stays while outer terminals come and go at its socket.
-ghost use Rattle.std.specs.Prelude.{◌≡◌, ◌⊎◌, IfErr};
+ghost use Rattle.std.specs.Prelude.{◌≡◌, ◌≢◌, ◌⊎◌, min, true, None, IfErr, IfSome};
+ghost use Rattle.roam_attaching.specs.Ways.{MoreGoes};
+ghost use Rattle.roam_sockets.specs.Waits.{wait_until};
 
 use crate::connecting::Connection;
 use mio::net::{UnixListener, UnixStream};
 use roam_cells::Fault;
 use roam_faults::RunFault;
+use roam_frames::Stream;
 use roam_hub::{Addr, Client};
 use roam_sockets::{listen, wait_until};
 use roam_terminals::{Door, End, Listening, Opaque, SharedStart, run_shared};
@@ -66,12 +69,18 @@ impl<R: Clock + Drop> Door<Opaque<UnixStream>> for Doorway<R> {
         self.connection.has_ended()
     }
 
-    fn rest(&mut self, longest: u64, due: Option<u64>) {
+    fn rest(&mut self, longest: u64, due: Option<u64>)
+        ensures waited { IfSome self.new.connection.waits.longest (λ long. (longest ≢ 0)
+            × (long ≡ min longest (wait_until due self.old.connection.moment))) }
+        // It waits where nothing came, but where more goes at once.
+        ensures busy { longest ≢ 0 → self.old.connection.waits.quiet ≡ true → self.new.connection.waits.longest ≡ None
+            → MoreGoes ⟦<UnixStream as Stream>⟧.answers self.old.connection.way self.new.connection.way }
+    {
+        let wait = longest.min(wait_until(due, self.connection.moment()));
         if longest == 0 {
             self.connection.stir();
         }
-        let moment = self.connection.moment();
-        self.connection.rest(longest.min(wait_until(due, moment)));
+        self.connection.rest(wait);
     }
 }
 

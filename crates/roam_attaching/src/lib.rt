@@ -7,7 +7,7 @@ mod connecting;
 mod hosting;
 mod refused;
 
-pub use attaching::{Attach, Home, Typed, client_for, run_attach};
+pub use attaching::{Attach, Home, Typed, client_for, follow, run_attach};
 pub use client_ports::ClientPorts;
 pub use connecting::Connection;
 pub use refused::{tell_end, tell_failed};

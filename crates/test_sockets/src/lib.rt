@@ -6,6 +6,10 @@
 #[cfg(test)]
 mod acts;
 #[cfg(test)]
+mod doors;
+#[cfg(test)]
+mod echoing;
+#[cfg(test)]
 mod files;
 #[cfg(test)]
 mod keys;

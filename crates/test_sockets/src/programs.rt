@@ -1,10 +1,12 @@
 //! What a program does at a socket, as text.
 //!
 //! `connects PATH` and `leaves`; `writes TEXT`; `types TEXT`, in which `/` is written as the end of a line; `reads TEXT`, just that, where
-//! `/` stands for the end of a line; `waits`: it is neither let go nor told anything; `is let go`: there is nothing more for it to read, or
-//! what it wrote last was never read; `is let go unread`: what it wrote last was never read.
+//! `/` stands for the end of a line; `sees TEXT`: it reads something in which that stands; `waits`: it is neither let go nor told anything;
+//! `is let go`: there is nothing more for it to read, or what it wrote last was never read; `is let go unread`: what it wrote last was never
+//! read.
 use mio::net::UnixStream;
 use std::io::{ErrorKind, Read, Write};
+use std::str::from_utf8;
 use std::test::*;
 
 /// Two programs, where they are connected.
@@ -26,6 +28,15 @@ fn reads(program: &mut UnixStream, text: &str) -> bool {
     let mut buf = [0u8; 256];
     match program.read(&mut buf) {
         Ok(count) => are(&buf[..count], text),
+        Err(_) => false,
+    }
+}
+
+// Reads all that is there, in which a text is to stand.
+fn sees(program: &mut UnixStream, text: &str) -> bool {
+    let mut buf = [0u8; 4096];
+    match program.read(&mut buf) {
+        Ok(count) => from_utf8(&buf[..count]).is_ok_and(|all| all.contains(text)),
         Err(_) => false,
     }
 }
@@ -70,6 +81,7 @@ fn writes_or_reads(program: &mut UnixStream, words: &str) -> bool {
             "writes" => writes(program, text),
             "types" => types(program, text),
             "reads" => reads(program, text),
+            "sees" => sees(program, text),
             _ => false,
         },
         None => false,

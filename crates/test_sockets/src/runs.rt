@@ -5,14 +5,19 @@
 //! `well`, with what was heard, or with the fault, is a run that ends so: `serves FOLDER` of `serve` at any free port, `serves alone
 //! FOLDER` without one, `serves taken FOLDER` at one that is bound; `types PATH` of `attach` that types the acts of a file where nobody
 //! answers; `watches 3` of one that only watches and takes so many turns; `follows FOLDER` of one that reaches its server there, `follows
-//! bound FOLDER` while the sockets there are bound. Behind `types` and `watches` stands `closed` where the outer terminal is closed, and
-//! `unread` where what is painted goes where nobody reads.
+//! bound FOLDER` while the sockets there are bound; `hears TEXT` of one that types the lines of a stream where nobody answers. Behind `types`
+//! and `watches` stands `closed` where the outer terminal is closed, and `unread` where what is painted goes where nobody reads.
 use crate::files::ports_in;
-use roam_attaching::{Attach, Home, Typed, run_attach};
+use roam_attaching::{
+    Attach, ClientPorts, Connection, Home, Typed, client_for, follow, run_attach,
+};
 use roam_faults::RunFault;
 use roam_serving::{Serve, run_serve};
+use roam_sockets::Moments;
 use roam_terminals::End;
+use roam_typing::Typist;
 use roam_wire::Version;
+use std::alloc::{AllocError, Global};
 use std::fs::{DirBuilder, create_dir, remove_file, write};
 use std::io;
 use std::io::{ErrorKind, Write, pipe};
@@ -74,12 +79,16 @@ fn serves_so(rt: &HostRuntime, words: &str, word: &str) -> Result<bool, Fail> {
     }
 }
 
-// Whether a run of `attach` ends so.
-fn attaches<W: Write + Drop>(rt: &HostRuntime, attach: &Attach<'_>, outer: W, word: &str) -> bool {
-    match run_attach(rt, attach, outer) {
+fn is_end(ended: Result<End, RunFault>, word: &str) -> bool {
+    match ended {
         Ok(end) => word == "unheard" && end == End::Unheard,
         Err(fault) => is_fault(fault, word),
     }
+}
+
+// Whether a run of `attach` ends so.
+fn attaches<W: Write + Drop>(rt: &HostRuntime, attach: &Attach<'_>, outer: W, word: &str) -> bool {
+    is_end(run_attach(rt, attach, outer), word)
 }
 
 /// A run of `attach` where nobody answers.
@@ -106,6 +115,29 @@ fn types(rt: &HostRuntime, words: &str, word: &str) -> bool {
             word,
         ),
     }
+}
+
+// The bytes of a text, in which `/` stands for the end of a line.
+fn lines_of(alloc: Global, text: &str) -> Result<Vec<u8>, AllocError> {
+    let mut bytes = Vec::new(alloc);
+    for byte in text.as_bytes() {
+        bytes.push(if *byte == b'/' { b'\n' } else { *byte })?;
+    }
+    Ok(bytes)
+}
+
+// Whether a run that types the lines of a stream, where nobody answers, ends so.
+fn hears(rt: &HostRuntime, text: &str, word: &str) -> Result<bool, Fail> {
+    let lines = lines_of(rt.alloc(), text)?;
+    let attach = unanswered(Typed::Nothing, 3);
+    let mut client = client_for(rt, &attach)?;
+    let moments: Moments<&HostRuntime> = Moments::Set(0);
+    let connection = Connection::bind(rt, rt.alloc(), moments)?;
+    let painted: Vec<u8> = Vec::new(rt.alloc());
+    let mut ports = ClientPorts::new(connection, painted);
+    let mut typist = Typist::of(rt.alloc(), lines.as_slice());
+    let ended = follow(rt.alloc(), &attach, &mut typist, &mut client, &mut ports);
+    Ok(is_end(ended, word))
 }
 
 /// A run that only watches, and paints where somebody reads or not.
@@ -162,6 +194,7 @@ fn is_run(rt: &HostRuntime, verb: &str, words: &str) -> Result<bool, Fail> {
     match verb {
         "serves" => serves_so(rt, words, word),
         "types" => Ok(types(rt, words, word)),
+        "hears" => hears(rt, words, word),
         "watches" => watches(rt, words, word),
         "follows" => follows_so(rt, words, word),
         _ => Ok(false),
@@ -173,11 +206,7 @@ fn written(rt: &HostRuntime, words: &str) -> Result<bool, Fail> {
     let Some((path, text)) = words.split_once(' ') else {
         return Ok(false);
     };
-    let mut bytes = Vec::new(rt.alloc());
-    for byte in text.as_bytes() {
-        bytes.push(if *byte == b'/' { b'\n' } else { *byte })?;
-    }
-    write(rt, path, &bytes)?;
+    write(rt, path, &lines_of(rt.alloc(), text)?)?;
     Ok(true)
 }
 
@@ -234,6 +263,8 @@ types good unheard
 types closed good write
 file bad char 61/split left/
 types bad act
+hears char 61/char 62/ unheard
+hears char 61/bogus/ act
 folder reached
 follows reached read
 file reached/session 5e55/

@@ -1,7 +1,10 @@
-//! The outer terminals of a client start that never hears of its server: what is typed there, and what each is painted.
+//! The outer terminals of a client start: what is typed there, and what each is painted.
 //!
-//! `round` takes those that wait at the socket, and a round; `acts N` sees how many acts were typed; `terminals N` how many are there;
-//! `ends` and `goes on` whether the start's end was asked for.
+//! `round` takes those that wait at the socket, and a round; `acts N` sees how many acts aren't acknowledged; `terminals N` how many are
+//! there; `ends` and `goes on` whether the start's end was asked for. It hears of its server only at `meets`: so much as a server whose
+//! program echoes tells it in five turns of 20 milliseconds each, with a round behind each.
+use crate::doors::first_other_run;
+use crate::echoing::Echoing;
 use crate::programs::Programs;
 use mio::net::{UnixListener, UnixStream};
 use roam_hub::Client;
@@ -18,6 +21,7 @@ struct Place {
     listener: UnixListener,
     shared: SharedStart<Opaque<UnixStream>>,
     ports: Listening<MemoryPorts>,
+    server: Echoing,
 }
 
 fn place_at(rt: &HostRuntime, path: &str) -> Result<Option<Place>, Fail> {
@@ -29,6 +33,7 @@ fn place_at(rt: &HostRuntime, path: &str) -> Result<Option<Place>, Fail> {
         listener,
         shared: SharedStart::new(rt.alloc(), client),
         ports: Listening::new(MemoryPorts::new(rt.alloc())),
+        server: Echoing::new(rt.alloc())?,
     }))
 }
 
@@ -44,18 +49,34 @@ impl Place {
         true
     }
 
+    // Hears what a server tells in five turns.
+    fn meet(&mut self, alloc: Global) -> Result<bool, Fail> {
+        for _ in 0..5u8 {
+            self.server.meet(alloc, self.ports.ports())?;
+            self.round(alloc);
+        }
+        Ok(true)
+    }
+
+    // Whether there are so many.
+    fn are_so_many(&self, line: &str) -> bool {
+        match line.split_once(' ') {
+            Some(("acts", count)) => {
+                count.parse::<usize>() == Ok(self.shared.client().unacknowledged())
+            }
+            Some(("terminals", count)) => count.parse::<usize>() == Ok(self.shared.len()),
+            _ => false,
+        }
+    }
+
     // Whether this is so, or is done.
-    fn is_so(&mut self, alloc: Global, line: &str) -> bool {
+    fn is_so(&mut self, alloc: Global, line: &str) -> Result<bool, Fail> {
         match line {
-            "round" => self.round(alloc),
-            "ends" => self.shared.is_ending(),
-            "goes on" => !self.shared.is_ending(),
-            _ => match line.split_once(' ') {
-                Some(("acts", count)) => count.parse::<usize>()
-                    == Ok(self.shared.client().unacknowledged()),
-                Some(("terminals", count)) => count.parse::<usize>() == Ok(self.shared.len()),
-                _ => false,
-            },
+            "round" => Ok(self.round(alloc)),
+            "meets" => self.meet(alloc),
+            "ends" => Ok(self.shared.is_ending()),
+            "goes on" => Ok(!self.shared.is_ending()),
+            _ => Ok(self.are_so_many(line)),
         }
     }
 }
@@ -69,7 +90,7 @@ fn is_done(
 ) -> Result<bool, Fail> {
     match line.split_once(' ') {
         Some((who @ ("first" | "second"), words)) => programs.does(rt, who, words),
-        _ => Ok(place.is_so(rt.alloc(), line)),
+        _ => place.is_so(rt.alloc(), line),
     }
 }
 
@@ -267,6 +288,25 @@ first reads refused 4 bad act/
 first is let go
 terminals 0";
 
+/// What a key shows is guessed once one before it was confirmed, and not before: it is painted before its server is heard.
+const GUESSED: &str = "\
+first connects guessed/terminals
+round
+first reads \x1Bc\x1B[?25l\x1B[0m\x1B[1;1H\x1B[?25h
+meets
+first sees [1]
+first types guess always/char 61/
+round
+round
+first waits
+meets
+acts 0
+first sees a
+first types char 71/
+round
+first sees q
+acts 1";
+
 #[test]
 fn terminals_share_a_start(rt: HostRuntime) -> Result<(), Fail> {
     let stories = [
@@ -274,11 +314,13 @@ fn terminals_share_a_start(rt: HostRuntime) -> Result<(), Fail> {
         ("many", "many/terminals", MANY),
         ("pasted", "pasted/terminals", PASTED),
         ("told", "told/terminals", TOLD),
+        ("guessed", "guessed/terminals", GUESSED),
     ];
     for (folder, path, lines) in stories {
         create_dir(&rt, folder)?;
         let wrong = first_wrong(&rt, path, lines)?;
         assert!(rt; wrong.is_none(), "{wrong:?}");
     }
+    assert_eq!(rt; first_other_run(rt.alloc())?, None);
     Ok(())
 }

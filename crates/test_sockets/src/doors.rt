@@ -1,0 +1,175 @@
+//! Whole runs of a start whose terminal comes to a door in memory, where nobody answers.
+use roam_hub::{Addr, Client};
+use roam_sockets::loopback;
+use roam_terminals::{Door, End, Listening, Opaque, SharedStart, run_shared};
+use roam_turns::{MemoryPorts, Ports};
+use std::alloc::Global;
+use std::io;
+use std::io::{ErrorKind, Read, Write};
+use std::test::*;
+
+/// A terminal in memory, which types a text and stays. It takes all that it is painted.
+#[derive(Drop)]
+struct Typing<'a> {
+    text: &'a [u8],
+}
+
+impl<'a> Read for Typing<'a> {
+    fn read(&mut self, buf: &mut [u8]) -> io::Result<usize> {
+        if self.text.is_empty() {
+            return Err(io::Error::from(ErrorKind::WouldBlock));
+        }
+        self.text.read(buf)
+    }
+}
+
+impl<'a> Write for Typing<'a> {
+    fn write(&mut self, bytes: &[u8]) -> io::Result<usize> {
+        Ok(bytes.len())
+    }
+
+    fn flush(&mut self) -> io::Result<()> {
+        Ok(())
+    }
+}
+
+/// A door in memory: who comes, whether the server has ended, and how often and how many milliseconds was rested there. Its clock goes on
+/// while it rests, as long as may be.
+#[derive(Drop)]
+struct MemoryDoor<'a> {
+    ports: MemoryPorts,
+    coming: Option<Typing<'a>>,
+    has_ended: bool,
+    rests: u64,
+    moment: u64,
+}
+
+impl<'a> Ports for MemoryDoor<'a> {
+    fn now(&mut self) -> u64 {
+        self.ports.now()
+    }
+
+    fn receive(&mut self, buf: &mut [u8]) -> Option<(Addr, usize)> {
+        self.ports.receive(buf)
+    }
+
+    fn send(&mut self, to: Addr, bytes: &[u8]) -> bool {
+        self.ports.send(to, bytes)
+    }
+
+    fn pane_lives(&mut self, pane: u8, life: Option<u64>) {
+        self.ports.pane_lives(pane, life);
+    }
+
+    fn pane_in(&mut self, pane: u8, buf: &mut [u8]) -> Option<usize> {
+        self.ports.pane_in(pane, buf)
+    }
+
+    fn pane_out(&mut self, pane: u8, bytes: &[u8]) -> usize {
+        self.ports.pane_out(pane, bytes)
+    }
+
+    fn show(&mut self, bytes: &[u8]) -> bool {
+        self.ports.show(bytes)
+    }
+}
+
+impl<'a> Door<Opaque<Typing<'a>>> for MemoryDoor<'a> {
+    fn next(&mut self) -> Option<Opaque<Typing<'a>>> {
+        let typing = self.coming.take()?;
+        Some(Opaque::new(typing))
+    }
+
+    fn has_ended(&mut self) -> bool {
+        self.has_ended
+    }
+
+    fn rest(&mut self, longest: u64, _due: Option<u64>) {
+        self.rests = self.rests.saturating_add(1);
+        self.moment = self.moment.saturating_add(longest);
+        self.ports.set_moment(self.moment);
+    }
+}
+
+/// A run: what the terminal types, or that none comes; whether the server has ended; how many rounds there are at most; how it ends, how
+/// often and how long it rested, and how many acts were typed.
+struct Run {
+    text: Option<&'static str>,
+    has_ended: bool,
+    rounds: u64,
+    end: End,
+    rests: u64,
+    rested: u64,
+    acts: usize,
+}
+
+impl Run {
+    // Whether it goes so.
+    fn is_so(&self, alloc: Global) -> Result<bool, Fail> {
+        let mut shared = SharedStart::new(alloc, Client::new(alloc, 1, 0xA1)?);
+        let mut door = Listening::new(MemoryDoor {
+            ports: MemoryPorts::new(alloc),
+            coming: self.text.map(|text| Typing {
+                text: text.as_bytes(),
+            }),
+            has_ended: self.has_ended,
+            rests: 0,
+            moment: 0,
+        });
+        let end = run_shared(alloc, &mut shared, &mut door, loopback(5000), self.rounds);
+        let acts = shared.client().unacknowledged();
+        let rested = (door.ports().rests, door.ports().moment);
+        Ok(end == self.end && rested == (self.rests, self.rested) && acts == self.acts)
+    }
+}
+
+/// Where nobody comes, and where somebody types: there is no rest behind a line that was taken, and ten milliseconds where the rounds are
+/// counted. One asks for the end, which nobody acknowledges: it goes on for a second. The server has ended: that is seen behind the round.
+const RUNS: [Run; 4] = [
+    Run {
+        text: None,
+        has_ended: false,
+        rounds: 3,
+        end: End::Unheard,
+        rests: 3,
+        rested: 30,
+        acts: 0,
+    },
+    Run {
+        text: Some("char 61\n"),
+        has_ended: false,
+        rounds: 5,
+        end: End::Unheard,
+        rests: 5,
+        rested: 40,
+        acts: 1,
+    },
+    Run {
+        text: Some("char 61\nend\n"),
+        has_ended: false,
+        rounds: 10_000,
+        end: End::Unheard,
+        rests: 102,
+        rested: 1000,
+        acts: 1,
+    },
+    Run {
+        text: Some("char 61\n"),
+        has_ended: true,
+        rounds: 5,
+        end: End::Gone,
+        rests: 0,
+        rested: 0,
+        acts: 1,
+    },
+];
+
+/// The number of the first run that goes otherwise, from 0.
+pub fn first_other_run(alloc: Global) -> Result<Option<usize>, Fail> {
+    for (number, run) in RUNS.iter().enumerate() {
+        if !run.is_so(alloc)? {
+            return Ok(Some(number));
+        }
+    }
+    Ok(None)
+}
