@@ -10,11 +10,11 @@ use std::test::*;
 
 /// A terminal in memory, which types a text and stays. It takes all that it is painted.
 #[derive(Drop)]
-struct Typing<'a> {
+struct TypedStream<'a> {
     text: &'a [u8],
 }
 
-impl<'a> Read for Typing<'a> {
+impl<'a> Read for TypedStream<'a> {
     fn read(&mut self, buf: &mut [u8]) -> io::Result<usize> {
         if self.text.is_empty() {
             return Err(io::Error::from(ErrorKind::WouldBlock));
@@ -23,7 +23,7 @@ impl<'a> Read for Typing<'a> {
     }
 }
 
-impl<'a> Write for Typing<'a> {
+impl<'a> Write for TypedStream<'a> {
     fn write(&mut self, bytes: &[u8]) -> io::Result<usize> {
         Ok(bytes.len())
     }
@@ -38,7 +38,7 @@ impl<'a> Write for Typing<'a> {
 #[derive(Drop)]
 struct MemoryDoor<'a> {
     ports: MemoryPorts,
-    coming: Option<Typing<'a>>,
+    coming: Option<TypedStream<'a>>,
     has_ended: bool,
     rests: u64,
     moment: u64,
@@ -74,8 +74,8 @@ impl<'a> Ports for MemoryDoor<'a> {
     }
 }
 
-impl<'a> Door<Opaque<Typing<'a>>> for MemoryDoor<'a> {
-    fn next(&mut self) -> Option<Opaque<Typing<'a>>> {
+impl<'a> Door<Opaque<TypedStream<'a>>> for MemoryDoor<'a> {
+    fn next(&mut self) -> Option<Opaque<TypedStream<'a>>> {
         let typing = self.coming.take()?;
         Some(Opaque::new(typing))
     }
@@ -109,7 +109,7 @@ impl Run {
         let mut shared = SharedStart::new(alloc, Client::new(alloc, 1, 0xA1)?);
         let mut door = Listening::new(MemoryDoor {
             ports: MemoryPorts::new(alloc),
-            coming: self.text.map(|text| Typing {
+            coming: self.text.map(|text| TypedStream {
                 text: text.as_bytes(),
             }),
             has_ended: self.has_ended,
