@@ -1,6 +1,5 @@
 -- Who reads which texts for the clipboard are new knows how many there are, and each line says what wasn't known before it.
-use Rattle.std.proofs.Common.{◌≡◌, ℕ, Bool, true, false, cond, eqb, List, [], ◌∷◌, Option, Some, None, refl, ap, ◌∙◌, sym}
-use Rattle.std.specs.Prelude.{◌≢◌}
+use Rattle.std.proofs.Common.{◌≡◌, ℕ, Bool, true, false, cond, eqb, [], ◌∷◌, Some, None, refl, ap, ◌∙◌, sym}
 use Rattle.std.specs.List.{fold}
 use Rattle.std.proofs.lemmas.Bool.{ne_eqb, eqb-true, eq-eqb, false≢true}
 use Rattle.roam_pane_list.specs.declared.clip_list.ClipPane.{ClipPane}

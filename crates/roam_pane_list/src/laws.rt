@@ -25,8 +25,8 @@ pub fn beside_is_news()
     ensures news { BesideIsNews }
 {}
 
-/// Who was told something of the texts for the clipboard that a pane's program says, and reads the lines of what is new, knows then how many
-/// there are.
+/// Who was told something of the texts for the clipboard that a pane's program says, and reads the lines of what is new, knows then how
+/// many there are.
 pub fn clips_arrive()
     ensures arrive { ClipsArrive }
 {}

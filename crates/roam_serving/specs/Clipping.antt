@@ -22,8 +22,8 @@ pub record IsFree {S : Type 0} (f : Follower S) : Type 0 where
 abbrev pub notes_clips : {S : Type 0} → ClipList → Follower S → Follower S
 notes_clips now f = record f { clips = record f.clips { told = Some now } }
 
--- What is new of them waits for it, or nothing does: to who has just asked, none that was said before is told; it isn't time; something else
--- waits for it; or there is no memory.
+-- What is new of them waits for it, or nothing does: to who has just asked, none that was said before is told; it isn't time; something
+-- else waits for it; or there is no memory.
 pub data GivesClips {S : Type 0} (may : Bool) (now : ClipList) (panes : List Pane) (gave : Bool) (old new : Follower S) : Type 0 where
   comes : old.clips.told ≡ None → gave ≡ false → new ≡ notes_clips now old → GivesClips may now panes gave old new
   paced : (told : ClipList) → old.clips.told ≡ Some told → may ≡ false → gave ≡ false → new ≡ old → GivesClips may now panes gave old new
@@ -64,7 +64,7 @@ times_clipped any moment t = record {
   due = again_at (is_time t.told moment 1000) t.told 1000;
 }
 
--- Each program was told which texts are new, no sooner than a second after the last that was told; where nobody wants them nothing was done.
+-- Each program was told which texts are new, no sooner than a second after the last that was told; where nobody wants them nothing was.
 pub record AreToldClips {S : Type 0} (contents : S → Option (List ℕ)) (times times' : ClipTimes) (moment : ℕ) (panes : List Pane)
     (olds news : List (Follower S)) : Type 0 where
   pub unwanted : any_wants olds ≡ false → (news ≡ olds) × (times' ≡ record times { due = None })

@@ -70,8 +70,8 @@ is_for_good turns = turns == 2 ^ 64 - 1
 -- Where it waited, all that goes to client starts at this moment was written, and no line that may be there was left to be done; and it was
 -- until something is due, or what stands beside the panes' terminals is to be told, or only a millisecond where datagrams are kept back;
 -- where the turns are counted, for the shortest wait.
-pub record HasRested (turns : ℕ) (server : ServerView) (now : ℕ) (clients : Clients) (may_ask : Bool) (udp : Option Udp) (telling : Option ℕ)
-    (longest : Option ℕ) : Type 0 where
+pub record HasRested (turns : ℕ) (server : ServerView) (now : ℕ) (clients : Clients) (may_ask : Bool) (udp : Option Udp)
+    (telling : Option ℕ) (longest : Option ℕ) : Type 0 where
   pub due : Option ℕ
   pub is_due : MatchBool (is_for_good turns) (IsNextDue server due) (due ≡ Some 0)
   pub flushed : IfSome longest (λ _. clients.is_flushed ≡ true)
