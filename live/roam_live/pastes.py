@@ -35,14 +35,14 @@ TOO_LONG = f"nothing is pasted: it has more than {MOST_BYTES >> 20} MB, or waits
 
 
 class Behind:
-    """Acts that are typed behind a paste: pasted ones, or those that stand in a line of their own, or others."""
+    """Acts that are typed behind a paste: as pasted ones, or all together in a line of their own, or neither."""
 
-    def __init__(self, acts: tuple[str, ...], is_pasted: bool = False, is_line: bool = False) -> None:
-        self.acts, self.is_pasted, self.is_line = acts, is_pasted, is_line
+    def __init__(self, acts: tuple[str, ...], is_pasted: bool = False, is_together: bool = False) -> None:
+        self.acts, self.is_pasted, self.is_together = acts, is_pasted, is_together
 
-    def put(self, link: StartLink) -> None:
+    def type_at(self, link: StartLink) -> None:
         """Has them typed."""
-        if self.is_line:
+        if self.is_together:
             link.say(" ; ".join(self.acts))
         else:
             link.type(*self.acts, is_pasted=self.is_pasted)
@@ -131,7 +131,7 @@ class Pastes:
             paste.is_held = True
         elif word == UNTOLD:
             place = self.waiting.index(paste)
-            self.waiting[place] = Behind(tuple(pasted_acts(paste.text, paste.is_bracketed)), is_pasted=True)
+            self.waiting[place] = Behind(tuple(pasted_acts(paste.text, paste.is_bracketed)), True)
         else:
             self.waiting.remove(paste)
             if word == REFUSED:
@@ -155,25 +155,25 @@ class Pastes:
         if self.waiting and INTERRUPT in acts and not is_pasted:
             for paste in [one for one in self.waiting if isinstance(one, Paste)]:
                 self.fail(paste, DROPPED)
-        self.put(Behind(acts, is_pasted=is_pasted))
+        self.put(Behind(acts, is_pasted))
 
     def type_together(self, *acts: str) -> None:
         """Types acts in a line of their own, behind the pastes that wait."""
-        self.put(Behind(acts, is_line=True))
+        self.put(Behind(acts, is_together=True))
 
-    def put(self, behind: Behind) -> None:
-        """Types these now, or behind the pastes that wait."""
+    def put(self, acts: Behind) -> None:
+        """Types acts now, where no paste waits."""
         if not self.waiting:
-            behind.put(self.link)
-        elif behind.acts:
-            self.waiting.append(behind)
+            acts.type_at(self.link)
+        elif acts.acts:
+            self.waiting.append(acts)
 
     def type_waiting(self) -> None:
         """Types what may be typed now."""
         while self.waiting:
             first = self.waiting[0]
             if isinstance(first, Behind):
-                first.put(self.link)
+                first.type_at(self.link)
             elif first.is_held:
                 # A line of its own, which nothing joins.
                 self.link.say(" ; ".join(["paste", *mark_acts(first.name)]))

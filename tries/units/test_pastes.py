@@ -113,6 +113,16 @@ class Handed(Case):
         self.tell(2, "lost")
         self.assertEqual(self.said, [LOST_WORDS])
 
+    def test_together(self):
+        """What is typed together stays so, and behind a paste that waits."""
+        self.pastes.type_together("focus 2", "char 61")
+        self.paste(LONG)
+        self.pastes.type("char 62")
+        self.pastes.type_together("focus 1", "char 63")
+        self.assertEqual(self.link.lines, ["focus 2 ; char 61"])
+        self.tell(1, "held")
+        self.assertEqual(self.link.lines[1:], [self.mark(1), "char 62", "focus 1 ; char 63"])
+
     def test_lost_before_held(self):
         """One that is lost before it is held is told of, and nothing is typed of it."""
         self.paste(LONG)
