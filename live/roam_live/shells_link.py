@@ -117,7 +117,7 @@ class ShellsLink(Following):
         return self.is_known or self.is_awaited()
 
     def has_room(self, length: int) -> bool:
-        """Whether a text of so many bytes may wait here: where a keeper is stopped nothing goes, not even of those that aren't wanted now."""
+        """Whether a text of so many bytes may wait here: where a keeper is stopped nothing goes, not even of those that aren't wanted."""
         return len(self.waiting) + length <= MOST_GIVING
 
     def give(self, name: str, data: bytes) -> None:

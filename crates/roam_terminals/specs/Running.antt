@@ -122,8 +122,8 @@ pub record IsNextDue (client : ClientView) (due : Option ℕ) : Type 0 where
   pub before : (now : ℕ) → now < 2 ^ 64 → has_come due now ≡ false → is_client_due client.kept (moment_of client.kept now) ≡ false
   pub at : IfSome due (λ d. is_client_due client.kept (moment_of client.kept d) ≡ true)
 
--- What follows a round: the server has ended; or it hasn't, and the run is over, and that is told as it was heard of the server; or neither,
--- and the start rests, until it next has something due.
+-- What follows a round: the server has ended; or it hasn't, and the run is over, and that is told as it was heard of the server; or
+-- neither, and the start rests, until it next has something due.
 pub data Follows {S : Type 0} (rounds : ℕ) (silence : Silence) (wait : ℕ) (end : Option End) (calls calls' : Option (List PortCall))
     (s : Shared S) : Type 0 where
   ended : Tells calls calls' (Asked (HasEnded true) ∷ []) → end ≡ Some Gone → Follows rounds silence wait end calls calls' s
@@ -152,7 +152,8 @@ abbrev pub TakesTurns : {S : Type 0} → (S → Option (List ℕ)) → (S → Op
     → Option (List PortCall) → Option (List PortCall) → Shared S → Shared S → Type 0
 TakesTurns remaining contents to rounds zero calls calls' old new = (calls' ≡ calls) × (new ≡ old)
 TakesTurns {S} remaining contents to rounds (suc n) calls calls' old new =
-    (mid : Shared S) × (between : Option (List PortCall)) × (silence : Silence) × TakesTurns remaining contents to rounds n calls between old mid
+    (mid : Shared S) × (between : Option (List PortCall)) × (silence : Silence)
+    × TakesTurns remaining contents to rounds n calls between old mid
     × TakesTurn remaining contents to rounds silence None between calls' mid new
 
 -- A whole run of so many rounds at most: all of them were taken, and what was heard of the server is told at last; or fewer were, and one

@@ -61,8 +61,8 @@ HearsAll remaining contents (t ∷ ts) (t' ∷ ts') client client' ending =
     (mid : ClientView) × (entry : Option Entry) × (later : Bool) × HearsOne remaining contents entry t t' client mid
     × HearsAll remaining contents ts ts' mid client' later × (ending ≡ (asks_end t.watches entry || later))
 
--- how many milliseconds may be waited at most after what became of a line: not at all where it was taken, since another may stand behind it;
--- ten where memory was wanting; else as long as may be, which 64 bits count
+-- how many milliseconds may be waited at most after what became of a line: not at all where it was taken, since another may stand behind
+-- it; ten where memory was wanting; else as long as may be, which 64 bits count
 abbrev pub wait_after : Taking → ℕ
 wait_after taking.Nothing = 2 ^ 64 - 1
 wait_after taking.Line = 0
@@ -71,8 +71,8 @@ wait_after taking.Waits = 2 ^ 64 - 1
 wait_after taking.NoMemory = 10
 
 -- the shortest of these waits
-abbrev pub wait_after_all : {S : Type 0} (remaining contents : S → Option (List ℕ)) (all all' : List (Terminal S)) (client client' : ClientView)
-    (ending : Bool) → HearsAll remaining contents all all' client client' ending → ℕ
+abbrev pub wait_after_all : {S : Type 0} (remaining contents : S → Option (List ℕ)) (all all' : List (Terminal S))
+    (client client' : ClientView) (ending : Bool) → HearsAll remaining contents all all' client client' ending → ℕ
 wait_after_all remaining contents [] [] client client' ending h = 2 ^ 64 - 1
 wait_after_all remaining contents [] (t ∷ ts) client client' ending h = 0
 wait_after_all remaining contents (t ∷ ts) [] client client' ending h = 0

@@ -25,8 +25,8 @@ const FULL: &[u8] = b"full\n";
 /// How many milliseconds a start waits at most whose rounds are counted, so that they end by themselves.
 const SHORT: u64 = 10;
 
-/// Where outer terminals come, and where their start rests between two rounds: a socket, or memory in a test. It has the start's ports; what
-/// it is asked is told among their calls.
+/// Where outer terminals come, and where their start rests between two rounds: a socket, or memory in a test. It has the start's ports;
+/// what it is asked is told among their calls.
 pub trait Door<S>: Ports {
     /// The stream of a terminal that comes, where one does.
     fn next(&mut self) -> Option<S>

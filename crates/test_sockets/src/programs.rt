@@ -2,8 +2,8 @@
 //!
 //! `connects PATH` and `leaves`; `writes TEXT`; `types TEXT`, in which `/` is written as the end of a line; `reads TEXT`, just that, where
 //! `/` stands for the end of a line; `sees TEXT`: it reads something in which that stands; `waits`: it is neither let go nor told anything;
-//! `is let go`: there is nothing more for it to read, or what it wrote last was never read; `is let go unread`: what it wrote last was never
-//! read.
+//! `is let go`: there is nothing more for it to read, or what it wrote last was never read; `is let go unread`: what it wrote last was
+//! never read.
 use mio::net::UnixStream;
 use std::io::{ErrorKind, Read, Write};
 use std::str::from_utf8;

@@ -5,8 +5,8 @@
 //! `well`, with what was heard, or with the fault, is a run that ends so: `serves FOLDER` of `serve` at any free port, `serves alone
 //! FOLDER` without one, `serves taken FOLDER` at one that is bound; `types PATH` of `attach` that types the acts of a file where nobody
 //! answers; `watches 3` of one that only watches and takes so many turns; `follows FOLDER` of one that reaches its server there, `follows
-//! bound FOLDER` while the sockets there are bound; `hears TEXT` of one that types the lines of a stream where nobody answers. Behind `types`
-//! and `watches` stands `closed` where the outer terminal is closed, and `unread` where what is painted goes where nobody reads.
+//! bound FOLDER` while the sockets there are bound; `hears TEXT` of one that types the lines of a stream where nobody answers. Behind
+//! `types` and `watches` stands `closed` where the outer terminal is closed, and `unread` where what is painted goes where nobody reads.
 use crate::files::ports_in;
 use roam_attaching::{
     Attach, ClientPorts, Connection, Home, Typed, client_for, follow, run_attach,

@@ -235,10 +235,10 @@ round
 acts 3
 terminals 1";
 
-/// A terminal that asks for records is told in them, behind what was painted before: which of its lines are taken, and what of the screen is
-/// shown, of which size and from where on, opened anew where it isn't known what the terminal shows. A line whose acts aren't acknowledged
-/// is told to nobody, and one that is refused is told by its number. Only the second line may say that it watches, and none but the first
-/// asks for records; a terminal that doesn't is refused what is told in records alone.
+/// A terminal that asks for records is told in them, behind what was painted before: which of its lines are taken, and what of the
+/// screen is shown, of which size and from where on, opened anew where it isn't known what the terminal shows. A line whose acts aren't
+/// acknowledged is told to nobody, and one that is refused is told by its number. Only the second line may say that it watches, and
+/// none but the first asks for records; a terminal that doesn't is refused what is told in records alone.
 const TOLD: &str = "\
 first connects told/terminals
 second connects told/terminals
