@@ -9,7 +9,7 @@ import time
 
 from roam_live.loops import comes
 from roam_live.places import ASKED
-from roam_live.program import Fault, Lines, connected_in, connected_now, is_own_folder, read, reason
+from roam_live.program import Fault, Lines, SocketPeer, connected_in, connected_now, is_own_folder, read, reason
 
 TYPE_CHECKING = False
 if TYPE_CHECKING:
@@ -28,6 +28,9 @@ BRINGS, BROUGHT = "brings", "brought"
 
 # What names the agent of ssh, and the name of the link to it in a session's folder.
 AGENT, LINK = "SSH_AUTH_SOCK", "agent"
+
+# How the tool is called that stands for a server of another machine.
+RELAYS = (b"relay", b"roam-relay")
 
 # A path leads over so many links at most, by the system's own rule.
 MOST_LINKS = 40
@@ -149,10 +152,20 @@ def agent_in(folder: str | os.PathLike[str]) -> str:
 # ---- who brings, and who asks
 
 
+def is_relayed(folder: str | os.PathLike[str]) -> bool:
+    """Whether a relay to another machine stands for the server of a folder, as its process's words tell."""
+    try:
+        with connected_now(os.path.join(folder, "clients")) as peer, open(f"/proc/{SocketPeer.of(peer).process}/cmdline", "rb") as told:
+            words = told.read().split(b"\0")
+    except OSError:
+        return False
+    return any(os.path.basename(word) in RELAYS for word in words[:2])
+
+
 def brings_to(session: AnySession, watches: bool) -> list[str]:
     """Renews the link of a session, and gives the lines by which this terminal brings its values; nothing by one that only watches, or to
     a session of another machine, to which the far end brings what it has there."""
-    if watches or session.folder is None or session.served != "server":
+    if watches or session.folder is None or session.served != "server" or is_relayed(session.folder):
         return []
     renew_agent(session.folder)
     return value_lines(BRINGS, own_values())

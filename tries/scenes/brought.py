@@ -81,6 +81,18 @@ def brought_far(folder):
         near = next(path.name for path in (folder / "roam").iterdir() if path.name.startswith("ssh:"))
         check(f"{display}: mux env here is refused", said("env", near)[0] == 1, said("env", near))
         subprocess.run(tool("mux", "kill", "-f", near), check=True)
+    near = folder / "near"
+    near.mkdir(mode=0o700)
+    carries = f"XDG_RUNTIME_DIR={far} DISPLAY=:83 exec {TOOLS / 'mux'} far other"
+    relay = subprocess.Popen(tool("relay", "--dir", str(near), "-", "sh", "-c", carries), stdout=subprocess.DEVNULL)
+    comes(lambda: (near / "shells").is_socket())
+    outer = Outer(tool("attach", str(near)), environment={**own, "SSH_AUTH_SOCK": two})
+    check("a front end at a relay of one's own shows it", outer.shows("$ "), outer.rows)
+    outer.type(b"echo he''re\r")
+    outer.shows("here")
+    told = subprocess.run(tool("mux", "env", "other"), env=there, stdout=subprocess.PIPE, check=True).stdout.decode()
+    check("and brings nothing itself", "DISPLAY=:83\n" in told and not (near / "agent").is_symlink(), told)
     subprocess.run(tool("mux", "kill", "-f", "other"), env=there, check=True)
+    relay.wait()
     for end in ends:
         end.close()

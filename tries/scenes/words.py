@@ -19,7 +19,7 @@ def words(folder):
     odd = {word: told for word, told in helps.items() if told[0] != 0 or not told[1].startswith(f"usage: mux {word} ")}
     check("each word of mux has a help", not odd, odd)
     check("detach tells what leaves", said("detach", "other")[0] == 1 and "C-b d" in said("detach")[2], said("detach"))
-    for word in ("attach", "send", "paste", "capture", "watch"):
+    for word in ("attach", "send", "paste", "capture", "env", "watch"):
         told = said(word, "other", *(["char 61"] if word == "send" else []))
         check(f"mux {word} refuses a session that isn't there", told == (1, "", "mux: no session other is running\n"), told)
     check("mux new refuses what is no command", said("new", "-d", "other", "/no/command")[0] == 1, said("ls"))

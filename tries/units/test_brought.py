@@ -166,6 +166,19 @@ class Brings(Case):
         self.assertEqual(brings_to(self.session, False)[0], "brings DISPLAY 3a37")
         self.assertTrue(self.has_link())
 
+    def test_relayed(self):
+        """To a relay's folder nothing is brought, however the session was named: its keeper is at another machine."""
+        self.assertFalse(brought.is_relayed(self.folder))
+        self.listening(self.folder / "clients")
+        told = (("python3\0/usr/bin/roam-relay\0--dir\0d\0", True), ("python3\0/x/live/relay\0", True), ("/x/relay\0", True),
+                ("/x/roam\0serve\0--dir\0relay\0", False), ("", False))
+        for words, is_relayed in told:
+            with mock.patch.object(brought, "open", mock.mock_open(read_data=words.encode()), create=True) as opens:
+                self.assertEqual(brings_to(self.session, False) == [], is_relayed, words)
+            opens.assert_called_once_with(f"/proc/{os.getpid()}/cmdline", "rb")
+            self.assertEqual(self.has_link(), not is_relayed)
+            (self.folder / "agent").unlink(missing_ok=True)
+
     def test_far(self):
         """The far end brings at once, where a keeper is; where none is it goes on."""
         bring(self.session)

@@ -386,7 +386,7 @@ class Words(Mux):
     def test_plain(self):
         """What argparse would make of words with a name at most."""
         for word, rest in (("attach", []), ("attach", ["x"]), ("new", ["x"]), ("ls", []), ("watch", ["x"]), ("kill", ["x"]),
-                           ("capture", ["x"]), ("far", ["x"]), ("help", []), ("help", ["ls"]), ("detach", [])):
+                           ("capture", ["x"]), ("env", ["x"]), ("far", ["x"]), ("help", []), ("help", ["ls"]), ("detach", [])):
             plain = mux.plain_words(word, rest)
             parsed = vars(mux.parser_of(word).parse_args(rest))
             if plain is not None:
