@@ -97,6 +97,11 @@ class Agents(Case):
             self.assertEqual(self.renew(self.two), self.one)
         self.assertEqual(os.listdir(self.folder), ["agent"])
 
+    def test_another_folder(self):
+        """In a folder of another user no link is made."""
+        with mock.patch.object(brought, "is_own_folder", return_value=False):
+            self.assertIsNone(self.renew(self.one))
+
     def test_full(self):
         """Where no link can be made the old one stays."""
         self.renew(self.one)
@@ -210,7 +215,10 @@ class Brings(Case):
     def test_told(self):
         """A shell has exactly what was brought, and runs nothing of it; the link where there is one."""
         renew_agent(self.folder)
+        waits = self.patch_of(brought, "comes", side_effect=brought.comes)
         lines = self.told(f"brought DISPLAY {HOSTILE.encode().hex()}", "brought WAYLAND_DISPLAY none", "brought SSH_CONNECTION 2d6e")
+        # Once all is told nothing more is waited for.
+        self.assertEqual(waits.call_count, 1)
         script = "\n".join([*lines, 'printf "%s|" "$DISPLAY" "${WAYLAND_DISPLAY-unset}" "$SSH_CONNECTION" "$SSH_AUTH_SOCK"; ls'])
         run = subprocess.run(["sh", "-c", script], cwd=self.made_folder(), stdout=subprocess.PIPE, stderr=subprocess.PIPE, check=True,
                              env={"WAYLAND_DISPLAY": "old", "PATH": os.environ["PATH"]})
