@@ -6,7 +6,7 @@ _roam_mux_names() {
     "$@" ls 2> /dev/null | while read -r name _; do echo "$name"; done
 }
 
-_roam_mux_words="attach new ls list watch kill send paste capture ssh help --help --version"
+_roam_mux_words="attach new ls list watch kill send paste capture env ssh help --help --version"
 
 # The acts that a client types, a line each; a number, a size or a character is left to the person.
 _roam_acts() {
@@ -49,7 +49,7 @@ _roam_mux() {
     ssh) mapfile -t COMPREPLY < <(compgen -A hostname -W "--ssh --far --guess --help" -- "$word") && return ;;
     mux | roam-mux | */mux | */roam-mux) words="$_roam_mux_words $(_roam_mux_names "${mux[@]}")" ;;
     attach) words="--guess --help $(_roam_mux_names "${mux[@]}")" ;;
-    watch) words="--help $(_roam_mux_names "${mux[@]}")" ;;
+    watch | env) words="--help $(_roam_mux_names "${mux[@]}")" ;;
     send) words="-l --help $(_roam_mux_names "${mux[@]}")" ;;
     paste) words="--raw --help $(_roam_mux_names "${mux[@]}")" ;;
     kill) words="-f --help $(_roam_mux_names "${mux[@]}")" ;;

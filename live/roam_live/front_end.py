@@ -7,6 +7,7 @@ from collections.abc import Callable
 
 from roam_live.bells import BellFollower
 from roam_live.bindings import NEWEST
+from roam_live.brought import brings_to
 from roam_live.choices import sets_clipboard, wants_mouse
 from roam_live.commands import Commands
 from roam_live.display import Display
@@ -57,6 +58,7 @@ class FrontEnd:
         self.panes = PanesFollower(session.folder, self.loop, lambda: self.commands.told(), self.untold)
         self.keeper = Keeper(session, self.link, self.panes.is_full)
         keeper = ShellsLink(session.folder, self.loop, self.display.outer.size, watches, lambda: self.commands.others_told())
+        keeper.brings = brings_to(session, watches)
         self.commands = Commands(session, self.panes, self.link, self.display, self.loop, self.leave, is_new, is_whole, keeper)
         self.commands.choose(prefix)
         self.commands.pointing.is_on = has_mouse

@@ -6,7 +6,7 @@ TMUX_WORDS = {
     "a": "attach", "at": "attach", "att": "attach", "attach-session": "attach", "capture-pane": "capture", "capturep": "capture",
     "det": "detach", "detach-client": "detach", "has-session": "ls", "kill-server": "kill", "kill-session": "kill", "list-clients": "ls",
     "list-commands": "help", "list-keys": "help", "list-sessions": "ls", "lsc": "ls", "lscm": "help", "lsk": "help", "new-session": "new",
-    "send-keys": "send", "start-server": "new",
+    "send-keys": "send", "show-environment": "env", "showenv": "env", "start-server": "new",
 }
 
 # A slip may be of two letters in a word that has so many, and of one in a shorter one.

@@ -8,6 +8,7 @@ import shlex
 import subprocess
 import zlib
 
+from roam_live.brought import bring
 from roam_live.choices import wants_udp
 from roam_live.program import TOOLS
 from roam_live.relayed import greeting, read_greeting
@@ -81,7 +82,7 @@ def is_first_start(places: Places | None) -> bool:
 
 def carry(name: str, launched: Callable[[FolderSession], bool]) -> int:
     """Carries a session's datagrams over standard input and output. One that the other end knew and that has ended isn't launched anew;
-    whether another runs, or was begun halfway, a call tells under its lock."""
+    whether another runs, or was begun halfway, a call tells under its lock. What sshd set here is brought to the session."""
     wanted = read_greeting(0)
     session = FolderSession.named(name)
     if wanted == "-":
@@ -91,5 +92,6 @@ def carry(name: str, launched: Callable[[FolderSession], bool]) -> int:
     elif not session.find() or session.id() != wanted:
         os.write(1, greeting("0"))
         return 0
+    bring(session)
     words = [str(TOOLS / "relay"), "--far", "--greeted", "--server", str(session.process("server")), "--dir", str(session.folder), "-"]
     return os.execv(words[0], words)

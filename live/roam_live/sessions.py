@@ -12,6 +12,7 @@ import signal
 import stat
 from collections.abc import Iterable
 
+from roam_live.brought import LINK
 from roam_live.processes import Processes
 from roam_live.program import (TOOLS, Fault, begun, count_front_ends, end_words, is_listened, is_own_folder, is_stopped, note_end,
                                program, replace_text, say)
@@ -280,7 +281,7 @@ class FolderSession(Processes):
             raise Fault(f"somebody answers at {self.folder / 'clients'}; nothing is removed there")
         folders = [self.folder / name for name in ("attached", "relays")]
         # An earlier roam left `rects`.
-        notes = [self.folder / name for name in (*SOCKETS, "rects", "session", "session.new", "state.json")]
+        notes = [self.folder / name for name in (*SOCKETS, LINK, "rects", "session", "session.new", "state.json")]
         for path in [*(note for folder in folders if folder.is_dir() for note in folder.iterdir()), *notes]:
             path.unlink(missing_ok=True)
 

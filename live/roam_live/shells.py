@@ -1,5 +1,5 @@
-"""The socket `shells` of a session's folder, at which who keeps the shells knows who is at the session, is given texts that are pasted, and
-tells what runs in the panes."""
+"""The socket `shells` of a session's folder, at which who keeps the shells knows who is at the session and what they brought, is given
+texts that are pasted, and tells what runs in the panes."""
 from __future__ import annotations
 
 import os
@@ -7,6 +7,7 @@ import re
 import socket
 from collections.abc import Callable
 
+from roam_live.brought import BROUGHT, Brought
 from roam_live.given import KEPT, LOST, GivenText, GivenTexts
 from roam_live.listeners import Listener
 from roam_live.loops import Loop
@@ -68,6 +69,10 @@ class ShellsPeer:
         self.giving: Giving | None = None
         self.names: dict[str, None] = {}
 
+    def watches(self) -> bool:
+        """Whether it said that it only watches."""
+        return self.presence is not None and self.presence.kind == "watches"
+
     def wants(self, name: str) -> None:
         """Notes that it wants to know what becomes of a text."""
         self.names.pop(name, None)
@@ -94,6 +99,7 @@ class ShellsSocket:
         # By it those who come again know whether this is the keeper that was there before.
         self.name = random_name()
         self.texts = GivenTexts(loop, self.tell_text)
+        self.brought = Brought()
         # Whether something is new of who is there.
         self.is_new = False
         self.listener: Listener | None = None
@@ -155,7 +161,9 @@ class ShellsSocket:
         elif asks:
             peer.wants(asks[1])
             self.send(peer, [f"{self.texts.state(asks[1])} {asks[1]}"])
-        else:
+        elif line == BROUGHT:
+            self.send(peer, self.brought.lines())
+        elif peer.watches() or not self.brought.take(line):
             self.send(peer, [BAD_LINE])
 
     # ---- texts that are given

@@ -52,6 +52,8 @@ class ShellsLink(Following):
         self.giving: dict[str, bytes] = {}
         self.given: dict[str, None] = {}
         self.answers: Callable[[str, str, str], object] = lambda name, word, more: None
+        # The lines by which this terminal brings what new panes have, once to each keeper: behind a cut another may have brought since.
+        self.brings: list[str] = []
         if folder:
             self.connect()
 
@@ -96,6 +98,8 @@ class ShellsLink(Following):
         """Goes on with a keeper: what it doesn't hold yet is given again. To another one all is lost that was given before: what was pasted
         into a program isn't put into the shell that is in its place."""
         is_other = self.keeper not in ("", name)
+        for line in self.brings if name != self.keeper else ():
+            self.ask(line)
         self.keeper, self.is_there = name, True
         if is_other:
             self.lose(LOST)
@@ -117,7 +121,7 @@ class ShellsLink(Following):
         return self.is_known or self.is_awaited()
 
     def has_room(self, length: int) -> bool:
-        """Whether a text of so many bytes may wait here: where a keeper is stopped nothing goes, not even of those that aren't wanted."""
+        """Whether a text of so many bytes may wait here: where a keeper is stopped nothing goes, not even what isn't wanted any more."""
         return len(self.waiting) + length <= MOST_GIVING
 
     def give(self, name: str, data: bytes) -> None:

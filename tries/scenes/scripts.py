@@ -29,6 +29,14 @@ def pages(folder):
 
 
 @scene
+def claims(folder):
+    """What TERM claims of a pane."""
+    run = subprocess.run(script("try_claims", PROGRAM), stdout=subprocess.PIPE, stderr=subprocess.STDOUT, check=False)
+    print(run.stdout.decode("utf-8", "replace"), end="", flush=True)
+    check("each capability of TERM's entry holds, or is named", run.returncode == 0, run.returncode)
+
+
+@scene
 def traced(folder):
     """What the page on the live session tells of files, sockets and processes."""
     run = subprocess.run(script("try_traced", PROGRAM), stdout=subprocess.PIPE, stderr=subprocess.STDOUT, check=False)

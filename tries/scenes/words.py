@@ -15,11 +15,11 @@ from roam_live.program import TOOLS
 def words(folder):
     """The words of `mux` that a script uses, and what they refuse."""
     check("mux --version tells the program's", said("--version")[:2] == (0, "roam 0.1.0\n"), said("--version"))
-    helps = {word: said(word, "--help") for word in "attach new detach ls list watch kill send paste capture ssh far help".split()}
+    helps = {word: said(word, "--help") for word in "attach new detach ls list watch kill send paste capture env ssh far help".split()}
     odd = {word: told for word, told in helps.items() if told[0] != 0 or not told[1].startswith(f"usage: mux {word} ")}
     check("each word of mux has a help", not odd, odd)
     check("detach tells what leaves", said("detach", "other")[0] == 1 and "C-b d" in said("detach")[2], said("detach"))
-    for word in ("attach", "send", "paste", "capture", "watch"):
+    for word in ("attach", "send", "paste", "capture", "env", "watch"):
         told = said(word, "other", *(["char 61"] if word == "send" else []))
         check(f"mux {word} refuses a session that isn't there", told == (1, "", "mux: no session other is running\n"), told)
     check("mux new refuses what is no command", said("new", "-d", "other", "/no/command")[0] == 1, said("ls"))

@@ -73,6 +73,8 @@ class Completion(unittest.TestCase):
     def test_sessions(self):
         self.assertEqual(completed("_roam_mux", "mux", "attach", "m"), ["main"])
         self.assertEqual(completed("_roam_mux", "mux", "at"), ["attach"])
+        self.assertEqual(completed("_roam_mux", "mux", "en"), ["env"])
+        self.assertEqual(completed("_roam_mux", "mux", "env", "w"), ["work"])
 
 
 if __name__ == "__main__":

@@ -3,7 +3,7 @@ import unittest
 
 from roam_live.meant import TMUX_WORDS, meant, slips
 
-WORDS = ["attach", "new", "detach", "ls", "list", "watch", "kill", "send", "capture", "ssh", "far", "help"]
+WORDS = ["attach", "new", "detach", "ls", "list", "watch", "kill", "send", "capture", "env", "ssh", "far", "help"]
 
 # Slips, and what was meant.
 SLIPS = {
@@ -28,7 +28,7 @@ class Meant(unittest.TestCase):
             self.assertEqual(meant(name, WORDS), word, name)
 
     def test_words_of_tmux(self):
-        for name in ("list-sessions", "a", "new-session", "kill-session", "attach-session", "detach-client"):
+        for name in ("list-sessions", "a", "new-session", "kill-session", "attach-session", "detach-client", "showenv"):
             self.assertIn(TMUX_WORDS[name], WORDS)
         self.assertEqual(meant("a", WORDS), "attach")
         self.assertEqual(meant("list-sessions", WORDS), "ls")

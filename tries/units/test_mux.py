@@ -1,12 +1,13 @@
 """What the words of mux do, and how they are read."""
 import argparse
+import io
 import os
 import pathlib
 import types
 from unittest import mock
 
 from aids import Case, loaded
-from roam_live import captures, choices, front_end, giving, remote, sending, sessions, targets
+from roam_live import brought, captures, choices, front_end, giving, remote, sending, sessions, targets
 from roam_live.places import Places, Rect
 from roam_live.program import Fault
 from roam_live.relayed import greeting
@@ -360,13 +361,32 @@ class Far(Mux):
         becomes.assert_called_once()
 
 
+class Environment(Mux):
+    """What `mux env` prints."""
+
+    def test_printed(self):
+        """The lines for a shell, byte by byte; a session that isn't there, and one of another machine, is refused."""
+        out = io.TextIOWrapper(io.BytesIO(), encoding="ascii")
+        self.patch_of(mux.sys, "stdout", out)
+        lines = self.patch_of(brought, "shell_lines", return_value=["export DISPLAY=:0", "export SSH_AUTH_SOCK='/a\udcff b'"])
+        self.refuses("no session work is running", "env", "work")
+        self.runs.add("work")
+        self.assertEqual(self.mux("env", "work"), 0)
+        self.assertEqual(out.buffer.getvalue(), b"export DISPLAY=:0\nexport SSH_AUTH_SOCK='/a\xff b'\n")
+        self.assertEqual(lines.call_args[0][0].name, "work")
+        (self.base / "ssh:there:main").mkdir()
+        self.runs.add("ssh:there:main")
+        told = "session ssh:there:main is of another machine: what its panes have is told there"
+        self.refuses(told, "env", "ssh:there:main")
+
+
 class Words(Mux):
     """How words are read."""
 
     def test_plain(self):
         """What argparse would make of words with a name at most."""
         for word, rest in (("attach", []), ("attach", ["x"]), ("new", ["x"]), ("ls", []), ("watch", ["x"]), ("kill", ["x"]),
-                           ("capture", ["x"]), ("far", ["x"]), ("help", []), ("help", ["ls"]), ("detach", [])):
+                           ("capture", ["x"]), ("env", ["x"]), ("far", ["x"]), ("help", []), ("help", ["ls"]), ("detach", [])):
             plain = mux.plain_words(word, rest)
             parsed = vars(mux.parser_of(word).parse_args(rest))
             if plain is not None:
@@ -423,7 +443,7 @@ class Words(Mux):
         page = PAGE.read_text(encoding="utf-8")
         for word in mux.WORDS:
             self.assertRegex(page, rf"\b{word}\b")
-        self.assertEqual(list(mux.WORDS), "attach new detach ls list watch kill send paste capture ssh far help".split())
+        self.assertEqual(list(mux.WORDS), "attach new detach ls list watch kill send paste capture env ssh far help".split())
 
     def test_ssh_words(self):
         asked = mux.asked_by("ssh", ["-p", "22", "--far", "f", "there"])

@@ -14,6 +14,7 @@ import unittest
 import unittest.mock
 
 from aids import StillLoop, loaded
+from roam_live.brought import Brought
 from roam_live.given import GivenTexts
 from roam_live.program import TOOLS
 from roam_live.programs import group_in_front, working_folder
@@ -37,7 +38,7 @@ class Surroundings(unittest.TestCase):
     def test_not_asked(self):
         """The pane's name, and nothing that tells of another terminal or asks the programs of a session why they ended."""
         with unittest.mock.patch.dict(os.environ, {"ROAM_WHY": "1", "TMUX": "another", "KEPT": "one"}):
-            found = shells.surroundings("folder", 3)
+            found = shells.surroundings("folder", 3, Brought())
         self.assertEqual((found.get("ROAM_WHY"), found.get("TMUX"), found["KEPT"], found["ROAM_PANE"]), (None, None, "one", "folder:3"))
 
 

@@ -319,6 +319,20 @@ class Links(Sockets):
         self.turn(one, other)
         self.assertEqual((one.has_others(), other.has_others()), (True, True))
 
+    def test_brings(self):
+        """What a terminal brings is brought once to each keeper, and not again where a connection to the same one comes again."""
+        one = self.link()
+        one.brings = ["brings DISPLAY 3a37", "brings SSH_CONNECTION none"]
+        self.turn(one)
+        values = self.socket.brought.values
+        self.assertEqual((values["DISPLAY"], values["SSH_CONNECTION"]), (":7", ""))
+        for name, wanted in ((NAMED, "later"), ("another", ":7")):
+            self.socket.name, values["DISPLAY"] = name, "later"
+            one.lost("ended")
+            self.now += PAUSES[-1]
+            self.turn(one)
+            self.assertEqual(values["DISPLAY"], wanted)
+
     def test_none(self):
         """Where nobody knows the socket, or tells nothing, nothing is known, and that isn't awaited for long; no folder has none."""
         folder = self.made_folder()

@@ -1,0 +1,98 @@
+"""What an attach brings: an agent of ssh that serves older shells, and values that new panes have."""
+import os
+import socket
+import subprocess
+
+from tried import Outer, check, comes, said, scene, tool
+from roam_live.program import TOOLS
+
+NOTHING = {name: "" for name in ("SSH_AUTH_SOCK", "DISPLAY", "WAYLAND_DISPLAY", "SSH_CONNECTION")}
+HOSTILE = "a'b $(echo no)`id`"
+
+
+def agents(folder):
+    """Two sockets that stand for agents, and their paths."""
+    made = [socket.socket(socket.AF_UNIX) for _ in range(2)]
+    paths = [str(folder / name) for name in ("one", "two")]
+    for end, path in zip(made, paths):
+        end.bind(path)
+        end.listen()
+    return made, paths
+
+
+def readlink(outer, wanted):
+    """Whether the agent of the shell in focus is at this path."""
+    outer.type(b'clear; readlink "$SSH_AUTH_SOCK"\r')
+    return outer.shows(f"{wanted} ") or outer.rows()
+
+
+@scene
+def brought(folder):
+    """A later attach's agent serves an older shell; new panes have its values, and `mux env` tells them to a shell; who watches brings
+    nothing."""
+    ends, (one, two) = agents(folder)
+    first = Outer(tool("mux", "other"), environment={**NOTHING, "SSH_AUTH_SOCK": one, "DISPLAY": ":71"})
+    check("a session is launched with an agent", first.shows("$ ") and readlink(first, one) is True, first.rows)
+    check("and with a display", said("env", "other")[1].splitlines()[:3] == ["export DISPLAY=:71", "unset WAYLAND_DISPLAY",
+                                                                             "unset SSH_CONNECTION"], said("env", "other"))
+    more = {**NOTHING, "SSH_AUTH_SOCK": two, "SSH_CONNECTION": HOSTILE}
+    watcher = Outer(tool("mux", "watch", "other"), environment=more)
+    holds = watcher.shows("$ ") and readlink(first, one) is True and ":71" in said("env", "other")[1]
+    check("who watches brings nothing", holds, first.rows)
+    second = Outer(tool("mux", "attach", "other"), environment=more)
+    check("another attaches with another agent", second.shows("$ ") and comes(lambda: ":71" not in said("env", "other")[1]), second.rows)
+    check("which serves the older shell", readlink(first, two) is True, first.rows)
+    first.type(b"\x02%")
+    first.status(" 1 [2]")
+    first.type(b'printf "<%s>" "${DISPLAY-unset}" "$SSH_CONNECTION"\r')
+    check("a new pane has what that brought, and no more", first.shows(f"<unset><{HOSTILE}>"), first.rows)
+    first.type(b'clear; readlink "$SSH_AUTH_SOCK"\r')
+    check("and the agent", first.shows(two), first.rows)
+    first.type(b"\x021clear; " + f'eval "$({TOOLS}/mux env other)"; printf "<%s>" "${{DISPLAY-unset}}" "$SSH_CONNECTION"\r'.encode())
+    check("the older shell has it by mux env", first.shows(f"<unset><{HOSTILE}>"), first.rows)
+    third = Outer(tool("mux", "attach", "other"), environment=NOTHING)
+    check("one without an agent leaves that", third.shows("$ ") and readlink(first, two) is True, first.rows)
+    subprocess.run(tool("mux", "kill", "-f", "other"), check=True)
+    check("the link goes with the session", comes(lambda: not os.path.lexists(folder / "roam/other/agent")), folder)
+    for end in ends:
+        end.close()
+
+
+@scene
+def brought_far(folder):
+    """`mux ssh` brings what sshd set at the other machine, each time that ssh is spawned."""
+    ends, (one, two) = agents(folder)
+    far, sets, stand_in = folder / "far", folder / "sets", folder / "ssh"
+    far.mkdir(mode=0o700)
+    stand_in.write_text('#!/bin/sh\n[ "$1" != -G ] || exit 1\nshift\nexec sh -c "$*"\n', encoding="utf-8")
+    stand_in.chmod(0o755)
+    words = tool("mux", "ssh", "--ssh", str(stand_in), "--far", f". {sets}; XDG_RUNTIME_DIR={far} exec {TOOLS / 'mux'}", "there", "other")
+    own = {**NOTHING, "DISPLAY": ":own"}
+    for agent, display in ((one, ":81"), (two, ":82")):
+        sets.write_text(f"export SSH_AUTH_SOCK={agent} DISPLAY={display}\n", encoding="utf-8")
+        outer = Outer(words, environment=own)
+        check(f"{display}: a session there is shown", outer.shows("$ "), outer.rows)
+        check(f"{display}: its shell has the agent that came with it", readlink(outer, agent) is True, outer.rows)
+        there = {**os.environ, "XDG_RUNTIME_DIR": str(far)}
+        told = subprocess.run(tool("mux", "env", "other"), env=there, stdout=subprocess.PIPE, check=True)
+        check(f"{display}: new panes have the display of there", f"export DISPLAY={display}\n" in told.stdout.decode(), told.stdout)
+        outer.type(b"\x02d")
+        outer.ends()
+        near = next(path.name for path in (folder / "roam").iterdir() if path.name.startswith("ssh:"))
+        check(f"{display}: mux env here is refused", said("env", near)[0] == 1, said("env", near))
+        subprocess.run(tool("mux", "kill", "-f", near), check=True)
+    near = folder / "near"
+    near.mkdir(mode=0o700)
+    carries = f"XDG_RUNTIME_DIR={far} DISPLAY=:83 exec {TOOLS / 'mux'} far other"
+    relay = subprocess.Popen(tool("relay", "--dir", str(near), "-", "sh", "-c", carries), stdout=subprocess.DEVNULL)
+    comes(lambda: (near / "shells").is_socket())
+    outer = Outer(tool("attach", str(near)), environment={**own, "SSH_AUTH_SOCK": two})
+    check("a front end at a relay of one's own shows it", outer.shows("$ "), outer.rows)
+    outer.type(b"echo he''re\r")
+    outer.shows("here")
+    told = subprocess.run(tool("mux", "env", "other"), env=there, stdout=subprocess.PIPE, check=True).stdout.decode()
+    check("and brings nothing itself", "DISPLAY=:83\n" in told and not (near / "agent").is_symlink(), told)
+    subprocess.run(tool("mux", "kill", "-f", "other"), env=there, check=True)
+    relay.wait()
+    for end in ends:
+        end.close()

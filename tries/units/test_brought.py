@@ -1,0 +1,261 @@
+"""What an attach brings to a session: the link to an agent, values of its environment, and how a shell is told of them."""
+import contextlib
+import os
+import socket
+import subprocess
+import threading
+import types
+import unittest
+from unittest import mock
+
+from aids import Case, StillLoop, loaded, read_now
+from roam_live import brought
+from roam_live.brought import (BRINGS, BROUGHT, LONGEST_VALUE, Brought, agent_in, asked_values, begin_agent, bring, brings_to, renew_agent,
+                               shell_lines)
+from roam_live.program import Fault
+from roam_live.shells import ShellsSocket
+
+HOSTILE = "$(touch x)'\";`id`\\ #"
+
+
+class Values(Case):
+    """The values, and the lines that tell them."""
+
+    def setUp(self):
+        self.environment(DISPLAY=":0", WAYLAND_DISPLAY=None, SSH_CONNECTION="::1 5 ::1 22")
+
+    def test_lines(self):
+        """What is told and taken again is what was told; none where none is set."""
+        self.assertEqual(Brought().lines(), ["brought DISPLAY 3a30", "brought WAYLAND_DISPLAY none",
+                                             "brought SSH_CONNECTION 3a3a312035203a3a31203232"])
+        for value in ("x", HOSTILE, " ", "~" * LONGEST_VALUE, ""):
+            self.environment(WAYLAND_DISPLAY=value)
+            line = brought.value_lines(BRINGS, brought.own_values())[1]
+            self.assertLess(len(line), 255)
+            known = Brought()
+            known.values = dict.fromkeys(brought.NAMES, "other")
+            self.assertTrue(known.take(line))
+            self.assertEqual(known.values["WAYLAND_DISPLAY"], value)
+
+    def test_not_told(self):
+        """What is longer, or isn't printable ASCII, is as if it weren't set."""
+        for value in ("x" * (LONGEST_VALUE + 1), "a\x1b[2J", "a\nb", "\u00e9", "\udcff", "\x7f"):
+            self.environment(DISPLAY=value)
+            self.assertEqual((Brought().lines()[0], Brought().set_values()), ("brought DISPLAY none", {"SSH_CONNECTION": "::1 5 ::1 22"}))
+
+    def test_refused(self):
+        """What is no such line changes nothing."""
+        known = Brought()
+        for line in ("", "brings", "brings DISPLAY", "brings DISPLAY ", "brings DISPLAY 3", "brings DISPLAY 3A", "brings DISPLAY 3a 3a",
+                     "brings DISPLAY 3a ", "brings DISPLAY 1b", "brings DISPLAY e9", "brings DISPLAY 0a", "brings LD_PRELOAD 3a30",
+                     "brought DISPLAY 3a31", "brings  3a", f"brings DISPLAY {'3a' * (LONGEST_VALUE + 1)}", "brings DISPLAY \u0663\u0663"):
+            self.assertFalse(known.take(line), line)
+        self.assertEqual(known.values, {"DISPLAY": ":0", "WAYLAND_DISPLAY": "", "SSH_CONNECTION": "::1 5 ::1 22"})
+        self.assertTrue(known.take("brings DISPLAY none"))
+        self.assertEqual(known.set_values(), {"SSH_CONNECTION": "::1 5 ::1 22"})
+
+
+class Agents(Case):
+    """The link to the agent."""
+
+    def setUp(self):
+        self.folder, self.other = self.made_folder(), self.made_folder()
+        self.link = self.folder / "agent"
+        self.one, self.two = (self.agent(name) for name in ("one", "two"))
+
+    def agent(self, name):
+        """An agent's socket; its path."""
+        self.listening(self.other / name)
+        return str(self.other / name)
+
+    def renew(self, path):
+        """What the link leads to once an attach with this variable renewed it."""
+        self.environment(SSH_AUTH_SOCK=path)
+        renew_agent(self.folder)
+        return os.readlink(self.link) if self.link.is_symlink() else None
+
+    def test_renewed(self):
+        """Each attach has it lead to its own agent, and nothing stands beside it behind that, also of one that was killed."""
+        (self.folder / f"agent.{os.getpid()}").touch()
+        self.assertEqual([self.renew(path) for path in (self.one, self.two)], [self.one, self.two])
+        self.assertEqual(os.listdir(self.folder), ["agent"])
+        with socket.socket(socket.AF_UNIX) as peer:
+            peer.connect(str(self.link))
+
+    def test_refused(self):
+        """What is no socket of this user leaves the link as it was, or makes none."""
+        file = self.other / "file"
+        file.touch()
+        wrong = (None, "", str(file), str(self.other), str(self.other / "gone"), os.path.relpath(self.one), "x" * 5000)
+        for path in wrong:
+            self.assertIsNone(self.renew(path), path)
+        self.renew(self.one)
+        for path in wrong:
+            self.assertEqual(self.renew(path), self.one, path)
+        with mock.patch("os.getuid", return_value=os.getuid() + 1):
+            self.assertFalse(brought.is_socket(self.two, True))
+            self.assertEqual(self.renew(self.two), self.one)
+        self.assertEqual(os.listdir(self.folder), ["agent"])
+
+    def test_another_folder(self):
+        """In a folder of another user no link is made."""
+        with mock.patch.object(brought, "is_own_folder", return_value=False):
+            self.assertIsNone(self.renew(self.one))
+
+    def test_full(self):
+        """Where no link can be made the old one stays."""
+        self.renew(self.one)
+        for call in ("symlink", "replace"):
+            with mock.patch.object(brought.os, call, side_effect=OSError(28, "full")):
+                self.assertEqual(self.renew(self.two), self.one)
+        self.assertEqual(os.listdir(self.folder), ["agent"])
+
+    def test_itself(self):
+        """No link leads to itself, by however many others: an attach from a pane of the session brings the agent that it has from there."""
+        self.renew(self.one)
+        inner = self.other / "inner"
+        inner.symlink_to(os.path.relpath(self.link, self.other))
+        (self.other / "folder").symlink_to(self.folder)
+        for path in (self.link, inner, self.other / "folder/agent"):
+            self.assertEqual(self.renew(str(path)), self.one)
+        (self.other / "further").symlink_to("two")
+        self.assertEqual(self.renew(str(self.other / "further")), str(self.other / "further"))
+
+    def test_begun(self):
+        """The keeper makes one where none is; one that is there stays, though it leads nowhere now."""
+        self.environment(SSH_AUTH_SOCK=self.one)
+        begin_agent(self.folder)
+        self.assertEqual(os.readlink(self.link), self.one)
+        os.unlink(self.one)
+        self.environment(SSH_AUTH_SOCK=self.two)
+        begin_agent(self.folder)
+        self.assertEqual(os.readlink(self.link), self.one)
+
+    def test_in_pane(self):
+        """A pane has the link, also one that an attach has to make still; another user's agent stays until one does."""
+        for path in (None, "", str(self.other / "gone"), str(self.other)):
+            self.environment(SSH_AUTH_SOCK=path)
+            self.assertEqual(agent_in(self.folder), str(self.link))
+        self.environment(SSH_AUTH_SOCK=self.one)
+        self.assertEqual(agent_in(self.folder), self.one)
+        renew_agent(self.folder)
+        self.assertEqual(agent_in(self.folder), str(self.link))
+
+
+class Brings(Case):
+    """Who brings, and to which keeper."""
+
+    def setUp(self):
+        self.folder = self.made_folder()
+        self.environment(DISPLAY=":7", WAYLAND_DISPLAY=None, SSH_CONNECTION=None, SSH_AUTH_SOCK=str(self.folder / "own"))
+        self.listening(self.folder / "own")
+        self.session = types.SimpleNamespace(name="main", folder=self.folder, served="server")
+        self.loop = StillLoop(lambda: self.now)
+
+    def keeper(self):
+        """A keeper's socket there."""
+        one = ShellsSocket(self.folder, self.loop)
+        self.addCleanup(one.close)
+        return one
+
+    def has_link(self):
+        """Whether there is a link to an agent."""
+        return (self.folder / "agent").is_symlink()
+
+    def test_attach(self):
+        """One that types brings; one that watches, and one of another machine or without a folder, brings nothing."""
+        self.assertEqual((brings_to(self.session, True), self.has_link()), ([], False))
+        for more in ({"served": "relay"}, {"folder": None}):
+            self.assertEqual(brings_to(types.SimpleNamespace(**{**vars(self.session), **more}), False), [])
+        self.assertFalse(self.has_link())
+        self.assertEqual(brings_to(self.session, False)[0], "brings DISPLAY 3a37")
+        self.assertTrue(self.has_link())
+
+    def test_relayed(self):
+        """To a relay's folder nothing is brought, however the session was named: its keeper is at another machine."""
+        self.assertFalse(brought.is_relayed(self.folder))
+        self.listening(self.folder / "clients")
+        told = (("python3\0/usr/bin/roam-relay\0--dir\0d\0", True), ("python3\0/x/live/relay\0", True), ("/x/relay\0", True),
+                ("/x/roam\0serve\0--dir\0relay\0", False), ("", False))
+        for words, is_relayed in told:
+            with mock.patch.object(brought, "open", mock.mock_open(read_data=words.encode()), create=True) as opens:
+                self.assertEqual(brings_to(self.session, False) == [], is_relayed, words)
+            opens.assert_called_once_with(f"/proc/{os.getpid()}/cmdline", "rb")
+            self.assertEqual(self.has_link(), not is_relayed)
+            (self.folder / "agent").unlink(missing_ok=True)
+
+    def test_far(self):
+        """The far end brings at once, where a keeper is; where none is it goes on."""
+        bring(self.session)
+        self.assertTrue(self.has_link())
+        keeper = self.keeper()
+        keeper.brought.values = dict.fromkeys(brought.NAMES, "old")
+        bring(self.session)
+        self.loop.turns(4)
+        self.assertEqual((keeper.brought.set_values(), keeper.peers), ({"DISPLAY": ":7"}, []))
+
+    def told(self, *keeper_says):
+        """What a shell is told where a keeper says this to who connects."""
+        (self.folder / "shells").unlink(missing_ok=True)
+        listener = self.listening(self.folder / "shells")
+        listener.setblocking(True)
+
+        def answer():
+            with contextlib.suppress(OSError), listener.accept()[0] as peer:
+                peer.recv(100)
+                peer.send("".join(f"{line}\n" for line in keeper_says).encode())
+
+        thread = threading.Thread(target=answer)
+        thread.start()
+        try:
+            return shell_lines(self.session)
+        finally:
+            thread.join()
+
+    def test_told(self):
+        """A shell has exactly what was brought, and runs nothing of it; the link where there is one."""
+        renew_agent(self.folder)
+        waits = self.patch_of(brought, "comes", side_effect=brought.comes)
+        lines = self.told(f"brought DISPLAY {HOSTILE.encode().hex()}", "brought WAYLAND_DISPLAY none", "brought SSH_CONNECTION 2d6e")
+        # Once all is told nothing more is waited for.
+        self.assertEqual(waits.call_count, 1)
+        script = "\n".join([*lines, 'printf "%s|" "$DISPLAY" "${WAYLAND_DISPLAY-unset}" "$SSH_CONNECTION" "$SSH_AUTH_SOCK"; ls'])
+        run = subprocess.run(["sh", "-c", script], cwd=self.made_folder(), stdout=subprocess.PIPE, stderr=subprocess.PIPE, check=True,
+                             env={"WAYLAND_DISPLAY": "old", "PATH": os.environ["PATH"]})
+        self.assertEqual((run.stdout.decode(), run.stderr), (f"{HOSTILE}|unset|-n|{self.folder}/agent|", b""))
+
+    def test_not_told(self):
+        """Where no keeper is, or one that knows no such words, that is told."""
+        with self.assertRaisesRegex(Fault, "^session main: nothing keeps its shells: "):
+            asked_values(self.session)
+        for says in (["bad line"], ["brought DISPLAY none", "brought DISPLAY none", "brought PATH 3a"], []):
+            with self.assertRaisesRegex(Fault, "^session main: what keeps its shells doesn't tell what they have, as an earlier roam's$"):
+                self.told(*says)
+
+    def test_keeper(self):
+        """The keeper takes values of who types, tells them to who asks, and takes none of who watches."""
+        keeper = self.keeper()
+        one = socket.socket(socket.AF_UNIX)
+        self.addCleanup(one.close)
+        one.connect(str(self.folder / "shells"))
+        one.setblocking(False)
+        for text, answer in (("brought\n", f"{BROUGHT} DISPLAY 3a37\n{BROUGHT} WAYLAND_DISPLAY none\n{BROUGHT} SSH_CONNECTION none\n"),
+                             ("brings WAYLAND_DISPLAY 3a38\n", ""), ("here a 24 80 edits\nbrings DISPLAY none\n", ""),
+                             ("here a 24 80 watches\nbrings DISPLAY 3a39\n", "bad line\n"), ("brings PATH 3a\n", "bad line\n")):
+            one.send(text.encode())
+            self.loop.turns(3)
+            self.assertEqual(read_now(one).decode(), answer, text)
+        self.assertEqual(keeper.brought.set_values(), {"WAYLAND_DISPLAY": ":8"})
+
+    def test_pane(self):
+        """A new pane has what was brought, in place of what the keeper's own environment has."""
+        shells, known = loaded("pane_shells"), Brought()
+        known.take("brings WAYLAND_DISPLAY 3a38")
+        known.take("brings DISPLAY none")
+        found = shells.surroundings(str(self.folder), 2, known)
+        self.assertEqual([found.get(name) for name in (*brought.NAMES, "ROAM_PANE")], [None, ":8", None, f"{self.folder}:2"])
+        self.assertEqual(found["SSH_AUTH_SOCK"], str(self.folder / "own"))
+
+
+if __name__ == "__main__":
+    unittest.main()
