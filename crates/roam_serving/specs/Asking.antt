@@ -18,9 +18,9 @@ pub record AsksFor (line : List ℕ) (close : Close) : Type 0 where
   pub is : IsClose close
   pub text : line ≡ close_text close
 
--- A line is done at a moment, where these panes are there, and this is said to it: it says that its program is the keeper of shells; it asks
--- for what stands beside the panes' terminals, or for texts for the clipboard; it asks for no close; the pane is gone, or no other is there;
--- that pane's close is under way, and then the focus goes where the close says; or its start refused it.
+-- A line is done at a moment, where these panes are there, and this is said to it: it says that its program is the keeper of shells; it
+-- asks for what stands beside the panes' terminals, or for texts for the clipboard; it asks for no close; the pane is gone, or no other is
+-- there; that pane's close is under way, and then the focus goes where the close says; or its start refused it.
 pub data DoesLine (now : PaneList) (line : List ℕ) (moment : ℕ) (old new : Closer) (said : List ℕ) : Type 0 where
   keeper : is_keeper_line line ≡ true → new ≡ old → said ≡ [] → DoesLine now line moment old new said
   beside : is_beside_line line ≡ true → new ≡ old → said ≡ [] → DoesLine now line moment old new said
