@@ -1,6 +1,7 @@
 //! The program `roam`.
 //!
 //! `roam show --rows R --cols C` feeds standard input to a terminal and prints the screen that it makes.
+//! `roam rows` reads records of what many terminals are fed, and prints every row that leaves their screens.
 //! `roam world` plays a script from standard input and prints the answer to each of its lines.
 //! `roam serve` serves a session whose panes are reached at sockets; `roam attach` follows one and paints it.
 #![tactic(auto)]
@@ -8,6 +9,7 @@
 use roam_attaching::{Attach, Home, Typed, run_attach, tell_end, tell_failed};
 use roam_command::{Request, Server, Source, Wire, asked, asks_why, words_of};
 use roam_faults::{RunFault, end};
+use roam_left_rows::{end_rows, run_rows};
 use roam_play::run_world;
 use roam_serving::{Serve, run_serve, tell_unbound};
 use roam_show::run_show;
@@ -90,6 +92,10 @@ fn run(rt: &HostRuntime, request: Request<'_>) -> ExitCode {
                 &mut io::writer(rt),
             );
             end(rt, ran)
+        }
+        Request::Rows { as_meant } => {
+            let ran = run_rows(rt.alloc(), as_meant, &mut rt.reader(), &mut io::writer(rt));
+            end_rows(rt, ran)
         }
         Request::World => {
             let ran = run_world(rt.alloc(), &mut rt.reader(), &mut io::writer(rt));

@@ -1,4 +1,6 @@
 mod Lists
+mod Folds
+mod Gained
 mod Base64
 mod KeepingSteps
 mod Silences

@@ -16,8 +16,10 @@ use Rattle.roam_text.proofs.Bytes.{settled-append, one-ascii, true≢false}
 use Rattle.roam_text.proofs.Fronts.{functions-step}
 use Rattle.roam_text.proofs.StringMoves.{strings-step}
 use Rattle.roam_beside.specs.declared.settings.Settings.{Settings}
-use Rattle.roam_beside.specs.Settings.{fresh_settings, heard}
+use Rattle.roam_beside.specs.Settings.{heard}
+use Rattle.roam_beside.specs.Questions.{asked_in, frame_after}
 use Rattle.roam_beside.specs.Silence.{SaySame, SaysNothing, AreNumbers, IsPlainSequence, is_number, is_final}
+use Rattle.roam_beside.proofs.Folds.{ArePlain, frame-more, plain-asked}
 
 lt-yes : (a b : ℕ) → a < b → nat_lt a b ≡ true
 lt-yes a b h = grind (arith, nat_tests)
@@ -185,25 +187,25 @@ plain-header [] n = plain-inter (first_sixteen (map capped_value (digits_of_para
 plain-header (PrivateMarker b ∷ ks) n = absurd n.0
 plain-header (k ∷ ks) n = plain-inter (first_sixteen (map capped_value (digits_of_parameters (kinds_while is_numeric (k ∷ ks))))) (k ∷ ks) n
 
-plain-sets : (mark : Option ℕ) (inter params : List ℕ) (last : ℕ) (s : Settings) → mark ≡ None → inter ≡ []
-    → fold heard s (control_sequence_function (Some (record { mark = mark; params = params; inter = inter })) last) ≡ s
-plain-sets None [] params last s m i = refl
-plain-sets None (b ∷ inter) params last s m i = cc
-plain-sets (Some mark) inter params last s m i = cc
+plain-function : (mark : Option ℕ) (inter params : List ℕ) (last : ℕ) → mark ≡ None → inter ≡ []
+    → ArePlain (control_sequence_function (Some (record { mark = mark; params = params; inter = inter })) last)
+plain-function None [] params last m i = record { sets = λ s. refl; frame = λ f. refl; asked = λ s f. refl }
+plain-function None (b ∷ inter) params last m i = cc
+plain-function (Some mark) inter params last m i = cc
 
-header-sets : (h : Option Header) (last : ℕ) (s : Settings) → PlainHeader h → fold heard s (control_sequence_function h last) ≡ s
-header-sets None last s p = refl
-header-sets (Some h) last s p = plain-sets h.mark h.inter h.params last s p.0 p.1
+header-plain : (h : Option Header) (last : ℕ) → PlainHeader h → ArePlain (control_sequence_function h last)
+header-plain None last p = record { sets = λ s. refl; frame = λ f. refl; asked = λ s f. refl }
+header-plain (Some h) last p = plain-function h.mark h.inter h.params last p.0 p.1
 
 fold-after : (fs more : List Function) (s : Settings) → fold heard s (fs ++ more) ≡ fold heard (fold heard s fs) more
 fold-after [] more s = refl
 fold-after (f ∷ fs) more s = fold-after fs more (heard s f)
 
-ends-plain : (k : Kind) (c : ℕ) (h : Option Header) (tail : List Sign) (s : Settings) → IsFinal k → PlainHeader h
-    → (fold heard s (end_control_sequence h (Character k c ∷ tail)).gives ≡ s) × ((end_control_sequence h (Character k c ∷ tail)).left ≡ tail)
-ends-plain (Upper b) c h tail s f p = (header-sets h b s p, refl)
-ends-plain (Lower b) c h tail s f p = (header-sets h b s p, refl)
-ends-plain k c h tail s f p = absurd f
+ends-plain : (k : Kind) (c : ℕ) (h : Option Header) (tail : List Sign) → IsFinal k → PlainHeader h
+    → ArePlain (end_control_sequence h (Character k c ∷ tail)).gives × ((end_control_sequence h (Character k c ∷ tail)).left ≡ tail)
+ends-plain (Upper b) c h tail f p = (header-plain h b p, refl)
+ends-plain (Lower b) c h tail f p = (header-plain h b p, refl)
+ends-plain k c h tail f p = absurd f
 
 module _ (body : List ℕ) (last : ℕ) (numbers : AreNumbers body) (final : is_final last ≡ true) (rest : List Sign) where
   abbrev at_end : IsFinal (kind_of last)
@@ -215,30 +217,45 @@ module _ (body : List ℕ) (last : ℕ) (numbers : AreNumbers body) (final : is_
   abbrev tail : List Sign
   tail = map character body ++ character last ∷ rest
 
-  sequence : (s : Settings) → (fold heard s (control_sequence tail).gives ≡ s) × ((control_sequence tail).left ≡ rest)
-  sequence s =
-      let ends = ends-plain (kind_of last) last (header b.kinds) rest s at_end (plain-header b.kinds b.numerals) in (
-        ap (λ l. fold heard s (flat_map acts l ++ (end_control_sequence (header (body_of l)) (rest_while in_control_sequence tail)).gives)) b.whole
-            ∙ ap (λ l. fold heard s (l ++ (end_control_sequence (header (body_of b.front)) (rest_while in_control_sequence tail)).gives)) b.acts_none
-            ∙ ap (λ l. fold heard s (end_control_sequence (header l) (rest_while in_control_sequence tail)).gives) b.kinds_are
-            ∙ ap (λ l. fold heard s (end_control_sequence (header b.kinds) l).gives) b.left
-            ∙ ends.0,
+  gives-is : (control_sequence tail).gives ≡ (end_control_sequence (header b.kinds) (character last ∷ rest)).gives
+  gives-is =
+      ap (λ l. flat_map acts l ++ (end_control_sequence (header (body_of l)) (rest_while in_control_sequence tail)).gives) b.whole
+      ∙ ap (λ l. l ++ (end_control_sequence (header (body_of b.front)) (rest_while in_control_sequence tail)).gives) b.acts_none
+      ∙ ap (λ l. (end_control_sequence (header l) (rest_while in_control_sequence tail)).gives) b.kinds_are
+      ∙ ap (λ l. (end_control_sequence (header b.kinds) l).gives) b.left
+
+  sequence : ArePlain (control_sequence tail).gives × ((control_sequence tail).left ≡ rest)
+  sequence =
+      let ends = ends-plain (kind_of last) last (header b.kinds) rest at_end (plain-header b.kinds b.numerals) in (
+        subst ArePlain (sym gives-is) ends.0,
         ap (λ l. (end_control_sequence (header (body_of l)) (rest_while in_control_sequence tail)).left) b.whole
             ∙ ap (λ l. (end_control_sequence (header l) (rest_while in_control_sequence tail)).left) b.kinds_are
             ∙ ap (λ l. (end_control_sequence (header b.kinds) l).left) b.left
             ∙ ends.1,
       )
 
+  abbrev gives : List Function
+  gives = (control_sequence tail).gives
+
+  functions-are : functions (character 0x1B ∷ character 0x5B ∷ tail) ≡ gives ++ functions rest
+  functions-are = functions-step (character 0x1B) (character 0x5B ∷ tail) ∙ ap (λ l. gives ++ functions l) sequence.1
+
   sequence-sets : (s : Settings) → fold heard s (functions (character 0x1B ∷ character 0x5B ∷ tail)) ≡ fold heard s (functions rest)
   sequence-sets s =
-      let is = sequence s in
-      ap (fold heard s) (functions-step (character 0x1B) (character 0x5B ∷ tail))
-      ∙ fold-after (control_sequence tail).gives (functions (control_sequence tail).left) s
-      ∙ ap (λ t. fold heard t (functions (control_sequence tail).left)) is.0
-      ∙ ap (λ l. fold heard s (functions l)) is.1
+      ap (fold heard s) functions-are ∙ fold-after gives (functions rest) s ∙ ap (λ t. fold heard t (functions rest)) (sequence.0.sets s)
 
-  sequence-texts : (s : Settings) → strings (character 0x1B ∷ character 0x5B ∷ tail) ≡ strings rest
-  sequence-texts s = strings-step (character 0x1B) (character 0x5B ∷ tail) ∙ ap strings (sequence s).1
+  sequence-frame : (f : Bool)
+      → fold frame_after f (functions (character 0x1B ∷ character 0x5B ∷ tail)) ≡ fold frame_after f (functions rest)
+  sequence-frame f =
+      ap (fold frame_after f) functions-are ∙ frame-more gives (functions rest) f
+      ∙ ap (λ t. fold frame_after t (functions rest)) (sequence.0.frame f)
+
+  sequence-asks : (s : Settings) (f : Bool)
+      → asked_in s f (functions (character 0x1B ∷ character 0x5B ∷ tail)) ≡ asked_in s f (functions rest)
+  sequence-asks s f = ap (asked_in s f) functions-are ∙ plain-asked gives (functions rest) s f sequence.0
+
+  sequence-texts : strings (character 0x1B ∷ character 0x5B ∷ tail) ≡ strings rest
+  sequence-texts = strings-step (character 0x1B) (character 0x5B ∷ tail) ∙ ap strings sequence.1
 
 -- each byte of ASCII is a character of its own
 ascii-first : (b : ℕ) → b < 0x80 → (more : List ℕ) → settled_part (b ∷ more) ≡ b ∷ settled_part more
@@ -273,5 +290,9 @@ sequence-silent bytes q more =
       settings = λ s. ap (λ l. fold heard s (functions (character 0x1B ∷ character 0x5B ∷ l))) signs
           ∙ sequence-sets q.body q.last q.numbers q.final (map character x) s;
       texts = ap (λ l. strings (character 0x1B ∷ character 0x5B ∷ l)) signs
-          ∙ sequence-texts q.body q.last q.numbers q.final (map character x) fresh_settings;
+          ∙ sequence-texts q.body q.last q.numbers q.final (map character x);
+      frame = λ f. ap (λ l. fold frame_after f (functions (character 0x1B ∷ character 0x5B ∷ l))) signs
+          ∙ sequence-frame q.body q.last q.numbers q.final (map character x) f;
+      asked = λ s f. ap (λ l. asked_in s f (functions (character 0x1B ∷ character 0x5B ∷ l))) signs
+          ∙ sequence-asks q.body q.last q.numbers q.final (map character x) s f;
     })

@@ -21,44 +21,64 @@ use Rattle.roam_text.proofs.Fronts.{functions-step}
 use Rattle.roam_text.proofs.StringMoves.{strings-step}
 use Rattle.roam_beside.specs.declared.settings.Settings.{Settings}
 use Rattle.roam_beside.specs.Settings.{heard}
+use Rattle.roam_beside.specs.Questions.{asked_in, frame_after}
 use Rattle.roam_beside.specs.Silence.{SaySame, SaysNothing, AreStill, is_still}
 
 -- ---- saying the same
 
 pub same-refl : (a : List ℕ) → SaySame a a
-same-refl a = record { settings = λ s. refl; texts = refl }
+same-refl a = record { settings = λ s. refl; texts = refl; frame = λ f. refl; asked = λ s f. refl }
 
 pub same-sym : (a b : List ℕ) → SaySame a b → SaySame b a
-same-sym a b h = record { settings = λ s. sym (h.settings s); texts = sym h.texts }
+same-sym a b h = record {
+  settings = λ s. sym (h.settings s);
+  texts = sym h.texts;
+  frame = λ f. sym (h.frame f);
+  asked = λ s f. sym (h.asked s f);
+}
 
 pub same-trans : (a b c : List ℕ) → SaySame a b → SaySame b c → SaySame a c
-same-trans a b c h k = record { settings = λ s. h.settings s ∙ k.settings s; texts = h.texts ∙ k.texts }
+same-trans a b c h k = record {
+  settings = λ s. h.settings s ∙ k.settings s;
+  texts = h.texts ∙ k.texts;
+  frame = λ f. h.frame f ∙ k.frame f;
+  asked = λ s f. h.asked s f ∙ k.asked s f;
+}
 
 -- ---- characters that say nothing
 
 pub record Quiet (k : Kind) (c : ℕ) : Type 0 where
   pub settings : (rest : List Sign) (s : Settings) → fold heard s (functions (Character k c ∷ rest)) ≡ fold heard s (functions rest)
   pub texts : (rest : List Sign) → strings (Character k c ∷ rest) ≡ strings rest
+  pub frame : (rest : List Sign) (f : Bool)
+      → fold frame_after f (functions (Character k c ∷ rest)) ≡ fold frame_after f (functions rest)
+  pub asked : (rest : List Sign) (s : Settings) (f : Bool)
+      → asked_in s f (functions (Character k c ∷ rest)) ≡ asked_in s f (functions rest)
 
 quiet-plain : (k : Kind) (c : ℕ) (gives : List Function)
     → ((rest : List Sign) → functions (Character k c ∷ rest) ≡ gives ++ functions rest)
     → ((s : Settings) (fs : List Function) → fold heard s (gives ++ fs) ≡ fold heard s fs)
+    → ((f : Bool) (fs : List Function) → fold frame_after f (gives ++ fs) ≡ fold frame_after f fs)
+    → ((s : Settings) (f : Bool) (fs : List Function) → asked_in s f (gives ++ fs) ≡ asked_in s f fs)
     → ((rest : List Sign) → strings (Character k c ∷ rest) ≡ strings rest) → Quiet k c
-quiet-plain k c gives step skip texts = record {
+quiet-plain k c gives step skip held asks texts = record {
   settings = λ rest s. ap (fold heard s) (step rest) ∙ skip s (functions rest);
   texts = texts;
+  frame = λ rest f. ap (fold frame_after f) (step rest) ∙ held f (functions rest);
+  asked = λ rest s f. ap (asked_in s f) (step rest) ∙ asks s f (functions rest);
 }
 
 -- a character that is printed
 quiet-print : (k : Kind) (c : ℕ) → ((rest : List Sign) → functions (Character k c ∷ rest) ≡ Print c ∷ functions rest)
     → ((rest : List Sign) → strings (Character k c ∷ rest) ≡ strings rest) → Quiet k c
-quiet-print k c step texts = quiet-plain k c (Print c ∷ []) step (λ s fs. refl) texts
+quiet-print k c step texts = quiet-plain k c (Print c ∷ []) step (λ s fs. refl) (λ f fs. refl) (λ s f fs. refl) texts
 
 -- a C0 control that is no bell
 quiet-c0 : (k : Kind) (c b : ℕ) → (b == 7) ≡ false → ((rest : List Sign) → functions (Character k c ∷ rest) ≡ C0 b ∷ functions rest)
     → ((rest : List Sign) → strings (Character k c ∷ rest) ≡ strings rest) → Quiet k c
 quiet-c0 k c b silent step texts = quiet-plain k c (C0 b ∷ []) step
-    (λ s fs. ap (λ t. fold heard (cond t (heard s (C0 7)) s) fs) silent) texts
+    (λ s fs. ap (λ t. fold heard (cond t (heard s (C0 7)) s) fs) silent) (λ f fs. refl)
+    (λ s f fs. ap (λ t. asked_in (cond t (heard s (C0 7)) s) f fs) silent) texts
 
 module _ (c : ℕ) where
   either : (t : Bool) (x y : Kind) → Quiet x c → Quiet y c → Quiet (cond t x y) c
@@ -74,7 +94,7 @@ module _ (c : ℕ) where
       (either (nat_lt c 0x40) (PrivateMarker c) _ (quiet-print (PrivateMarker c) c (functions-step (Character (PrivateMarker c) c)) (strings-step (Character (PrivateMarker c) c)))
       (either (nat_lt c 0x60) (Upper c) _ (quiet-print (Upper c) c (functions-step (Character (Upper c) c)) (strings-step (Character (Upper c) c)))
       (either (nat_lt c 0x7F) (Lower c) Delete (quiet-print (Lower c) c (functions-step (Character (Lower c) c)) (strings-step (Character (Lower c) c)))
-      (quiet-plain Delete c [] (functions-step (Character Delete c)) (λ s fs. refl) (strings-step (Character Delete c)))))))))
+      (quiet-plain Delete c [] (functions-step (Character Delete c)) (λ s fs. refl) (λ f fs. refl) (λ s f fs. refl) (strings-step (Character Delete c)))))))))
 
   quiet-c0_kind : (c == 0x1B) ≡ false → (c == 7) ≡ false → Quiet (c0_kind c) c
   quiet-c0_kind escape bell =
@@ -114,6 +134,8 @@ quiet-front (c ∷ cs) rest q =
     record {
       settings = λ s. q.0.settings (map character (cs ++ rest)) s ∙ more.settings s;
       texts = q.0.texts (map character (cs ++ rest)) ∙ more.texts;
+      frame = λ f. q.0.frame (map character (cs ++ rest)) f ∙ more.frame f;
+      asked = λ s f. q.0.asked (map character (cs ++ rest)) s f ∙ more.asked s f;
     }
 
 -- ---- the characters of still bytes

@@ -1,6 +1,7 @@
 -- What stands for bytes stands for them and those that come.
-use Rattle.std.proofs.Common.{◌≡◌, ◌<◌, ◌+◌, ◌-◌, ℕ, List, [], ◌∷◌, ◌++◌, map, length, take, drop, refl, sym, ap, ◌∙◌, append_assoc, subst}
-use Rattle.std.specs.List.{fold}
+use Rattle.std.proofs.Common.{◌≡◌, ◌<◌, ◌+◌, ◌-◌, ℕ, false, List, [], ◌∷◌, ◌++◌, map, length, take, drop, Option, refl, sym, ap, ◌∙◌, append_assoc, subst}
+use Rattle.std.specs.List.{flat_map, fold}
+use Rattle.std.specs.Option.{option_to_list}
 use Rattle.std.specs.Prelude.{slice_index}
 use Rattle.std.proofs.lemmas.List.{append-nil, map-append, take_more}
 use Rattle.roam_text.specs.declared.functions.Function.{Function}
@@ -18,6 +19,11 @@ use Rattle.roam_beside.specs.Settings.{fresh_settings, heard, settings_of}
 use Rattle.roam_beside.specs.Silence.{SaysNothing}
 use Rattle.roam_beside.specs.Keeping.{Keeps}
 use Rattle.roam_beside.specs.Beside.{BesideView, ReadsAs, Stands}
+use Rattle.roam_beside.specs.declared.questions.Question.{Question}
+use Rattle.roam_beside.specs.Questions.{asked_by_string, asked_in, by_functions, by_strings, frame_after, frame_of, questions_of}
+use Rattle.roam_beside.specs.Asking.{Heads, Recalls}
+use Rattle.roam_beside.proofs.Folds.{asked-more, frame-more}
+use Rattle.roam_beside.proofs.Gained.{asked-behind, asked-by, asked-byte, none-asked}
 
 abbrev log_of : List ℕ → List Item
 log_of bytes = map Byte bytes
@@ -46,6 +52,28 @@ module _ (read : List ℕ) (rest : AtRest (log_of read)) (closed : NoStringOpen 
   strings-on : (xs : List ℕ) → strings_by (log_of (read ++ xs)) ≡ behind_strings (strings_of (log_of read)) (strings (map character (settled_part xs)))
   strings-on xs = ap strings (signs-on xs) ∙ closed.to_come (map character (settled_part xs))
 
+  abbrev functions_on : List ℕ → List Function
+  functions_on xs = functions (map character (settled_part xs))
+
+  frame-on : (xs : List ℕ) → frame_of (read ++ xs) ≡ fold frame_after (frame_of read) (functions_on xs)
+  frame-on xs =
+      ap (λ l. fold frame_after false (functions l)) (signs-on xs)
+      ∙ ap (fold frame_after false) (rest.to_come (map character (settled_part xs)))
+      ∙ frame-more (functions_of (log_of read)) (functions_on xs) false
+
+  asked-on : (xs : List ℕ) → by_functions (read ++ xs) ≡ by_functions read ++ asked_in (settings_of read) (frame_of read) (functions_on xs)
+  asked-on xs =
+      ap (λ l. asked_in fresh_settings false (functions l)) (signs-on xs)
+      ∙ ap (asked_in fresh_settings false) (rest.to_come (map character (settled_part xs)))
+      ∙ asked-more (functions_of (log_of read)) (functions_on xs) fresh_settings false
+
+  passed-frame : (run more : List ℕ) → SaysNothing run → frame_of (read ++ (run ++ more)) ≡ frame_of (read ++ more)
+  passed-frame run more silent = frame-on (run ++ more) ∙ (silent more).frame (frame_of read) ∙ sym (frame-on more)
+
+  passed-asked : (run more : List ℕ) → SaysNothing run → by_functions (read ++ (run ++ more)) ≡ by_functions (read ++ more)
+  passed-asked run more silent =
+      asked-on (run ++ more) ∙ ap (λ l. by_functions read ++ l) ((silent more).asked (settings_of read) (frame_of read)) ∙ sym (asked-on more)
+
   passed-settings : (run more : List ℕ) → SaysNothing run → settings_of (read ++ (run ++ more)) ≡ settings_of (read ++ more)
   passed-settings run more silent = settings-on (run ++ more) ∙ (silent more).settings (settings_of read) ∙ sym (settings-on more)
 
@@ -54,11 +82,18 @@ module _ (read : List ℕ) (rest : AtRest (log_of read)) (closed : NoStringOpen 
       strings-on (run ++ more) ∙ ap (behind_strings (strings_of (log_of read))) (silent more).texts ∙ sym (strings-on more)
 
 -- nothing more
-settings-now : (bytes read : List ℕ) → ReadsAs bytes read → settings_of bytes ≡ settings_of read
-settings-now bytes read same = ap settings_of (sym (append-nil bytes)) ∙ (same []).0 ∙ ap settings_of (append-nil read)
+module _ (bytes read : List ℕ) (same : ReadsAs bytes read) where
+  settings-now : settings_of bytes ≡ settings_of read
+  settings-now = ap settings_of (sym (append-nil bytes)) ∙ (same []).settings ∙ ap settings_of (append-nil read)
 
-strings-now : (bytes read : List ℕ) → ReadsAs bytes read → strings_by (log_of bytes) ≡ strings_by (log_of read)
-strings-now bytes read same = ap (λ l. strings_by (log_of l)) (sym (append-nil bytes)) ∙ (same []).1 ∙ ap (λ l. strings_by (log_of l)) (append-nil read)
+  strings-now : strings_by (log_of bytes) ≡ strings_by (log_of read)
+  strings-now = ap (λ l. strings_by (log_of l)) (sym (append-nil bytes)) ∙ (same []).strings ∙ ap (λ l. strings_by (log_of l)) (append-nil read)
+
+  frame-now : frame_of bytes ≡ frame_of read
+  frame-now = ap frame_of (sym (append-nil bytes)) ∙ (same []).frame ∙ ap frame_of (append-nil read)
+
+  asked-now : by_functions bytes ≡ by_functions read
+  asked-now = ap by_functions (sym (append-nil bytes)) ∙ (same []).asked ∙ ap by_functions (append-nil read)
 
 module _ (b : BesideView) (bytes run : List ℕ) (silent : SaysNothing run) (stands : Stands b bytes)
     (rest : AtRest (log_of stands.read)) (closed : NoStringOpen (log_of stands.read)) where
@@ -66,10 +101,26 @@ module _ (b : BesideView) (bytes run : List ℕ) (silent : SaysNothing run) (sta
   read = stands.read
 
   reads-on : ReadsAs (bytes ++ run) read
-  reads-on more = (
-    ap settings_of (append_assoc bytes run more) ∙ (stands.same (run ++ more)).0 ∙ passed-settings read rest closed run more silent,
-    ap (λ l. strings_by (log_of l)) (append_assoc bytes run more) ∙ (stands.same (run ++ more)).1 ∙ passed-strings read rest closed run more silent,
-  )
+  reads-on more = record {
+    settings = ap settings_of (append_assoc bytes run more) ∙ (stands.same (run ++ more)).settings
+        ∙ passed-settings read rest closed run more silent;
+    strings = ap (λ l. strings_by (log_of l)) (append_assoc bytes run more) ∙ (stands.same (run ++ more)).strings
+        ∙ passed-strings read rest closed run more silent;
+    frame = ap frame_of (append_assoc bytes run more) ∙ (stands.same (run ++ more)).frame ∙ passed-frame read rest closed run more silent;
+    asked = ap by_functions (append_assoc bytes run more) ∙ (stands.same (run ++ more)).asked ∙ passed-asked read rest closed run more silent;
+  }
+
+  strings-same : strings_by (log_of (bytes ++ run)) ≡ strings_by (log_of bytes)
+  strings-same = strings-now (bytes ++ run) read reads-on ∙ sym (strings-now bytes read stands.same)
+
+  -- what is passed over asks nothing
+  questions-same : questions_of (bytes ++ run) ≡ questions_of bytes
+  questions-same =
+      asked-behind [] bytes run
+      ∙ ap (λ l. questions_of bytes ++ l)
+      (none-asked bytes run (asked-now (bytes ++ run) read reads-on ∙ sym (asked-now bytes read stands.same))
+      (ap (λ (s : Strings). flat_map asked_by_string s.ended) strings-same))
+      ∙ append-nil (questions_of bytes)
 
   pub passed-stands : Stands b (bytes ++ run)
   passed-stands = record {
@@ -78,18 +129,29 @@ module _ (b : BesideView) (bytes run : List ℕ) (silent : SaysNothing run) (sta
     strings = stands.strings;
     same = reads-on;
     settings = stands.settings ∙ settings-now bytes read stands.same ∙ sym (settings-now (bytes ++ run) read reads-on);
-    texts = subst (Keeps b.texts) (strings-now bytes read stands.same ∙ sym (strings-now (bytes ++ run) read reads-on)) stands.texts;
+    texts = subst (Keeps b.texts) (sym strings-same) stands.texts;
+    frame = stands.frame ∙ frame-now bytes read stands.same ∙ sym (frame-now (bytes ++ run) read reads-on);
+    head = subst (λ (s : Strings). Heads b.head s.begun) (sym strings-same) stands.head;
+    asked = subst (Recalls b.asked) (sym questions-same) stands.asked;
   }
 
 -- ---- a byte that is read
 
 module _ (old new : BesideView) (byte : ℕ) (bytes : List ℕ) (stands : Stands old bytes) (fs : List Function) (steps : StringSteps)
+    (question first later : Option Question)
     (reader : (log : List Item) → ReaderStands old.reader log → ReaderStands new.reader (log ++ Byte byte ∷ []))
     (gained : (log : List Item) → ReaderStands old.reader log → functions_of (log ++ Byte byte ∷ []) ≡ functions_of log ++ fs)
     (follows : (log : List Item) → Follows old.strings log → Follows new.strings (log ++ Byte byte ∷ []))
     (stepped : (log : List Item) → Follows old.strings log → strings_by (log ++ Byte byte ∷ []) ≡ after_steps steps (strings_by log))
     (set : new.settings ≡ fold heard old.settings fs)
-    (kept : (all : Strings) → Keeps old.texts all → Keeps new.texts (after_steps steps all)) where
+    (kept : (all : Strings) → Keeps old.texts all → Keeps new.texts (after_steps steps all))
+    (framed : new.frame ≡ fold frame_after old.frame fs)
+    (asks : option_to_list question ≡ asked_in old.settings old.frame fs)
+    (heads : (all : Strings) → Heads old.head all.begun → Heads new.head (after_steps steps all).begun)
+    (spells : (all : Strings) → Heads old.head all.begun → flat_map asked_by_string (after_steps steps all).ended
+    ≡ (flat_map asked_by_string all.ended ++ option_to_list first) ++ option_to_list later)
+    (recalls : (all : List Question) → Recalls old.asked all
+    → Recalls new.asked (((all ++ option_to_list question) ++ option_to_list first) ++ option_to_list later)) where
   abbrev was : List Item
   was = log_of stands.read
 
@@ -97,25 +159,67 @@ module _ (old new : BesideView) (byte : ℕ) (bytes : List ℕ) (stands : Stands
   one = log-append stands.read (byte ∷ [])
 
   reads-byte : ReadsAs (bytes ++ byte ∷ []) (stands.read ++ byte ∷ [])
-  reads-byte more = (
-    ap settings_of (append_assoc bytes (byte ∷ []) more) ∙ (stands.same (byte ∷ more)).0 ∙ sym (ap settings_of (append_assoc stands.read (byte ∷ []) more)),
-    ap (λ l. strings_by (log_of l)) (append_assoc bytes (byte ∷ []) more) ∙ (stands.same (byte ∷ more)).1
-        ∙ sym (ap (λ l. strings_by (log_of l)) (append_assoc stands.read (byte ∷ []) more)),
-  )
+  reads-byte more =
+      let here = append_assoc bytes (byte ∷ []) more in
+      let there = append_assoc stands.read (byte ∷ []) more in
+      let same = stands.same (byte ∷ more) in
+      record {
+        settings = ap settings_of here ∙ same.settings ∙ sym (ap settings_of there);
+        strings = ap (λ l. strings_by (log_of l)) here ∙ same.strings ∙ sym (ap (λ l. strings_by (log_of l)) there);
+        frame = ap frame_of here ∙ same.frame ∙ sym (ap frame_of there);
+        asked = ap by_functions here ∙ same.asked ∙ sym (ap by_functions there);
+      }
 
-  settings-byte : settings_of (bytes ++ byte ∷ []) ≡ fold heard (settings_of bytes) fs
+  abbrev after : List ℕ
+  after = bytes ++ byte ∷ []
+
+  settings-byte : settings_of after ≡ fold heard (settings_of bytes) fs
   settings-byte =
-      settings-now (bytes ++ byte ∷ []) (stands.read ++ byte ∷ []) reads-byte
+      settings-now after (stands.read ++ byte ∷ []) reads-byte
       ∙ ap (λ l. fold heard fresh_settings (functions_of l)) one
       ∙ ap (fold heard fresh_settings) (gained was stands.reader)
       ∙ fold-after (functions_of was) fs fresh_settings
       ∙ ap (λ s. fold heard s fs) (sym (settings-now bytes stands.read stands.same))
 
-  strings-byte : strings_by (log_of (bytes ++ byte ∷ [])) ≡ after_steps steps (strings_by (log_of bytes))
+  frame-byte : frame_of after ≡ fold frame_after (frame_of bytes) fs
+  frame-byte =
+      frame-now after (stands.read ++ byte ∷ []) reads-byte
+      ∙ ap (λ l. fold frame_after false (functions_of l)) one
+      ∙ ap (fold frame_after false) (gained was stands.reader)
+      ∙ frame-more (functions_of was) fs false
+      ∙ ap (λ f. fold frame_after f fs) (sym (frame-now bytes stands.read stands.same))
+
+  functions-byte : by_functions after ≡ by_functions bytes ++ option_to_list question
+  functions-byte =
+      asked-now after (stands.read ++ byte ∷ []) reads-byte
+      ∙ ap (λ l. asked_in fresh_settings false (functions_of l)) one
+      ∙ ap (asked_in fresh_settings false) (gained was stands.reader)
+      ∙ asked-more (functions_of was) fs fresh_settings false
+      ∙ ap (λ l. l ++ asked_in (settings_of stands.read) (frame_of stands.read) fs) (sym (asked-now bytes stands.read stands.same))
+      ∙ ap (λ s. by_functions bytes ++ asked_in s (frame_of stands.read) fs) (sym (stands.settings ∙ settings-now bytes stands.read stands.same))
+      ∙ ap (λ f. by_functions bytes ++ asked_in old.settings f fs) (sym (stands.frame ∙ frame-now bytes stands.read stands.same))
+      ∙ ap (λ l. by_functions bytes ++ l) (sym asks)
+
+  strings-byte : strings_by (log_of after) ≡ after_steps steps (strings_by (log_of bytes))
   strings-byte =
-      strings-now (bytes ++ byte ∷ []) (stands.read ++ byte ∷ []) reads-byte
+      strings-now after (stands.read ++ byte ∷ []) reads-byte
       ∙ ap strings_by one ∙ stepped was stands.strings
       ∙ ap (after_steps steps) (sym (strings-now bytes stands.read stands.same))
+
+  texts-byte : by_strings after ≡ by_strings bytes ++ (option_to_list first ++ option_to_list later)
+  texts-byte =
+      ap (λ (s : Strings). flat_map asked_by_string s.ended) strings-byte
+      ∙ spells (strings_by (log_of bytes)) stands.head
+      ∙ append_assoc (by_strings bytes) (option_to_list first) (option_to_list later)
+
+  questions-byte : questions_of after
+      ≡ ((questions_of bytes ++ option_to_list question) ++ option_to_list first) ++ option_to_list later
+  questions-byte =
+      asked-byte bytes byte
+      ∙ ap (λ l. questions_of bytes ++ l)
+      (asked-by bytes byte (option_to_list question) (option_to_list first ++ option_to_list later) functions-byte texts-byte)
+      ∙ sym (append_assoc (questions_of bytes) (option_to_list question) (option_to_list first ++ option_to_list later))
+      ∙ sym (append_assoc (questions_of bytes ++ option_to_list question) (option_to_list first) (option_to_list later))
 
   pub byte-stands : Stands new (bytes ++ byte ∷ [])
   byte-stands = record {
@@ -125,6 +229,9 @@ module _ (old new : BesideView) (byte : ℕ) (bytes : List ℕ) (stands : Stands
     same = reads-byte;
     settings = set ∙ ap (λ s. fold heard s fs) stands.settings ∙ sym settings-byte;
     texts = subst (Keeps new.texts) (sym strings-byte) (kept (strings_by (log_of bytes)) stands.texts);
+    frame = framed ∙ ap (λ f. fold frame_after f fs) stands.frame ∙ sym frame-byte;
+    head = subst (λ (s : Strings). Heads new.head s.begun) (sym strings-byte) (heads (strings_by (log_of bytes)) stands.head);
+    asked = subst (Recalls new.asked) (sym questions-byte) (recalls (questions_of bytes) stands.asked);
   }
 
 -- ---- a piece

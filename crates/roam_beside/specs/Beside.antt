@@ -1,5 +1,5 @@
 -- What stands beside a pane's terminal.
-use Rattle.std.specs.Prelude.{ℕ, ◌≡◌, List, ◌++◌, map}
+use Rattle.std.specs.Prelude.{ℕ, ◌≡◌, Bool, List, ◌++◌, map}
 use Rattle.roam_text.specs.Log.{Byte}
 use Rattle.roam_text.specs.Strings.{strings_by}
 use Rattle.roam_text.specs.Stands.{View, Stands as ReaderStands}
@@ -7,21 +7,31 @@ use Rattle.roam_text.specs.StringPhases.{StringView, Follows}
 use Rattle.roam_beside.specs.declared.settings.Settings.{Settings}
 use Rattle.roam_beside.specs.Settings.{settings_of}
 use Rattle.roam_beside.specs.Keeping.{TextsView, Keeps}
+use Rattle.roam_beside.specs.Questions.{by_functions, frame_of, questions_of}
+use Rattle.roam_beside.specs.Asking.{AskedView, HeadView, Heads, Recalls}
 
--- two readers of bytes, what was set, and what was said
+-- two readers of bytes, what was set, what was said, and what was asked
 pub record BesideView : Type 0 where
   pub reader : View
   pub strings : StringView
   pub settings : Settings
   pub texts : TextsView
+  pub frame : Bool
+  pub head : HeadView
+  pub asked : AskedView
 
--- whatever comes after some bytes says what it says after others
+-- whatever comes after some bytes says and asks what it does after others
+pub record ReadsSame (bytes read : List ℕ) : Type 0 where
+  pub settings : settings_of bytes ≡ settings_of read
+  pub strings : strings_by (map Byte bytes) ≡ strings_by (map Byte read)
+  pub frame : frame_of bytes ≡ frame_of read
+  pub asked : by_functions bytes ≡ by_functions read
+
 abbrev pub ReadsAs : List ℕ → List ℕ → Type 0
-ReadsAs bytes read = (more : List ℕ) → (settings_of (bytes ++ more) ≡ settings_of (read ++ more))
-    × (strings_by (map Byte (bytes ++ more)) ≡ strings_by (map Byte (read ++ more)))
+ReadsAs bytes read = (more : List ℕ) → ReadsSame (bytes ++ more) (read ++ more)
 
 -- it has read these bytes: what is set is what they set, what is said is what those control strings of theirs say for which there was
--- memory, and its readers were given bytes after which all that comes says the same
+-- memory, what was asked is what they asked, all of it, and its readers were given bytes after which all that comes says and asks the same
 pub record Stands (beside : BesideView) (bytes : List ℕ) : Type 0 where
   pub read : List ℕ
   pub reader : ReaderStands beside.reader (map Byte read)
@@ -29,3 +39,6 @@ pub record Stands (beside : BesideView) (bytes : List ℕ) : Type 0 where
   pub same : ReadsAs bytes read
   pub settings : beside.settings ≡ settings_of bytes
   pub texts : Keeps beside.texts (strings_by (map Byte bytes))
+  pub frame : beside.frame ≡ frame_of bytes
+  pub head : Heads beside.head (strings_by (map Byte bytes)).begun
+  pub asked : Recalls beside.asked (questions_of bytes)

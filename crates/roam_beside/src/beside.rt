@@ -1,12 +1,16 @@
 //! What stands beside a pane's terminal.
-ghost use Rattle.std.specs.Prelude.{◌≡◌, ◌≤◌, ◌++◌, ◌∷◌, [], List, ℕ, length, take, IsTrue};
+ghost use Rattle.std.specs.Prelude.{◌≡◌, ◌≤◌, ◌++◌, ◌∷◌, [], List, ℕ, length, min, take, IsTrue};
 ghost use Rattle.std.specs.List.{fold};
-ghost use Rattle.std.specs.Option.{option_map};
+ghost use Rattle.std.specs.Option.{option_map, option_to_list};
 ghost use Rattle.roam_text.specs.Dispatched.{functions_by};
-ghost use Rattle.roam_beside.specs.Settings.{fresh_settings, heard, settings_of};
+ghost use Rattle.roam_beside.specs.Settings.{fresh_settings, heard, most_counted, settings_of};
+ghost use Rattle.roam_beside.specs.Questions.{asked_in, frame_after, questions_of};
+ghost use Rattle.roam_beside.specs.Asking.{most_kept, newest};
 ghost use Rattle.roam_beside.specs.Texts.{nothing_said};
 
+use crate::asking::{Asked, Head};
 use crate::keeping::Texts;
+use crate::questions::{Question, asked_by, frame_after};
 use crate::settings::{Settings, fresh_settings, heard};
 use crate::silence::silent_run;
 use roam_text::{Dispatched, Reader, StringReader};
@@ -21,6 +25,10 @@ pub struct Beside {
     strings: StringReader,
     settings: Settings,
     texts: Texts,
+    // Whether a frame is open: 2026.
+    frame: bool,
+    head: Head,
+    asked: Asked,
 }
 
 impl Model for Beside {
@@ -28,7 +36,15 @@ impl Model for Beside {
 
     ghost Value = { BesideView };
 
-    ghost view = { λ b. record { reader = b.reader; strings = b.strings; settings = b.settings; texts = b.texts } };
+    ghost view = { λ b. record {
+      reader = b.reader;
+      strings = b.strings;
+      settings = b.settings;
+      texts = b.texts;
+      frame = b.frame;
+      head = b.head;
+      asked = b.asked;
+    } };
 }
 
 // What is set after what a byte completed.
@@ -39,6 +55,43 @@ fn heard_by(settings: Settings, dispatched: Dispatched, reader: &Reader) -> Sett
         Dispatched::Nothing => settings,
         Dispatched::One(dispatch) | Dispatched::AfterReplacement(dispatch) => heard(
             settings,
+            dispatch,
+            reader.parameters(),
+            reader.intermediates(),
+        ),
+    }
+}
+
+// Whether a frame is open after what a byte completed.
+fn frame_by(frame: bool, dispatched: Dispatched, reader: &Reader) -> bool
+    ensures frame { result ≡ fold frame_after frame (functions_by dispatched reader.now.parameters reader.now.intermediates) }
+{
+    match dispatched {
+        Dispatched::Nothing => frame,
+        Dispatched::One(dispatch) | Dispatched::AfterReplacement(dispatch) => frame_after(
+            frame,
+            dispatch,
+            reader.parameters(),
+            reader.intermediates(),
+        ),
+    }
+}
+
+// What the function asks that a byte completed, if it completed one.
+fn question_by(
+    settings: &Settings,
+    frame: bool,
+    dispatched: Dispatched,
+    reader: &Reader,
+) -> Option<Question>
+    ensures asked { option_to_list result
+        ≡ asked_in settings.now frame (functions_by dispatched reader.now.parameters reader.now.intermediates) }
+{
+    match dispatched {
+        Dispatched::Nothing => None,
+        Dispatched::One(dispatch) | Dispatched::AfterReplacement(dispatch) => asked_by(
+            settings,
+            frame,
             dispatch,
             reader.parameters(),
             reader.intermediates(),
@@ -61,6 +114,9 @@ impl Beside {
             strings: StringReader::new(),
             settings: fresh_settings(),
             texts: Texts::new(alloc),
+            frame: false,
+            head: Head::new(),
+            asked: Asked::new(),
         }
     }
 
@@ -100,15 +156,38 @@ impl Beside {
         self.texts.clips()
     }
 
+    /// How many questions there were, up to 2^64 - 1.
+    pub fn questions_asked(&self) -> u64
+        ensures count { result ≡ self.now.asked.count }
+        ensures told { (bytes : List ℕ) → Stands self.now bytes → result ≡ min most_counted (length (questions_of bytes)) }
+    {
+        self.asked.count()
+    }
+
+    /// The last questions, sixteen at most, in the order in which they were asked.
+    pub fn questions(&self) -> &[Question]
+        ensures last { result.now ≡ self.now.asked.last }
+        ensures told { (bytes : List ℕ) → Stands self.now bytes → result.now ≡ newest most_kept (questions_of bytes) }
+    {
+        self.asked.last()
+    }
+
     // Reads one byte.
     fn read(&mut self, byte: u8)
         ensures stands { (bytes : List ℕ) → Stands self.old bytes → Stands self.new (bytes ++ byte ∷ []) }
     {
         let dispatched = self.reader.dispatch(byte);
+        let question = question_by(&self.settings, self.frame, dispatched, &self.reader);
         self.settings = heard_by(self.settings, dispatched, &self.reader);
+        self.frame = frame_by(self.frame, dispatched, &self.reader);
         let steps = self.strings.next(byte);
         self.texts.take(steps.first);
         self.texts.take(steps.later);
+        self.asked.note(question);
+        let first = self.head.take(steps.first);
+        let later = self.head.take(steps.later);
+        self.asked.note(first);
+        self.asked.note(later);
     }
 
     // How many bytes at the front of a piece can be passed over: they say nothing, and all that comes after them says the same without

@@ -1,8 +1,9 @@
 //! Laws of the definitions, each the contract of a function without a body.
-ghost use Rattle.std.specs.Prelude.{◌≡◌, ◌≤◌, ℕ, List, [], ◌∷◌, ◌++◌, None};
+ghost use Rattle.std.specs.Prelude.{◌≡◌, ◌≤◌, ◌+◌, ℕ, List, [], ◌∷◌, ◌++◌, length, None};
 ghost use Rattle.roam_text.specs.declared.functions.Function.TheVariants.{Csi};
 ghost use Rattle.roam_beside.specs.declared.settings.Settings.{Settings};
 ghost use Rattle.roam_beside.specs.Settings.{heard, reset_settings, settings_of};
+ghost use Rattle.roam_beside.specs.Questions.{asked_after, by_functions, by_strings, questions_of};
 ghost use Rattle.roam_beside.specs.Silence.{AreStill, SaysNothing};
 
 /// RIS, ESC 63, resets all that a program sets, whatever stands unfinished before it; the bells that rang are still told (ECMA-48,
@@ -25,4 +26,11 @@ pub fn still_bytes_say_nothing()
 /// The count of bells only grows.
 pub fn bells_only_grow()
     ensures grow { (bytes more : List ℕ) → (settings_of bytes).bells ≤ (settings_of (bytes ++ more)).bells }
+{}
+
+/// Each question of a control function and each of a control string is one of the bytes' questions, and nothing else is; those of a front
+/// come first.
+pub fn each_question_is_asked_once()
+    ensures once { (bytes : List ℕ) → length (questions_of bytes) ≡ length (by_functions bytes) + length (by_strings bytes) }
+    ensures front { (bytes more : List ℕ) → questions_of (bytes ++ more) ≡ questions_of bytes ++ asked_after bytes more }
 {}

@@ -13,12 +13,15 @@
 //! - A title is that of OSC 0 or 2, a text for the clipboard that of OSC 52 for the selection `c` or for none; a question is nothing.
 #![tactic(auto)]
 
+mod asking;
 mod beside;
 mod keeping;
 pub mod laws;
+mod questions;
 mod settings;
 mod silence;
 mod texts;
 
 pub use beside::Beside;
+pub use questions::Question;
 pub use settings::{Settings, Tracking, fresh_settings};

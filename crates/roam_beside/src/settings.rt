@@ -131,7 +131,7 @@ fn keys_asked(numbers: &[u16], before: u8) -> u8
     }
 }
 
-fn wish_of(mark: Option<u8>, inter: &[u8], last: u8) -> Wish
+pub(crate) fn wish_of(mark: Option<u8>, inter: &[u8], last: u8) -> Wish
     ensures wish { result ≡ wish_of mark inter.now last }
 {
     match (mark, inter, last) {

@@ -8,7 +8,7 @@ use Rattle.clap.specs.declared.parser.matches.ArgMatches.{ArgMatches}
 use Rattle.roam_command.specs.declared.words.Refusal.{Refusal}
 use Rattle.roam_command.specs.declared.words.Request.{Request}
 use Rattle.roam_command.specs.declared.words.Request.TheVariants as request
-use Rattle.roam_command.specs.Requests.{Asks, IsAttach, IsServe, IsShow, IsUsed}
+use Rattle.roam_command.specs.Requests.{Asks, IsAttach, IsRows, IsServe, IsShow, IsUsed}
 
 pub used : (m inner : ArgMatches) (name text : List ℕ) → Some name ≡ subcommand_name_of m
     → Some (rows_of (found_of inner)) ≡ option_map (λ p. p.1) (subcommand_rows_of m) → name ≡ text → IsUsed m text (found_of inner)
@@ -19,6 +19,7 @@ pub show_asked : (m inner : ArgMatches) (r : Result Request Refusal) → IsUsed 
     → IfOk r (IsShow (found_of inner)) → IfOk r (Asks m)
 show_asked m inner (Err e) used h = tt
 show_asked m inner (Ok (request.Show rows cols)) used h = (found_of inner, used, h)
+show_asked m inner (Ok (request.Rows as_meant)) used h = absurd h
 show_asked m inner (Ok request.World) used h = absurd h
 show_asked m inner (Ok (request.Serve folder port session turns as_meant)) used h = absurd h
 show_asked m inner (Ok (request.Attach server session client source wire watches turns)) used h = absurd h
@@ -27,6 +28,7 @@ pub serve_asked : (m inner : ArgMatches) (r : Result Request Refusal) → IsUsed
     → IfOk r (IsServe (found_of inner)) → IfOk r (Asks m)
 serve_asked m inner (Err e) used h = tt
 serve_asked m inner (Ok (request.Show rows cols)) used h = absurd h
+serve_asked m inner (Ok (request.Rows as_meant)) used h = absurd h
 serve_asked m inner (Ok request.World) used h = absurd h
 serve_asked m inner (Ok (request.Serve folder port session turns as_meant)) used h = (found_of inner, used, h)
 serve_asked m inner (Ok (request.Attach server session client source wire watches turns)) used h = absurd h
@@ -35,6 +37,14 @@ pub attach_asked : (m inner : ArgMatches) (r : Result Request Refusal) → IsUse
     → IfOk r (IsAttach (found_of inner)) → IfOk r (Asks m)
 attach_asked m inner (Err e) used h = tt
 attach_asked m inner (Ok (request.Show rows cols)) used h = absurd h
+attach_asked m inner (Ok (request.Rows as_meant)) used h = absurd h
 attach_asked m inner (Ok request.World) used h = absurd h
 attach_asked m inner (Ok (request.Serve folder port session turns as_meant)) used h = absurd h
 attach_asked m inner (Ok (request.Attach server session client source wire watches turns)) used h = (found_of inner, used, h)
+
+pub rows_asked : (m inner : ArgMatches) (r : Request) → IsUsed m (codes "rows") (found_of inner) → IsRows (found_of inner) r → Asks m r
+rows_asked m inner (request.Rows as_meant) used h = (found_of inner, used, h)
+rows_asked m inner (request.Show rows cols) used h = absurd h
+rows_asked m inner request.World used h = absurd h
+rows_asked m inner (request.Serve folder port session turns as_meant) used h = absurd h
+rows_asked m inner (request.Attach server session client source wire watches turns) used h = absurd h

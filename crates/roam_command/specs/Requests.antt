@@ -79,6 +79,10 @@ IsShow found (request.Show rows cols) =
     IsNumberOf 16 found (codes "rows") (Some rows) × IsNumberOf 16 found (codes "cols") (Some cols)
 IsShow found other = ⊥
 
+abbrev pub IsRows : Found → Request → Type 0
+IsRows found (request.Rows as_meant) = IsFlagOf found (codes "as-meant") as_meant
+IsRows found other = ⊥
+
 abbrev pub IsServe : Found → Request → Type 0
 IsServe found (request.Serve folder port session turns as_meant) =
     (first_value found (codes "dir") ≡ Some folder.now) × IsNumberOf 16 found (codes "port") port × IsIdOf found (codes "session") session
@@ -99,6 +103,7 @@ pub record IsUsed (m : ArgMatches) (name : List ℕ) (found : Found) : Type 0 wh
 -- the words that were matched ask for this
 abbrev pub Asks : ArgMatches → Request → Type 0
 Asks m (request.Show rows cols) = (found : Found) × IsUsed m (codes "show") found × IsShow found (request.Show rows cols)
+Asks m (request.Rows as_meant) = (found : Found) × IsUsed m (codes "rows") found × IsRows found (request.Rows as_meant)
 Asks m request.World = subcommand_name_of m ≡ Some (codes "world")
 Asks m (request.Serve folder port session turns as_meant) =
     (found : Found) × IsUsed m (codes "serve") found × IsServe found (request.Serve folder port session turns as_meant)

@@ -38,6 +38,28 @@ Example:
                       |[1]     |
                       cursor 1 3 shown";
 
+/// What `roam rows --help` says of records.
+const RECORDS: &str = "\
+Records, a line each, with one space between words; N is a terminal, 0 to 1023:
+  pane N R C          A new terminal of R rows and C columns stands at N
+  size N R C          It gets another size
+  bytes N L           L bytes follow, which its program wrote
+  screen N            The rows of its screen are asked for
+  gone N              It ends
+What is printed:
+  rows N K L          K rows left it; L bytes follow, a line a row: + where the
+                      row goes on in the next, else a space, and its text
+  lost N K            K more rows left than there was memory for
+  cleared N           Its program erased what left until then
+  screen N K L        The K rows of its screen, in L bytes
+
+Example:
+  pane 0 2 8          rows 0 1 4
+  bytes 0 8            hi
+  hi
+  x
+  y";
+
 /// A subcommand: its name, what it does, what else its help says, and its options.
 struct Subcommand {
     name: &'static str,
@@ -77,6 +99,24 @@ const WORLD: Subcommand = Subcommand {
     about: "Plays a script from standard input and prints the answer to each of its lines",
     more: Some(LINES),
     options: &[],
+};
+
+const ROWS: Subcommand = Subcommand {
+    name: "rows",
+    about: "Reads records from standard input and prints every row that leaves the screen of each terminal that they tell of",
+    more: Some(RECORDS),
+    options: &[AS_MEANT],
+};
+
+const AS_MEANT: Choice<'static> = Choice {
+    name: "as-meant",
+    value: "",
+    help: "Reads what programs write as they mean it where the profile reads it otherwise: colons in SGR, more than sixteen of \
+           its parameters, colours of lines, CSI s and CSI u, the clearing of DECCOLM, the soft hyphen",
+    reads: Reads::Nothing,
+    needed: Needed::Never,
+    needs: &[],
+    excludes: &[],
 };
 
 const SESSION: Choice<'static> = Choice {
@@ -128,16 +168,7 @@ const SERVE: Subcommand = Subcommand {
         },
         SESSION,
         TURNS,
-        Choice {
-            name: "as-meant",
-            value: "",
-            help: "Reads what programs write as they mean it where the profile reads it otherwise: colons in SGR, more than sixteen of \
-                   its parameters, colours of lines, CSI s and CSI u, the clearing of DECCOLM, the soft hyphen",
-            reads: Reads::Nothing,
-            needed: Needed::Never,
-            needs: &[],
-            excludes: &[],
-        },
+        AS_MEANT,
     ],
 };
 
@@ -227,7 +258,7 @@ const ATTACH: Subcommand = Subcommand {
     ],
 };
 
-static SUBCOMMANDS: [Subcommand; 4] = [SHOW, WORLD, SERVE, ATTACH];
+static SUBCOMMANDS: [Subcommand; 5] = [SHOW, ROWS, WORLD, SERVE, ATTACH];
 
 fn subcommand_of<'a>(alloc: Global, subcommand: &Subcommand) -> Result<Command<'a>, AllocError> {
     let mut command = Command::new(alloc, subcommand.name).about(subcommand.about);

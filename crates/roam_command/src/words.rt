@@ -1,7 +1,7 @@
 //! What the words of the command line ask for.
 ghost use Rattle.std.specs.Prelude.{◌≡◌, IfOk, IfErr, codes};
 ghost use Rattle.clap.specs.Matches.{found_of};
-ghost use Rattle.roam_command.specs.Requests.{IsAttach, IsIdOf, IsNumberOf, IsServe, IsServerOf, IsShow, IsSourceOf, IsTurnsOf, IsWireOf, Asks};
+ghost use Rattle.roam_command.specs.Requests.{IsAttach, IsIdOf, IsNumberOf, IsRows, IsServe, IsServerOf, IsShow, IsSourceOf, IsTurnsOf, IsWireOf, Asks};
 
 use crate::commands::program;
 use clap::error::ErrorKind;
@@ -18,6 +18,11 @@ pub enum Request<'a> {
     Show {
         rows: u16,
         cols: u16,
+    },
+
+    /// `roam rows`: the rows are told that leave terminals; what their programs write may be read as it is meant.
+    Rows {
+        as_meant: bool,
     },
 
     /// `roam world`: a script is played.
@@ -195,6 +200,15 @@ fn show_of<'a>(matches: &ArgMatches<'a>) -> Result<Request<'a>, Refusal>
     }
 }
 
+// What `roam rows` is asked for.
+fn rows_of<'a>(matches: &ArgMatches<'_>) -> Request<'a>
+    ensures rows { IsRows (found_of matches.now) result }
+{
+    Request::Rows {
+        as_meant: matches.get_flag("as-meant"),
+    }
+}
+
 /// What the words ask for, as `clap` matched them: of each option what was found of it. `BadId` where an id is none.
 pub fn request_of<'a>(matches: &ArgMatches<'a>) -> Result<Request<'a>, Refusal>
     ensures asks { IfOk result (Asks matches.now) }
@@ -202,6 +216,7 @@ pub fn request_of<'a>(matches: &ArgMatches<'a>) -> Result<Request<'a>, Refusal>
     match matches.subcommand() {
         Some(("world", _)) => Ok(Request::World),
         Some(("show", inner)) => show_of(inner),
+        Some(("rows", inner)) => Ok(rows_of(inner)),
         Some(("serve", inner)) => serve_of(inner),
         Some(("attach", inner)) => attach_of(inner),
         // Not reached: clap takes no words without a subcommand, and there are no others.

@@ -3,3 +3,4 @@ mod Clipped
 pub mod Following
 pub mod ReadAgain
 mod Titles
+mod Newest

@@ -3,5 +3,6 @@ pub mod Lines
 pub mod BesideLines
 pub mod Besides
 pub mod Clips
+pub mod Asks
 pub mod Closes
 pub mod Reading

@@ -1,4 +1,5 @@
 //! Laws of the definitions, each the contract of a function that does nothing when it runs.
+ghost use Rattle.roam_pane_list.specs.Asks.{AsksAreTheNewest};
 ghost use Rattle.roam_pane_list.specs.BesideLines.{BesideArrives, BesideIsNews};
 ghost use Rattle.roam_pane_list.specs.Clips.{ClipsAreNews, ClipsArrive};
 ghost use Rattle.roam_pane_list.specs.Lines.{LinesArrive, LinesAreNews};
@@ -34,4 +35,9 @@ pub fn clips_arrive()
 /// Each of these lines says what wasn't known before it.
 pub fn clips_are_news()
     ensures news { ClipsAreNews }
+{}
+
+/// What is told of a program's questions are the last sixteen of those that weren't told, each once and in its place.
+pub fn asks_are_the_newest()
+    ensures newest { AsksAreTheNewest }
 {}

@@ -1,6 +1,8 @@
 //! Which panes a session has, how large each is and which is in focus, told in lines to a program that follows it.
 #![tactic(auto)]
 
+mod ask_lines;
+mod ask_list;
 mod beside_lines;
 mod beside_list;
 mod clip_lines;
@@ -10,6 +12,8 @@ pub mod laws;
 mod lines;
 mod pane_list;
 
+pub use ask_lines::push_asks;
+pub use ask_list::{AskList, AskPane};
 pub use beside_lines::push_beside;
 pub use beside_list::{BesideList, BesidePane, in_life};
 pub use clip_lines::push_clip;

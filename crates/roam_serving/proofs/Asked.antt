@@ -14,7 +14,7 @@ use Rattle.roam_pane_list.specs.declared.closes.Close.{Close}
 use Rattle.roam_pane_list.specs.declared.closes.Closing.{Closing}
 use Rattle.roam_pane_list.specs.declared.closes.Closing.TheVariants as closing
 use Rattle.roam_pane_list.specs.declared.pane_list.PaneList.{PaneList}
-use Rattle.roam_serving.specs.Asking.{keeper, beside, clips, AsksFor, DoesLine, IsAsked, IsClosing, bad, gone, last, closes, refused}
+use Rattle.roam_serving.specs.Asking.{keeper, beside, clips, asks, AsksFor, DoesLine, IsAsked, IsClosing, bad, gone, last, closes, refused}
 use Rattle.roam_serving.specs.Closing.{TypesClose, closing_acts}
 use Rattle.roam_serving.specs.declared.closing.Closer.{Closer}
 
@@ -97,12 +97,13 @@ asked_by now line moment old new said free does = record {
     | keeper word same is ↦ none_under_way now moment new (ap (λ (c : Closer). c.closing) same ∙ free)
     | beside word same is ↦ none_under_way now moment new (ap (λ (c : Closer). c.closing) same ∙ free)
     | clips word same is ↦ none_under_way now moment new (ap (λ (c : Closer). c.closing) same ∙ free)
-    | bad other unasked unwanted words same is ↦ none_under_way now moment new (ap (λ (c : Closer). c.closing) same ∙ free)
-    | gone close asks making same is ↦ none_under_way now moment new (ap (λ (c : Closer). c.closing) same ∙ free)
-    | last close asks making alone same is ↦ none_under_way now moment new (ap (λ (c : Closer). c.closing) same ∙ free)
-    | closes close asks making alone by is ↦
-        subst (λ o. IfSome o (λ pair. IsClosing now moment new pair)) (sym by.closing) (close, old, asks.is, refl, making, by)
-    | refused close asks making same is ↦ none_under_way now moment new (same ∙ free)
+    | asks word same is ↦ none_under_way now moment new (ap (λ (c : Closer). c.closing) same ∙ free)
+    | bad other unasked unwanted unheard words same is ↦ none_under_way now moment new (ap (λ (c : Closer). c.closing) same ∙ free)
+    | gone close asked making same is ↦ none_under_way now moment new (ap (λ (c : Closer). c.closing) same ∙ free)
+    | last close asked making alone same is ↦ none_under_way now moment new (ap (λ (c : Closer). c.closing) same ∙ free)
+    | closes close asked making alone by is ↦
+        subst (λ o. IfSome o (λ pair. IsClosing now moment new pair)) (sym by.closing) (close, old, asked.is, refl, making, by)
+    | refused close asked making same is ↦ none_under_way now moment new (same ∙ free)
   ];
 }
 

@@ -3,6 +3,8 @@ mod Asked
 mod Bound
 mod Bringing
 mod Clipped
+mod Framing
+mod Inquired
 mod News
 mod Rung
 mod Seated

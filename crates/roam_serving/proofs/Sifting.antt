@@ -1,7 +1,8 @@
 -- What came goes through a filter, and is handed on.
 use Rattle.std.proofs.Common.{◌≡◌, ◌⊎◌, inl, inr, ℕ, List, [], ◌++◌, take, drop, refl, sym, ap, subst, ◌∙◌, append_assoc, append-nil, take-append-drop}
 use Rattle.roam_meant.specs.Meant.{held_part, meant, meant_from, meant_part}
-use Rattle.roam_serving.specs.Sieves.{Sifts, SieveView, empty_sieve, sifted}
+use Rattle.roam_serving.specs.Frames.{FramesView}
+use Rattle.roam_serving.specs.Sieves.{IsSifted, Sifts, SieveView, empty_sieve}
 
 -- however bytes are cut, the same goes out for them, and the same is held back
 pub record CutsChangeNothing : Type 0 where
@@ -29,34 +30,39 @@ waits-in s piece came given none h = record {
   meant = h.meant;
 }
 
--- what waits before it goes through, where nothing is ready
-goes-through : (s : SieveView) (came given : List ℕ) → CutsChangeNothing → s.ready ≡ [] → Sifts s came given → Sifts (sifted s) came given
-goes-through s came given cuts none h =
-    let out : given ≡ meant_part h.read = sym (append-nil given) ∙ ap (λ l. given ++ l) (sym none) ∙ h.meant in
-    record {
-      read = h.read ++ s.unread;
-      waits = h.waits ∙ sym (append-nil (h.read ++ s.unread));
-      keeps = ap (λ l. held_part (l ++ s.unread)) h.keeps ∙ sym (cuts.held h.read s.unread);
-      meant = (λ i. out i ++ meant_part (h.keeps i ++ s.unread)) ∙ sym (cuts.out h.read s.unread);
-    }
+-- what waits before it goes through
+goes-through : (s t : SieveView) (now : ℕ) (came given : List ℕ) → CutsChangeNothing → IsSifted s t now → Sifts s came given → Sifts t came given
+goes-through s t now came given cuts is h = record {
+  read = h.read ++ s.unread;
+  waits = h.waits ∙ sym (append-nil (h.read ++ s.unread)) ∙ ap (λ l. (h.read ++ s.unread) ++ l) (sym is.unread);
+  keeps = is.held ∙ ap (λ l. held_part (l ++ s.unread)) h.keeps ∙ sym (cuts.held h.read s.unread);
+  meant = ap (λ l. given ++ l) is.takes.ready
+      ∙ sym (append_assoc given s.frames.ready (meant_part (s.held ++ s.unread)))
+      ∙ (λ i. h.meant i ++ meant_part (h.keeps i ++ s.unread)) ∙ sym (cuts.out h.read s.unread);
+}
 
-pub gone-through : (s t : SieveView) (came given : List ℕ) → CutsChangeNothing → s.ready ≡ [] → (t ≡ s) ⊎ (t ≡ sifted s)
+pub gone-through : (s t : SieveView) (now : ℕ) (came given : List ℕ) → CutsChangeNothing → (t ≡ s) ⊎ IsSifted s t now
     → Sifts s came given → Sifts t came given
-gone-through s t came given cuts none (inl same) h = subst (λ u. Sifts u came given) (sym same) h
-gone-through s t came given cuts none (inr is) h = subst (λ u. Sifts u came given) (sym is) (goes-through s came given cuts none h)
+gone-through s t now came given cuts (inl same) h = subst (λ u. Sifts u came given) (sym same) h
+gone-through s t now came given cuts (inr is) h = goes-through s t now came given cuts is h
 
--- so much of what is ready is handed on
-handed-so-much : (s : SieveView) (n : ℕ) (came given : List ℕ) → Sifts s came given
-    → Sifts (record s { ready = drop n s.ready }) came (given ++ take n s.ready)
-handed-so-much s n came given h = record {
+-- what is ready may be less, or wait for less
+pub ready-so : (s : SieveView) (f : FramesView) (came given : List ℕ) → f.ready ≡ s.frames.ready → Sifts s came given
+    → Sifts (record s { frames = f }) came given
+ready-so s f came given same h = record {
   read = h.read;
   waits = h.waits;
   keeps = h.keeps;
-  meant = append_assoc given (take n s.ready) (drop n s.ready) ∙ ap (λ l. given ++ l) (take-append-drop n s.ready) ∙ h.meant;
+  meant = ap (λ l. given ++ l) same ∙ h.meant;
 }
 
-pub handed-on : (s t : SieveView) (n : ℕ) (came given bytes : List ℕ) → t ≡ record s { ready = drop n s.ready } → bytes ≡ take n s.ready
-    → Sifts s came given → Sifts t came (given ++ bytes)
-handed-on s t n came given bytes is same h =
-    subst (λ u. Sifts u came (given ++ bytes)) (sym is)
-    (subst (λ l. Sifts (record s { ready = drop n s.ready }) came (given ++ l)) (sym same) (handed-so-much s n came given h))
+-- so much of what is ready is handed on
+pub handed-on : (s : SieveView) (f : FramesView) (n : ℕ) (came given bytes : List ℕ) → f.ready ≡ drop n s.frames.ready
+    → bytes ≡ take n s.frames.ready → Sifts s came given → Sifts (record s { frames = f }) came (given ++ bytes)
+handed-on s f n came given bytes is same h = record {
+  read = h.read;
+  waits = h.waits;
+  keeps = h.keeps;
+  meant = append_assoc given bytes f.ready
+      ∙ (λ i. given ++ (same i ++ is i)) ∙ ap (λ l. given ++ l) (take-append-drop n s.frames.ready) ∙ h.meant;
+}

@@ -6,6 +6,7 @@ use Rattle.roam_pane_list.specs.declared.closes.Close.{Close}
 use Rattle.roam_pane_list.specs.declared.pane_list.PaneList.{PaneList}
 use Rattle.roam_typing.specs.Lines.{IsFirst}
 use Rattle.roam_serving.specs.Asides.{is_beside_line}
+use Rattle.roam_serving.specs.Asks.{is_asks_line}
 use Rattle.roam_serving.specs.Clips.{is_clips_line}
 use Rattle.roam_serving.specs.Closing.{Closes, IsThere}
 use Rattle.roam_serving.specs.Following.{is_there, turned}
@@ -19,13 +20,14 @@ pub record AsksFor (line : List ℕ) (close : Close) : Type 0 where
   pub text : line ≡ close_text close
 
 -- A line is done at a moment, where these panes are there, and this is said to it: it says that its program is the keeper of shells; it
--- asks for what stands beside the panes' terminals, or for texts for the clipboard; it asks for no close; the pane is gone, or no other is
--- there; that pane's close is under way, and then the focus goes where the close says; or its start refused it.
+-- asks for what stands beside the panes' terminals, for texts for the clipboard, or for questions; it asks for no close; the pane is gone, or
+-- no other is there; that pane's close is under way, and then the focus goes where the close says; or its start refused it.
 pub data DoesLine (now : PaneList) (line : List ℕ) (moment : ℕ) (old new : Closer) (said : List ℕ) : Type 0 where
   keeper : is_keeper_line line ≡ true → new ≡ old → said ≡ [] → DoesLine now line moment old new said
   beside : is_beside_line line ≡ true → new ≡ old → said ≡ [] → DoesLine now line moment old new said
   clips : is_clips_line line ≡ true → new ≡ old → said ≡ [] → DoesLine now line moment old new said
-  bad : is_keeper_line line ≡ false → is_beside_line line ≡ false → is_clips_line line ≡ false
+  asks : is_asks_line line ≡ true → new ≡ old → said ≡ [] → DoesLine now line moment old new said
+  bad : is_keeper_line line ≡ false → is_beside_line line ≡ false → is_clips_line line ≡ false → is_asks_line line ≡ false
       → ((close : Close) → AsksFor line close → ⊥) → new ≡ old → said ≡ codes "bad line\n" → DoesLine now line moment old new said
   gone : (close : Close) → AsksFor line close → is_making now close.pane close.life ≡ false → new ≡ old → said ≡ []
       → DoesLine now line moment old new said
@@ -45,6 +47,7 @@ pub record TakesLine {S : Type 0} (now : PaneList) (moment : ℕ) (closer closer
   pub role : new.role ≡ role_after line old.role
   pub aside : new.aside ≡ record old.aside { is_asked = old.aside.is_asked || is_beside_line line }
   pub clips : new.clips ≡ record old.clips { is_asked = old.clips.is_asked || is_clips_line line }
+  pub asks : new.asks ≡ record old.asks { is_asked = old.asks.is_asked || is_asks_line line }
   pub waits : (new.program.stream ≡ None) ⊎ (new.waiting.items ≡ old.waiting.items ++ said)
 
 -- a close under way is one that was asked for: its pane is there, of that making, and the focus goes where the close says

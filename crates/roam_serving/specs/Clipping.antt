@@ -4,7 +4,8 @@ use Rattle.roam_pane_list.specs.declared.clip_list.ClipList.{ClipList}
 use Rattle.roam_serving.specs.Clips.{AreClips, clip_news}
 use Rattle.roam_serving.specs.Following.{HandsAside}
 use Rattle.roam_serving.specs.Seats.{is_other_role}
-use Rattle.roam_serving.specs.Tellings.{again_at, is_time}
+use Rattle.roam_serving.specs.Tellings.{again_at}
+use Rattle.roam_serving.specs.Moments.{is_time}
 use Rattle.roam_serving.specs.declared.clipping.ClipTimes.{ClipTimes}
 use Rattle.roam_serving.specs.declared.following.Follower.{Follower}
 use Rattle.roam_serving.specs.declared.panes.Pane.{Pane}

@@ -13,6 +13,7 @@ use Rattle.roam_pane_list.specs.declared.pane_list.PaneList.{PaneList}
 use Rattle.roam_typing.specs.Lines.{nothing_came}
 use Rattle.roam_pane_list.specs.declared.beside_list.BesideList.{BesideList}
 use Rattle.roam_serving.specs.Asides.{IsFreshAside, Renews}
+use Rattle.roam_serving.specs.Asks.{AreFreshAsks}
 use Rattle.roam_serving.specs.Clips.{AreFreshClips}
 use Rattle.roam_serving.specs.Programs.{Wrote}
 use Rattle.roam_serving.specs.declared.panes.Pane.{Pane}
@@ -43,6 +44,7 @@ pub record IsFresh {S : Type 0} (f : Follower S) : Type 0 where
   pub role : f.role ≡ Other
   pub aside : IsFreshAside f.aside
   pub clips : AreFreshClips f.clips
+  pub asks : AreFreshAsks f.asks
 
 -- what is said to a line by which nothing is done; nothing is said to a close of a pane that is gone
 abbrev pub IsReply : List ℕ → Type 0

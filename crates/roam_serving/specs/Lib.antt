@@ -2,9 +2,13 @@ pub mod Asides
 pub mod Asking
 pub mod Clipping
 pub mod Clips
+pub mod Asks
+pub mod Questioning
 pub mod Closing
 pub mod Following
+pub mod Frames
 pub mod Inflows
+pub mod Moments
 pub mod Panes
 pub mod Peers
 pub mod Programs

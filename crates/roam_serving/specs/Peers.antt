@@ -1,10 +1,11 @@
 -- The peers of a pane's socket: the programs that come to it.
-use Rattle.std.specs.Prelude.{ℕ, ◌≡◌, ◌≢◌, ◌+◌, ◌-◌, ◌≤◌, ◌⊎◌, Bool, true, false, List, length, slice_get, Option, Some, None, IsSome, IfSome, is_some, Result, Ok, Err}
+use Rattle.std.specs.Prelude.{ℕ, ◌≡◌, ◌≢◌, ◌+◌, ◌-◌, ◌≤◌, ◌⊎◌, Bool, true, false, List, [], ◌∷◌, length, slice_get, Option, Some, None, IsSome, IfSome, is_some, Result, Ok, Err}
 use Rattle.std.specs.declared.io.Error.{Error}
 use Rattle.roam_faults.specs.Streams.{IsForNow}
 use Rattle.mio.specs.declared.net.uds.stream.UnixStream.{UnixStream}
 use Rattle.roam_serving.specs.Inflows.{Brings, IsFreshInflow}
-use Rattle.roam_serving.specs.Sieves.{IsFree}
+use Rattle.roam_serving.specs.Sieves.{IsFree, waits_until}
+use Rattle.roam_serving.specs.Moments.{sooner}
 use Rattle.roam_serving.specs.declared.peers.Making.{Making}
 use Rattle.roam_serving.specs.declared.inflows.Inflow.{Inflow}
 use Rattle.roam_serving.specs.declared.panes.Pane.{Pane}
@@ -70,3 +71,8 @@ pub record Changes (Goes : Pane → Pane → Type 0) (pane : ℕ) (old new : Lis
   pub count : length new ≡ length old
   pub others : (k : ℕ) → k + 1 ≢ pane → slice_get new k ≡ slice_get old k
   pub this : 1 ≤ pane → IfSome (slice_get old (pane - 1)) (λ p. IfSome (slice_get new (pane - 1)) (λ q. Goes p q))
+
+-- until when a frame is held on the way to a pane's terminal, of the first one that ends
+abbrev pub frames_until : List Pane → Option ℕ
+frames_until [] = None
+frames_until (pane ∷ panes) = sooner (waits_until pane.inflow.sieve) (frames_until panes)

@@ -12,8 +12,10 @@ use Rattle.roam_sockets.specs.Waits.{wait_for}
 use Rattle.roam_sockets.specs.declared.clients.Clients.{Clients}
 use Rattle.roam_sockets.specs.declared.udp.Udp.{Udp}
 use Rattle.roam_serving.specs.Clipping.{AreToldClips}
+use Rattle.roam_serving.specs.Questioning.{AreToldAsks}
 use Rattle.roam_serving.specs.Following.{AreAllTold, ArePanesOf}
-use Rattle.roam_serving.specs.Tellings.{AreToldBeside, sooner}
+use Rattle.roam_serving.specs.Tellings.{AreToldBeside}
+use Rattle.roam_serving.specs.Moments.{sooner}
 use Rattle.roam_serving.specs.declared.clipping.ClipTimes.{ClipTimes}
 use Rattle.roam_serving.specs.declared.following.Follower.{Follower}
 use Rattle.roam_serving.specs.declared.panes.Pane.{Pane}
@@ -44,8 +46,8 @@ pub record HasTold (contents : UnixStream → Option (List ℕ)) (server : Serve
   pub before : List (Follower UnixStream)
   pub told : AreAllTold contents panes before followers
 
--- So they were, and then what is new of what stands beside the panes' terminals, as far as that was to be told, and of texts for the
--- clipboard.
+-- So they were, and then what is new of what stands beside the panes' terminals, as far as that was to be told, of texts for the
+-- clipboard, and of questions.
 pub record HasToldAll (contents : UnixStream → Option (List ℕ)) (server : ServerView) (moment : ℕ) (panes : List Pane)
     (followers : List (Follower UnixStream)) : Type 0 where
   pub mid : List (Follower UnixStream)
@@ -56,7 +58,9 @@ pub record HasToldAll (contents : UnixStream → Option (List ℕ)) (server : Se
   pub beside : AreToldBeside contents telling told_telling moment panes mid later
   pub clipping : ClipTimes
   pub told_clipping : ClipTimes
-  pub clips : AreToldClips contents clipping told_clipping moment panes later followers
+  pub last : List (Follower UnixStream)
+  pub clips : AreToldClips contents clipping told_clipping moment panes later last
+  pub asks : AreToldAsks contents panes last followers
 
 -- a server next has something due at a moment, or never: before it a tick does nothing, and at it one does something
 pub record IsNextDue (server : ServerView) (due : Option ℕ) : Type 0 where

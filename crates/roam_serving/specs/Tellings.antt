@@ -1,35 +1,20 @@
 -- When what stands beside the panes' terminals is told.
-use Rattle.std.specs.Prelude.{ℕ, zero, suc, ◌≡◌, ◌+◌, ◌-◌, ◌||◌, ◌&&◌, ◌==◌, Bool, true, false, not, List, [], ◌∷◌, min, nat_le, Option, Some, None, if◌then◌else◌}
+use Rattle.std.specs.Prelude.{ℕ, zero, suc, ◌≡◌, ◌||◌, ◌&&◌, ◌==◌, Bool, true, false, not, List, [], ◌∷◌, Option, Some, None, if◌then◌else◌}
 use Rattle.std.specs.List.{AllZip}
 use Rattle.roam_pane_list.specs.Besides.{beside_at, in_life}
 use Rattle.roam_pane_list.specs.declared.beside_list.BesideList.{BesideList}
 use Rattle.roam_pane_list.specs.declared.beside_list.BesidePane.{BesidePane}
 use Rattle.roam_serving.specs.Asides.{AreBeside}
 use Rattle.roam_serving.specs.Following.{TellsBeside}
+use Rattle.roam_serving.specs.Moments.{after, is_time}
 use Rattle.roam_serving.specs.declared.following.Follower.{Follower}
 use Rattle.roam_serving.specs.declared.panes.Pane.{Pane}
 use Rattle.roam_serving.specs.declared.tellings.AsideTimes.{AsideTimes}
-
--- so many milliseconds have passed since a moment, if there was one
-abbrev pub is_time : Option ℕ → ℕ → ℕ → Bool
-is_time None now pace = true
-is_time (Some last) now pace = nat_le pace (now - last)
-
--- so many milliseconds after a moment, if there was one
-abbrev pub after : Option ℕ → ℕ → Option ℕ
-after None pace = None
-after (Some last) pace = Some (min 18446744073709551615 (last + pace))
 
 -- when it is to be looked again: where something might be told now, only once something is new
 abbrev pub again_at : Bool → Option ℕ → ℕ → Option ℕ
 again_at true last pace = None
 again_at false last pace = after last pace
-
--- the sooner of two moments, if there is any
-abbrev pub sooner : Option ℕ → Option ℕ → Option ℕ
-sooner None other = other
-sooner (Some one) None = Some one
-sooner (Some one) (Some other) = Some (min one other)
 
 -- a program asked for it
 abbrev pub any_asked : {S : Type 0} → List (Follower S) → Bool

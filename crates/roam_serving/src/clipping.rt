@@ -1,7 +1,7 @@
 //! Which texts for the clipboard the programs that follow the panes are told, and when.
 ghost use Rattle.std.specs.Prelude.{◌≡◌, true, false, length, nat_lt, None};
 ghost use Rattle.roam_serving.specs.Clipping.{GivesClips, IsFree, TellsClips, TellsEachClips, any_wants, times_clipped, notes_clips, wants_clips};
-ghost use Rattle.roam_serving.specs.Tellings.{is_time};
+ghost use Rattle.roam_serving.specs.Moments.{is_time};
 
 use crate::clips::clip_news;
 use crate::following::Follower;
@@ -78,7 +78,7 @@ impl<S: Stream + Drop> Follower<S> {
     }
 
     // Whether nothing waits for it.
-    fn is_free(&self) -> bool
+    pub(crate) fn is_free(&self) -> bool
         ensures free { result ≡ true → IsFree self.now }
         ensures busy { result ≡ false → IsFree self.now → ⊥ }
     {

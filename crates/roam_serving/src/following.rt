@@ -7,16 +7,19 @@ ghost use Rattle.roam_serving.specs.Clipping.{TellsEachClips, any_wants};
 ghost use Rattle.roam_serving.specs.Following.{AreTold, GoesOn, HandsAside, HaveCome, IsFresh, IsReply, IsTold, MayHear, RenewsBeside, Replies, Tells, TellsBeside, is_there, most_taken, news, panes_path, room, turned};
 ghost use Rattle.roam_serving.specs.Programs.{Wrote};
 ghost use Rattle.roam_serving.specs.Tellings.{any_asked};
+ghost use Rattle.roam_serving.specs.Questioning.{TellsAsks};
 ghost use Rattle.roam_serving.specs.Seats.{any_new, kept_place, seated};
 ghost use Rattle.roam_serving.specs.declared.closing.Closer.{Closer as CloserOf};
 ghost use Rattle.roam_serving.specs.declared.following.Follower.{Follower as FollowerOf};
 
 use crate::asides::{Aside, is_beside};
+use crate::asks::{AsksTold, is_asks};
 use crate::clipping::{any_wants, tell_each_clips};
 use crate::clips::{ClipsTold, is_clips};
 use crate::closing::Closer;
 use crate::panes::Panes;
 use crate::programs::Program;
+use crate::questioning::tell_each_asks;
 use crate::seats::{Role, is_keeper, role_after, seat_keeper};
 use mio::net::{UnixListener, UnixStream};
 use mio::{Interest, Registry, Token};
@@ -24,7 +27,7 @@ use roam_cells::Fault;
 use roam_faults::RunFault;
 use roam_frames::Stream;
 use roam_pane_list::{
-    BesideList, ClipList, Closing, PaneList, acts_for, lines_between, read_close,
+    AskList, BesideList, ClipList, Closing, PaneList, acts_for, lines_between, read_close,
 };
 use roam_sockets::listen;
 use roam_typing::{Front, Lines};
@@ -58,6 +61,7 @@ pub(crate) struct Follower<S> {
     pub(crate) role: Role,
     pub(crate) aside: Aside,
     pub(crate) clips: ClipsTold,
+    pub(crate) asks: AsksTold,
 }
 
 // Does what a line asks for, and answers what is said to it: nothing where its pane is gone, or is being closed.
@@ -71,7 +75,7 @@ fn do_line(
     requires free { closer.old.closing ≡ None }
     ensures does { DoesLine now.now line.now moment closer.old closer.new result.now }
 {
-    if is_keeper(line) || is_beside(line) || is_clips(line) {
+    if is_keeper(line) || is_beside(line) || is_clips(line) || is_asks(line) {
         return b"";
     }
     let Some(close) = read_close(line) else {
@@ -100,6 +104,7 @@ impl<S: Stream + Drop> Follower<S> {
             role: Role::Other,
             aside: Aside::new(alloc),
             clips: ClipsTold::new(),
+            asks: AsksTold::new(),
         }
     }
 
@@ -189,6 +194,7 @@ impl<S: Stream + Drop> Follower<S> {
         let role = role_after(line, self.role);
         self.aside.heard(line);
         self.clips.ask(line);
+        self.asks.ask(line);
         self.say(said);
         self.lines.took();
         self.role = role;
@@ -508,6 +514,16 @@ impl Followers {
             self.new.all.items }
     {
         tell_each_clips(alloc, &mut self.all, now, may, panes)
+    }
+
+    /// Tells the programs that asked for that what is new of what the panes' programs ask.
+    pub(crate) fn tell_asks(&mut self, alloc: Global, now: &AskList, panes: &Panes)
+        ensures path { self.new.path ≡ self.old.path }
+        ensures noted { self.new.may_ask ≡ self.old.may_ask }
+        ensures told { AllZip (λ old new. TellsAsks ⟦<UnixStream as Stream>⟧.contents now.now panes.now.all.items old new)
+            self.old.all.items self.new.all.items }
+    {
+        tell_each_asks(alloc, &mut self.all, now, panes);
     }
 
     /// Whether a program wants texts for the clipboard.

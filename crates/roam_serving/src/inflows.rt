@@ -3,11 +3,11 @@ ghost use Rattle.std.specs.Prelude.{◌≡◌, ◌≤◌, ◌++◌, ℕ, List, [
 ghost use Rattle.roam_serving.specs.Asides.{title_codes};
 ghost use Rattle.roam_serving.specs.Clips.{clip_codes};
 ghost use Rattle.roam_serving.specs.Inflows.{Carries, IsFreshInflow};
-ghost use Rattle.roam_serving.specs.Sieves.{Goes, IsFree, bytes_given};
+ghost use Rattle.roam_serving.specs.Sieves.{Goes, IsFree, TakesMore, bytes_given, waits_until};
 
 use crate::sieves::Sieve;
-use roam_beside::Beside;
-use roam_pane_list::{BesidePane, ClipPane};
+use roam_beside::{Beside, Question};
+use roam_pane_list::{AskPane, BesidePane, ClipPane};
 use std::alloc::Global;
 
 // A filter, where one is asked for.
@@ -24,9 +24,9 @@ fn sieve_for(alloc: Global, is_meant: bool) -> Option<Sieve>
 }
 
 // A piece came that fills a buffer so far: how many bytes there go on now, in its place.
-fn pass(sieve: &mut Option<Sieve>, buf: &mut [u8], count: usize) -> usize
+fn pass(sieve: &mut Option<Sieve>, buf: &mut [u8], count: usize, now: u64) -> usize
     requires count { count ≤ min 1024 (length buf.old) }
-    requires free { IsFree sieve.old }
+    requires free { TakesMore sieve.old }
     ensures within { result ≤ length buf.new }
     ensures goes { (came given : List ℕ) → Goes sieve.old came given
         → Goes sieve.new (came ++ take count buf.old) (given ++ take result buf.new) }
@@ -36,24 +36,24 @@ fn pass(sieve: &mut Option<Sieve>, buf: &mut [u8], count: usize) -> usize
         None => count,
         Some(sieve) => {
             sieve.take_in(buf.split_at(count).0);
-            sieve.go_on(buf)
+            sieve.go_on(buf, now)
         }
     }
 }
 
-// How many bytes go on of what waits; none where nothing does.
-fn pass_on(sieve: &mut Option<Sieve>, buf: &mut [u8]) -> Option<usize>
-    ensures none { result ≡ None → (sieve.new ≡ sieve.old) × IsFree sieve.new }
+// How many bytes go on of what waits at a moment; none where nothing may, and more may be read.
+fn pass_on(sieve: &mut Option<Sieve>, buf: &mut [u8], now: u64) -> Option<usize>
+    ensures none { result ≡ None → (sieve.new ≡ sieve.old) × TakesMore sieve.new }
     ensures some { IfSome result (λ _. IsFree sieve.old → ⊥) }
     ensures within { IfSome result (λ n. n ≤ length buf.new) }
     ensures goes { (came given : List ℕ) → Goes sieve.old came given → Goes sieve.new came (given ++ bytes_given result buf.new) }
     ensures kind { is_some sieve.new ≡ is_some sieve.old }
 {
     let sieve = sieve.as_mut()?;
-    if sieve.is_free() {
+    if sieve.is_quiet(now) {
         return None;
     }
-    Some(sieve.go_on(buf))
+    Some(sieve.go_on(buf, now))
 }
 
 /// What comes of a pane's program in one life of the pane: as it comes, or through a filter; and what it says beside the screen.
@@ -119,28 +119,55 @@ impl Inflow {
         self.beside.clip().unwrap_or(&[])
     }
 
-    /// How many bytes go on of what waits, which may be none for want of memory; nothing waits where it answers none.
-    pub(crate) fn go_on(&mut self, buf: &mut [u8]) -> Option<usize>
-        ensures none { result ≡ None → (self.new ≡ self.old) × IsFree self.new.sieve }
+    /// How many questions were asked in this life of the pane.
+    pub(crate) fn asks_of(&self, life: u64) -> AskPane
+        ensures asks { result ≡ record { life = life; asked = self.now.beside.asked.count } }
+    {
+        AskPane {
+            life,
+            asked: self.beside.questions_asked(),
+        }
+    }
+
+    /// The last of them, in their order.
+    pub(crate) fn questions(&self) -> &[Question]
+        ensures last { result.now ≡ self.now.beside.asked.last }
+    {
+        self.beside.questions()
+    }
+
+    /// Until when a frame is held at most, if one is.
+    pub(crate) fn waits_until(&self) -> Option<u64>
+        ensures until { result ≡ waits_until self.now.sieve }
+    {
+        match &self.sieve {
+            None => None,
+            Some(sieve) => sieve.held_until(),
+        }
+    }
+
+    /// How many bytes go on of what waits at a moment, which may be none for want of memory; more may be read where it answers none.
+    pub(crate) fn go_on(&mut self, buf: &mut [u8], now: u64) -> Option<usize>
+        ensures none { result ≡ None → (self.new ≡ self.old) × TakesMore self.new.sieve }
         ensures some { IfSome result (λ _. IsFree self.old.sieve → ⊥) }
         ensures within { IfSome result (λ n. n ≤ length buf.new) }
         ensures carries { (came given : List ℕ) → Carries self.old came given
             → Carries self.new came (given ++ bytes_given result buf.new) }
         ensures kind { is_some self.new.sieve ≡ is_some self.old.sieve }
     {
-        pass_on(&mut self.sieve, buf)
+        pass_on(&mut self.sieve, buf, now)
     }
 
     /// A piece came that fills a buffer so far: how many bytes there go on now, in its place.
-    pub(crate) fn came(&mut self, buf: &mut [u8], count: usize) -> usize
+    pub(crate) fn came(&mut self, buf: &mut [u8], count: usize, now: u64) -> usize
         requires count { count ≤ min 1024 (length buf.old) }
-        requires free { IsFree self.old.sieve }
+        requires free { TakesMore self.old.sieve }
         ensures within { result ≤ length buf.new }
         ensures carries { (came given : List ℕ) → Carries self.old came given
             → Carries self.new (came ++ take count buf.old) (given ++ take result buf.new) }
         ensures kind { is_some self.new.sieve ≡ is_some self.old.sieve }
     {
         self.beside.feed(buf.split_at(count).0);
-        pass(&mut self.sieve, buf, count)
+        pass(&mut self.sieve, buf, count, now)
     }
 }

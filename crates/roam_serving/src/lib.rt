@@ -2,14 +2,17 @@
 #![tactic(auto)]
 
 mod asides;
+mod asks;
 mod clipping;
 mod clips;
 mod closing;
 mod following;
+mod frames;
 mod inflows;
 mod panes;
 mod peers;
 mod programs;
+mod questioning;
 mod refused;
 mod seats;
 mod server_ports;

@@ -3,19 +3,22 @@ ghost use Rattle.std.specs.Prelude.{◌≡◌, ◌≢◌, ◌⊎◌, ◌++◌, �
 ghost use Rattle.std.specs.List.{All};
 ghost use Rattle.roam_serving.specs.Panes.{path_of, paths_of};
 ghost use Rattle.roam_serving.specs.Asides.{AreBeside, pane_beside, shown_bells, title_of};
+ghost use Rattle.roam_serving.specs.Asks.{AreAsks, last_of, pane_asks};
 ghost use Rattle.roam_serving.specs.Clips.{AreClips, clip_of, pane_clips};
 ghost use Rattle.roam_serving.specs.Inflows.{IsFreshInflow};
-ghost use Rattle.roam_serving.specs.Peers.{Changes, Lives, Asks, Hears, has_peer, inflow_in};
+ghost use Rattle.roam_serving.specs.Peers.{Changes, Lives, Asks, Hears, frames_until, has_peer, inflow_in};
 ghost use Rattle.roam_serving.specs.Sieves.{bytes_given};
 
 use crate::inflows::Inflow;
 use crate::peers::{Making, has_peer, life_of, live, read, write};
+use crate::tellings::sooner;
 use mio::net::UnixListener;
 use mio::{Interest, Registry, Token};
 use roam_acts::limits::{MOST_PANES, PANES_END};
+use roam_beside::Question;
 use roam_cells::Fault;
 use roam_faults::RunFault;
-use roam_pane_list::{BesideList, BesidePane, ClipList, ClipPane};
+use roam_pane_list::{AskList, AskPane, BesideList, BesidePane, ClipList, ClipPane};
 use roam_sockets::listen;
 use std::alloc::Global;
 use std::fs::{Files, remove_file};
@@ -69,7 +72,7 @@ impl Pane {
     }
 
     // What goes on to the terminal of what the program wrote: how many bytes of `buf` it fills from the front.
-    fn read(&mut self, registry: &Registry, buf: &mut [u8]) -> Option<usize>
+    fn read(&mut self, registry: &Registry, buf: &mut [u8], now: u64) -> Option<usize>
         ensures within { IfSome result (λ n. n ≤ length buf.new) }
         ensures hears { Hears (is_some result) (bytes_given result buf.new) self.old self.new }
         ensures none { result ≡ None → self.new.inflow ≡ self.old.inflow }
@@ -80,6 +83,7 @@ impl Pane {
             &self.listener,
             registry,
             buf,
+            now,
         )
     }
 
@@ -100,6 +104,16 @@ impl Pane {
         match life_of(&self.making) {
             None => None,
             Some(life) => Some(self.inflow.clips_of(life)),
+        }
+    }
+
+    // How many questions the program has asked, where the pane is there.
+    fn asks(&self) -> Option<AskPane>
+        ensures asks { result ≡ pane_asks (Some self.now) }
+    {
+        match life_of(&self.making) {
+            None => None,
+            Some(life) => Some(self.inflow.asks_of(life)),
         }
     }
 
@@ -125,6 +139,14 @@ fn shown_bells(
         Some(now) if may_ring => Some(now),
         Some(now) => Some(now.without_new_bells(shown)),
     }
+}
+
+// Until when a frame is held in one of these panes at most, of the first one that ends.
+fn frames_until(all: &[Pane]) -> Option<u64>
+    ensures until { result ≡ frames_until all.now }
+{
+    let (first, others) = all.split_first()?;
+    sooner(first.inflow.waits_until(), frames_until(others))
 }
 
 /// The sockets `p1` to `p9` of a folder, each of the pane of that number.
@@ -208,8 +230,14 @@ impl Panes {
     }
 
     /// What goes on to a pane's terminal of what its program wrote: how many bytes of `buf` it fills from the front, none where all that
-    /// came waits. A peer is taken where there is none, and let go where it is gone; one that comes to a pane that isn't there waits.
-    pub(crate) fn read(&mut self, registry: &Registry, pane: u8, buf: &mut [u8]) -> Option<usize>
+    /// came waits, as while a frame is open. A peer is taken where there is none, and let go where it is gone; one that comes to a pane that isn't there waits.
+    pub(crate) fn read(
+        &mut self,
+        registry: &Registry,
+        pane: u8,
+        buf: &mut [u8],
+        now: u64,
+    ) -> Option<usize>
         ensures within { IfSome result (λ n. n ≤ length buf.new) }
         ensures hears { Changes (Hears (is_some result) (bytes_given result buf.new)) pane self.old.all.items self.new.all.items }
         ensures none { result ≡ None → 1 ≤ pane
@@ -219,7 +247,7 @@ impl Panes {
         if at < 1 || self.all.len() < at {
             return None;
         }
-        self.all[at - 1].read(registry, buf)
+        self.all[at - 1].read(registry, buf, now)
     }
 
     // What stands beside the terminal of a pane, where it is there.
@@ -289,6 +317,46 @@ impl Panes {
             list.set(pane, self.clips_at(pane));
         }
         list
+    }
+
+    /// How many questions the program of a pane has asked, where the pane is there.
+    pub(crate) fn asks_at(&self, pane: u8) -> Option<AskPane>
+        ensures asks { 1 ≤ pane → result ≡ pane_asks (slice_get self.now.all.items (pane - 1)) }
+    {
+        let at = usize::from(pane);
+        if at < 1 || self.all.len() < at {
+            return None;
+        }
+        self.all[at - 1].asks()
+    }
+
+    /// The last questions that the program of a pane asked, in their order.
+    pub(crate) fn questions(&self, pane: u8) -> &[Question]
+        ensures last { 1 ≤ pane → result.now ≡ last_of self.now.all.items pane }
+    {
+        let at = usize::from(pane);
+        if at < 1 || self.all.len() < at {
+            return &[];
+        }
+        self.all[at - 1].inflow.questions()
+    }
+
+    /// How many questions the panes' programs have asked.
+    pub(crate) fn ask_counts(&self) -> AskList
+        ensures are { AreAsks self.now.all.items result }
+    {
+        let mut list = AskList::unknown();
+        for pane in 1..PANES_END {
+            list.set(pane, self.asks_at(pane));
+        }
+        list
+    }
+
+    /// Until when a frame is held in a pane at most, of the first one that ends, if one is.
+    pub(crate) fn frames_until(&self) -> Option<u64>
+        ensures until { result ≡ frames_until self.now.all.items }
+    {
+        frames_until(&self.all)
     }
 
     /// Whether a peer came to a pane that is there.

@@ -208,6 +208,7 @@ pub(crate) fn read(
     listener: &UnixListener,
     registry: &Registry,
     buf: &mut [u8],
+    now: u64,
 ) -> Option<usize>
     ensures within { IfSome result (λ n. n ≤ length buf.new) }
     ensures from { IfSome result (λ _. IsSome (peer_in making.new) ⊎ (IsFree inflow.old.sieve → ⊥)) }
@@ -218,12 +219,12 @@ pub(crate) fn read(
     ensures none { result ≡ None → inflow.new ≡ inflow.old }
 {
     let making = making.as_mut()?;
-    if let Some(count) = inflow.go_on(buf) {
+    if let Some(count) = inflow.go_on(buf, now) {
         return Some(count);
     }
     let most = buf.len().min(MOST_READ);
     let count = hear(making, listener, registry, buf.split_at_mut(most).0)?;
-    Some(inflow.came(buf, count))
+    Some(inflow.came(buf, count, now))
 }
 
 /// How many of the bytes the program of a pane took, 0 where none is there.

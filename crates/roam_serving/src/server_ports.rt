@@ -1,5 +1,5 @@
 //! The ports of a server over sockets. What they carried isn't told.
-ghost use Rattle.std.specs.Prelude.{◌≡◌, ◌≢◌, ◌⊎◌, ◌<◌, ◌≤◌, [], ℕ, List, true, false, not, length, map, string_bytes, is_some, nat_lt, None, Some, IfOk, IfSome, IfErr};
+ghost use Rattle.std.specs.Prelude.{◌≡◌, ◌≢◌, ◌⊎◌, ◌<◌, ◌≤◌, ◌-◌, [], ℕ, List, slice_get, true, false, not, length, map, string_bytes, is_some, nat_lt, None, Some, IfOk, IfSome, IfErr};
 ghost use Rattle.std.specs.List.{All};
 ghost use Rattle.std.specs.Option.{option_map};
 ghost use Rattle.roam_sockets.specs.Addresses.{number_of};
@@ -7,15 +7,18 @@ ghost use Rattle.roam_sockets.specs.Clients.{Accepts, IsOf, IsQueuedFor};
 ghost use Rattle.roam_sockets.specs.declared.udp.Udp.{Udp as UdpOf};
 ghost use Rattle.roam_sockets.specs.Waits.{wait_for};
 ghost use Rattle.roam_serving.specs.Asking.{HaveAsked, IsAsked, Settles};
+ghost use Rattle.roam_serving.specs.Asks.{count_asked, pane_asks};
 ghost use Rattle.roam_serving.specs.Clipping.{AreToldClips};
 ghost use Rattle.roam_serving.specs.Closing.{GivesOwn, HearsAnswer, own_address};
 ghost use Rattle.roam_serving.specs.Following.{AreAllTold, HaveCome, most_taken, panes_path};
 ghost use Rattle.roam_serving.specs.Rests.{Flushes, SendsBy, is_paced};
 ghost use Rattle.roam_serving.specs.declared.closing.Closer.{Closer as CloserOf};
-ghost use Rattle.roam_serving.specs.Tellings.{AreToldBeside, sooner};
+ghost use Rattle.roam_serving.specs.Tellings.{AreToldBeside};
+ghost use Rattle.roam_serving.specs.Moments.{sooner};
+ghost use Rattle.roam_serving.specs.Questioning.{AreToldAsks};
 ghost use Rattle.roam_serving.specs.Panes.{IsPortOf, clients_path, paths_of};
 ghost use Rattle.roam_serving.specs.Inflows.{IsFreshInflow};
-ghost use Rattle.roam_serving.specs.Peers.{Asks, Changes, Hears, IsStill, Lives};
+ghost use Rattle.roam_serving.specs.Peers.{Asks, Changes, Hears, IsStill, Lives, frames_until};
 ghost use Rattle.roam_serving.specs.Sieves.{bytes_given};
 
 use crate::clipping::ClipTimes;
@@ -28,7 +31,7 @@ use roam_cells::Fault;
 use roam_faults::RunFault;
 use roam_frames::Stream;
 use roam_hub::Addr;
-use roam_pane_list::PaneList;
+use roam_pane_list::{AskPane, PaneList};
 use roam_sockets::{Clients, Moments, Udp, Waits, next_by_turns, wait_for};
 use roam_turns::Ports;
 use std::alloc::Global;
@@ -197,6 +200,43 @@ fn tell_clips(
     clipping.tells(any, moment);
 }
 
+// Tells the programs that asked for that what is new of what the panes' programs ask.
+fn tell_asks(alloc: Global, followers: &mut Followers, panes: &Panes)
+    ensures told { AreToldAsks ⟦<UnixStream as Stream>⟧.contents panes.now.all.items followers.old.all.items followers.new.all.items }
+    ensures noted { followers.new.may_ask ≡ followers.old.may_ask }
+{
+    let now = panes.ask_counts();
+    followers.tell_asks(alloc, &now, panes);
+}
+
+// How many questions a pane's program has asked, as far as is known.
+fn count_asked(asks: Option<AskPane>) -> u64
+    ensures count { result ≡ count_asked asks }
+{
+    match asks {
+        None => 0,
+        Some(asks) => asks.asked,
+    }
+}
+
+// The same, where a piece may have asked more.
+fn tell_new_asks(
+    alloc: Global,
+    followers: &mut Followers,
+    panes: &Panes,
+    before: Option<AskPane>,
+    after: Option<AskPane>,
+)
+    ensures told { (count_asked before ≡ count_asked after → ⊥)
+        → AreToldAsks ⟦<UnixStream as Stream>⟧.contents panes.now.all.items followers.old.all.items followers.new.all.items }
+    ensures none { count_asked before ≡ count_asked after → followers.new ≡ followers.old }
+    ensures noted { followers.new.may_ask ≡ followers.old.may_ask }
+{
+    if count_asked(before) != count_asked(after) {
+        tell_asks(alloc, followers, panes);
+    }
+}
+
 impl<R: Clock + Drop> ServerPorts<R> {
     /// Binds in a folder the sockets `p1` to `p9`, of panes that aren't there yet, `panes`, where a program follows them, and `clients`,
     /// for client starts; and where it is asked for a port of this machine, any that is free where it is 0. `Bind` where one can't be
@@ -281,14 +321,15 @@ impl<R: Clock + Drop> ServerPorts<R> {
         }
     }
 
-    /// Writes what waits for client starts, takes those that come, and waits until something comes or is due at a moment, or what
-    /// stands beside the panes' terminals is to be told, where nothing came since the last call and no datagram of its own start waits.
+    /// Writes what waits for client starts, takes those that come, and waits until something comes or is due at a moment, what stands
+    /// beside the panes' terminals is to be told, or a frame isn't held any more, where nothing came since the last call and no datagram of its own start waits.
     pub fn rest(&mut self, due: Option<u64>)
         ensures quiet { self.new.waits.quiet ≡ true }
         // A wait leaves nothing of what waits for a client start whose stream would take more.
         ensures waited { IfSome self.new.waits.longest (λ longest. (self.old.waits.quiet ≡ true) × (self.old.closer.closing ≡ None)
             × (self.new.clients.is_flushed ≡ true)
-            × (longest ≡ wait_for (sooner due (sooner self.old.telling.due self.old.clipping.due)) self.old.moment
+            × (longest ≡ wait_for (sooner due (sooner (sooner self.old.telling.due self.old.clipping.due)
+            (frames_until self.old.panes.all.items))) self.old.moment
             (is_paced self.new.udp))) }
         ensures flushed { Flushes ⟦<UnixStream as Stream>⟧.answers self.old.clients self.new.clients }
         ensures telling { self.new.telling ≡ self.old.telling }
@@ -303,7 +344,8 @@ impl<R: Clock + Drop> ServerPorts<R> {
         let is_paced = !flush_udp(&mut self.udp, self.moment);
         let waits = self.waits.is_quiet();
         let telling = sooner(self.telling.due(), self.clipping.due());
-        let due = sooner(due, telling);
+        let held = self.panes.frames_until();
+        let due = sooner(due, sooner(telling, held));
         self.waits.rest(wait_for(due, self.moment, is_paced));
         self.look(self.alloc, waits);
     }
@@ -374,6 +416,18 @@ impl<R: Clock + Drop> ServerPorts<R> {
             &self.panes,
             self.moment,
         );
+    }
+
+    /// Tells the programs that asked for that what is new of what the panes' programs ask; to one that asks now nothing is new.
+    pub fn tell_asks(&mut self)
+        ensures panes { self.new.panes ≡ self.old.panes }
+        ensures told { AreToldAsks ⟦<UnixStream as Stream>⟧.contents self.old.panes.all.items self.old.followers.all.items
+            self.new.followers.all.items }
+        ensures noted { self.new.followers.may_ask ≡ self.old.followers.may_ask }
+        ensures waits { self.new.waits ≡ self.old.waits }
+        ensures moment { self.new.moment ≡ self.old.moment }
+    {
+        tell_asks(self.alloc, &mut self.followers, &self.panes);
     }
 
     /// Removes the files of the sockets.
@@ -457,9 +511,19 @@ impl<R: Clock + Drop> Ports for ServerPorts<R> {
             self.new.panes.all.items }
         ensures stirs { IfSome result (λ _. self.new.waits.quiet ≡ false) }
         ensures still { self.new.waits.quiet ≡ true → 1 ≤ pane → IsStill pane self.old.panes.all.items self.new.panes.all.items }
+        // What its program asks is told at once: before what the terminal answers to bytes behind it goes back.
+        ensures asks { 1 ≤ pane → (count_asked (pane_asks (slice_get self.old.panes.all.items (pane - 1)))
+            ≡ count_asked (pane_asks (slice_get self.new.panes.all.items (pane - 1))) → ⊥)
+            → AreToldAsks ⟦<UnixStream as Stream>⟧.contents self.new.panes.all.items self.old.followers.all.items
+            self.new.followers.all.items }
     {
         let had_peer = self.panes.has_peer(pane);
-        let count = self.panes.read(self.waits.registry(), pane, buf);
+        let asks = self.panes.asks_at(pane);
+        let count = self
+            .panes
+            .read(self.waits.registry(), pane, buf, self.moment);
+        let now = self.panes.asks_at(pane);
+        tell_new_asks(self.alloc, &mut self.followers, &self.panes, asks, now);
         // Where a peer is gone the next may wait, and where all that came waits, more may have come.
         if count.is_some() || had_peer != self.panes.has_peer(pane) {
             self.waits.stir();

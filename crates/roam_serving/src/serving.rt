@@ -5,9 +5,10 @@ ghost use Rattle.roam_session.specs.Places.{rect_at};
 ghost use Rattle.roam_world.specs.Servers.{Server as ServerOf};
 ghost use Rattle.roam_hub.specs.Servers.{Stands};
 ghost use Rattle.roam_serving.specs.Following.{ArePanesOf, pane_of};
+ghost use Rattle.roam_serving.specs.Peers.{frames_until};
 ghost use Rattle.roam_serving.specs.Rests.{HasRested, HasToldAll};
 ghost use Rattle.roam_serving.specs.Runs.{Serves, ServesTurns};
-ghost use Rattle.roam_serving.specs.Tellings.{sooner};
+ghost use Rattle.roam_serving.specs.Moments.{sooner};
 
 use crate::server_ports::{OwnStart, ServerPorts};
 use mio::net::UnixStream;
@@ -86,11 +87,12 @@ fn tell_and_rest<C: Clock + Drop>(turns: u64, server: &Server, ports: &mut Serve
     ensures told { HasToldAll ⟦<UnixStream as Stream>⟧.contents server.now ports.new.moment ports.new.panes.all.items
         ports.new.followers.all.items }
     ensures rested { HasRested turns server.now ports.new.moment ports.new.clients ports.new.followers.may_ask ports.new.udp
-        (sooner ports.new.telling.due ports.new.clipping.due) ports.new.waits.longest }
+        (sooner (sooner ports.new.telling.due ports.new.clipping.due) (frames_until ports.new.panes.all.items)) ports.new.waits.longest }
 {
     ports.tell_panes(&panes_of(server));
     ports.tell_beside();
     ports.tell_clips();
+    ports.tell_asks();
     ports.rest(if turns == FOR_GOOD {
         server.next_due()
     } else {
@@ -110,7 +112,7 @@ fn serve_turns<C: Clock + Drop>(
     ensures told { 0 < turns → HasToldAll ⟦<UnixStream as Stream>⟧.contents server.new ports.new.moment ports.new.panes.all.items
         ports.new.followers.all.items }
     ensures rested { 0 < turns → HasRested turns server.new ports.new.moment ports.new.clients ports.new.followers.may_ask ports.new.udp
-        (sooner ports.new.telling.due ports.new.clipping.due) ports.new.waits.longest }
+        (sooner (sooner ports.new.telling.due ports.new.clipping.due) (frames_until ports.new.panes.all.items)) ports.new.waits.longest }
 {
     for _ in 0..turns {
         serve_turn(alloc, server, ports);

@@ -1,7 +1,9 @@
 //! A filter on the way of what comes of a pane's program.
-ghost use Rattle.std.specs.Prelude.{◌≡◌, ◌⊎◌, ◌≤◌, ◌↔◌, ◌++◌, ℕ, List, [], true, length, min, take, drop, Some, IsTrue};
-ghost use Rattle.roam_serving.specs.Sieves.{Goes, IsFree, empty_sieve, sifted};
+ghost use Rattle.std.specs.Prelude.{◌≡◌, ◌⊎◌, ◌≤◌, ◌++◌, ℕ, List, [], true, false, length, take, Some};
+ghost use Rattle.roam_serving.specs.Frames.{free, held_until};
+ghost use Rattle.roam_serving.specs.Sieves.{Goes, IsFree, IsSifted, empty_sieve};
 
+use crate::frames::Frames;
 use roam_meant::Filter;
 use roam_meant::laws::cuts_change_nothing;
 use std::alloc::Global;
@@ -11,14 +13,15 @@ use std::marker::Model;
 pub(crate) const MOST_READ: usize = 1024;
 
 /// A filter on that way. What there is no memory for waits before it, and what a buffer has no room for behind it: nothing more is read
-/// meanwhile, so at most a piece waits, or what it means.
+/// meanwhile. A frame that is open waits there too, and what comes then is read: so at most a frame waits, as large as one may be that is
+/// held, and what a piece means.
 #[derive(Drop)]
 pub(crate) struct Sieve {
     filter: Filter,
     // What waits before the filter, so many bytes from the front.
     piece: [u8; MOST_READ],
     unread: usize,
-    ready: Vec<u8>,
+    frames: Frames,
 }
 
 impl Model for Sieve {
@@ -27,7 +30,7 @@ impl Model for Sieve {
 
     ghost Value = { SieveView };
 
-    ghost view = { λ s. record { held = s.filter; unread = take s.unread s.piece; ready = s.ready.items } };
+    ghost view = { λ s. record { held = s.filter; unread = take s.unread s.piece; frames = s.frames } };
 
     ghost invariant = { λ s. s.unread ≤ 1024 };
 }
@@ -40,7 +43,7 @@ impl Sieve {
             filter: Filter::new(alloc),
             piece: [0; MOST_READ],
             unread: 0,
-            ready: Vec::new(alloc),
+            frames: Frames::new(alloc),
         }
     }
 
@@ -51,18 +54,19 @@ impl Sieve {
         self.piece.split_at(self.unread).0
     }
 
-    // Whether nothing waits.
-    pub(crate) fn is_free(&self) -> bool
-        ensures free { IsTrue result ↔ IsFree (Some self.now) }
+    // Whether nothing may be handed on at a moment, and more may be read.
+    pub(crate) fn is_quiet(&self, now: u64) -> bool
+        ensures quiet { result ≡ true → self.now.unread ≡ [] }
+        ensures some { result ≡ false → IsFree (Some self.now) → ⊥ }
     {
-        self.unread().is_empty() && self.ready.is_empty()
+        self.unread().is_empty() && self.frames.is_held(now)
     }
 
-    // Whether all that went through is handed on.
-    fn is_handed_on(&self) -> bool
-        ensures none { result ≡ true → self.now.ready ≡ [] }
+    // Until when a frame is held at most, if one is.
+    pub(crate) fn held_until(&self) -> Option<u64>
+        ensures until { result ≡ held_until self.now.frames.frame self.now.frames.since }
     {
-        self.ready.is_empty()
+        self.frames.held_until()
     }
 
     // A piece came, and waits before the filter.
@@ -76,39 +80,34 @@ impl Sieve {
     }
 
     // What waits before the filter goes through, where there is memory for it.
-    fn sift(&mut self)
-        ensures sifts { (self.new ≡ self.old) ⊎ (self.new ≡ sifted self.old) }
+    fn sift(&mut self, now: u64)
+        requires held { free self.old.frames ≡ 0 }
+        ensures sifts { (self.new ≡ self.old) ⊎ IsSifted self.old self.new now }
     {
         if let Ok(ready) = self.filter.feed(self.piece.split_at(self.unread).0) {
-            self.ready = ready;
+            self.frames.take(ready, now);
             self.unread = 0;
         }
     }
 
-    // Hands on what is ready, as much as there is room for.
-    fn hand_on(&mut self, buf: &mut [u8]) -> usize
-        ensures count { result ≡ min (length self.old.ready) (length buf.old) }
-        ensures bytes { take result buf.new ≡ take result self.old.ready }
-        ensures rest { self.new ≡ record self.old { ready = drop result self.old.ready } }
+    // What waits before the filter goes through, where nothing may be handed on.
+    fn sift_on(&mut self, now: u64)
+        ensures sifts { (self.new ≡ self.old) ⊎ IsSifted self.old self.new now }
     {
-        let count = self.ready.len().min(buf.len());
-        buf.split_at_mut(count)
-            .0
-            .copy_from_slice(self.ready.as_slice().split_at(count).0);
-        drop(self.ready.drain(..count));
-        count
+        if self.frames.is_still() {
+            self.sift(now);
+        }
     }
 
-    // Hands on what is ready, of what waits before the filter where that is nothing.
-    pub(crate) fn go_on(&mut self, buf: &mut [u8]) -> usize
+    // Hands on what may be at a moment, of what waits before the filter where that is nothing.
+    pub(crate) fn go_on(&mut self, buf: &mut [u8], now: u64) -> usize
         ensures within { result ≤ length buf.new }
         ensures goes { (came given : List ℕ) → Goes (Some self.old) came given
             → Goes (Some self.new) came (given ++ take result buf.new) }
     {
         cuts_change_nothing();
-        if self.is_handed_on() {
-            self.sift();
-        }
-        self.hand_on(buf)
+        self.frames.pass(now);
+        self.sift_on(now);
+        self.frames.hand_on(buf)
     }
 }

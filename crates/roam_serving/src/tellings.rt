@@ -1,7 +1,8 @@
 //! When what stands beside the panes' terminals is told.
 ghost use Rattle.std.specs.Prelude.{◌≡◌, None};
 ghost use Rattle.roam_pane_list.specs.Besides.{nothing_beside};
-ghost use Rattle.roam_serving.specs.Tellings.{after, has_rung, is_time, rang_in, sooner, times_told};
+ghost use Rattle.roam_serving.specs.Tellings.{has_rung, rang_in, times_told};
+ghost use Rattle.roam_serving.specs.Moments.{after, is_time, sooner};
 
 use roam_acts::limits::PANES_END;
 use roam_pane_list::{BesideList, BesidePane, in_life};

@@ -1,13 +1,14 @@
 //! What lives of a terminal: its screens, its pen, its modes, its sets.
-ghost use Rattle.std.specs.Prelude.{◌≡◌, ◌≤◌, ◌<◌, ◌+◌, ◌++◌, ◌↔◌, IfOk, IfErr, None, Some, IsTrue, length, fold, map, take};
+ghost use Rattle.std.specs.Prelude.{◌≡◌, ◌≤◌, ◌<◌, ◌+◌, ◌++◌, ◌↔◌, IfOk, IfErr, None, Some, IsTrue, length, fold, map, take, ◌==◌, if◌then◌else◌};
 ghost use Rattle.roam_cells.specs.Limits.{IsSize};
+ghost use Rattle.roam_cells.specs.Width.{width_of};
 ghost use Rattle.roam_charset.specs.Charsets.{mapped_by};
 ghost use Rattle.roam_charset.specs.Sets.{set_in, in_use};
 ghost use Rattle.roam_grid.specs.Marks.{all_off, all_on};
 ghost use Rattle.roam_grid.specs.Screen.{IsSameSize, IsScreen};
 ghost use Rattle.roam_text.specs.Functions.{ArePlain};
 ghost use Rattle.roam_text.specs.declared.functions.Function.{Function};
-ghost use Rattle.roam_term.specs.Terminal.{printed_on, printed_all, mode_set, private_mode_set, kept_of, saved_on, restored_to, soft_reset, reset, repeated_on, set_by, performed_by, commanded_by, answered_by, started_live, writing_under, on_main, with_rows, left_by, left_by_character, left_by_repeat, kept_by};
+ghost use Rattle.roam_term.specs.Terminal.{glyph_in, printed_on, printed_all, mode_set, private_mode_set, kept_of, saved_on, restored_to, soft_reset, reset, repeated_on, set_by, performed_by, commanded_by, answered_by, started_live, writing_under, on_main, with_rows, left_by, left_by_character, left_by_repeat, kept_by};
 ghost use Rattle.roam_term.specs.Marks.{marked_through, marks_printed, marks_private_mode, marks_private_modes, marks_repeated, marks_set_by, marks_performed};
 ghost use Rattle.roam_term.specs.Limits.{most_output};
 
@@ -144,6 +145,35 @@ impl Canvas {
         ensures modes { result ≡ self.now.live.modes }
     {
         self.modes
+    }
+
+    /// What writing depends on.
+    pub fn writing(&self) -> Writing
+        ensures writing { result ≡ writing_under self.now.live.modes }
+    {
+        writing_under(self.modes)
+    }
+
+    /// A character as the set has it that is in use for the next one.
+    pub fn mapped(&self, c: char) -> char
+        ensures mapped { result ≡ mapped_by (in_use self.now.live.sets) c }
+    {
+        let mut sets = self.sets;
+        sets.map(c)
+    }
+
+    /// The character that REP repeats, if there is one.
+    pub fn printed(&self) -> Option<char>
+        ensures printed { result ≡ self.now.live.printed }
+    {
+        self.printed
+    }
+
+    /// The cell that a character is written as, as its set has it; `None` for one of width 0, which joins the cell before it.
+    pub fn inked(&self, c: char) -> Option<Cell>
+        ensures inked { result ≡ (if width_of c == 0 then None else Some (glyph_in c self.now.live.pen)) }
+    {
+        Cell::of_char(c, self.pen)
     }
 
     /// Whether printable ASCII prints itself.
@@ -430,8 +460,8 @@ impl Canvas {
         }
     }
 
-    /// Answers what a command asks for, on the state before it.
-    pub fn answer(&self, command: Command, output: &mut Output)
+    // Answers what a command asks for, on the state before it.
+    pub(crate) fn answer(&self, command: Command, output: &mut Output)
         requires room { length output.old + 12 ≤ most_output }
         ensures answered { output.new ≡ output.old ++ answered_by command self.now.live }
         ensures short { length output.new ≤ length output.old + 12 }

@@ -25,6 +25,7 @@ mod shifts;
 mod sizes;
 mod terms;
 
+pub use canvases::Canvas;
 pub use limits::{MOST_LINES, MOST_OUTPUT, MOST_PIECE};
 pub use sizes::Fitted;
 pub use terms::Term;

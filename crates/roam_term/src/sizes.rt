@@ -56,8 +56,9 @@ impl Fitted {
 }
 
 impl Canvas {
+    /// Brings both screens to the size that memory was made for; the rows that leave the one that is shown are gone. It takes no memory.
     #[tactic(auto, unfolding(roam_grid::specs::Frames::after_resizing))]
-    fn adopt(&mut self, shown: roam_grid::Fitted, other: roam_grid::Fitted)
+    pub fn adopt(&mut self, shown: roam_grid::Fitted, other: roam_grid::Fitted)
         requires some { 0 < shown.rows }
         requires same { other ≡ shown }
         ensures sized { self.new.live ≡ sized_to shown.rows shown.cols self.old.live }

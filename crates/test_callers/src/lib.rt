@@ -12,6 +12,8 @@ pub mod frames;
 pub mod grid;
 pub mod history;
 pub mod keys;
+pub mod leaving;
+pub mod left_rows;
 pub mod meant;
 pub mod numbers;
 pub mod overlay;

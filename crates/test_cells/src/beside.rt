@@ -1,12 +1,12 @@
 //! Worked rows: what bytes say beside a screen, by xterm's list of control sequences and the VT510's DECSCUSR.
 use crate::readers::bytes_of;
-use roam_beside::{Beside, Settings, Tracking};
+use roam_beside::{Beside, Question, Settings, Tracking};
 use std::alloc::{AllocError, Global};
 use std::fmt::Write;
 
 /// Rows of a heading, bytes and what is said, with an empty line between them. A character of the bytes is the byte of its code, and `␊`
 /// LF. What is said is told where it isn't what it was at first: `buttons`, `drags` or `motion`, `sgr`, `focus`, `paste`, `other` for the
-/// other screen, `keys N`, `shape N`, `bells N`, `title N TEXT`, `clip N TEXT`.
+/// other screen, `keys N`, `shape N`, `bells N`, `title N TEXT`, `clip N TEXT`, `asked N` and the last sixteen questions.
 const ROWS: &str = "\
 nothing is said by text and renditions
 a\x1B[1;31mb\u{E2}\u{82}\u{AC}\x1B[2J\x1B[0m␊\x1B[6n\x1B[:m\x1B(0
@@ -106,7 +106,35 @@ clip 1 aGk=
 
 other strings say nothing
 \x1BP0;a\x1B\\\x1B_2;a\x1B\\\x1B]8;;x\x07
--";
+-
+
+questions for colours, ended by BEL and by ST
+\x1B]10;?\x07\x1B]11;?\x1B\\\u{C2}\u{9D}10;?\u{C2}\u{9C}
+asked 3 foreground-bell background foreground
+
+whether a mode is set, as it is when that is asked
+\x1B[?2026$p\x1B[?2004;2026h\x1B[?2004$p\x1B[?2026$p\x1Bc\x1B[?2004$p\x1B[?2026$p
+asked 5 frames pastes-set frames-set pastes frames
+
+what is asked of several modes, or of others, is nothing
+\x1B[?2026;2004$p\x1B[?25$p\x1B[2026$p\x1B[?2026p
+-
+
+the terminal's name
+\x1B[>q\x1B[>0q\x1B[>1q\x1B[>0;0q\x1B[q
+asked 2 version version
+
+in the order in which they were asked
+\x1B[>q\x1B]11;?\x07a\x1B[1m\x1B[?2026$p\x1B]10;?\x1B\\
+asked 4 version background-bell frames foreground
+
+what is no question
+\x1B]10;#fff\x07\x1B]12;?\x07\x1B]10;?;?\x07\x1B]10;?\x18\x1BP10;?\x1B\\\x1B]10;\x07
+-
+
+the last sixteen are kept
+\x1B]10;?\x07\x1B[>q\x1B[>q\x1B[>q\x1B[>q\x1B[>q\x1B[>q\x1B[>q\x1B[>q\x1B[>q\x1B[>q\x1B[>q\x1B[>q\x1B[>q\x1B[>q\x1B[>q\x1B]11;?\x07
+asked 17 version version version version version version version version version version version version version version version background-bell";
 
 fn push_modes(text: &mut String, settings: Settings) -> Result<(), AllocError> {
     text.push_str(match settings.tracking {
@@ -133,6 +161,28 @@ fn push_number(text: &mut String, name: &str, number: u64) -> Result<(), AllocEr
     Ok(())
 }
 
+fn question_word(question: Question) -> &'static str {
+    match question {
+        Question::Foreground { by_bell: false } => "foreground ",
+        Question::Foreground { by_bell: true } => "foreground-bell ",
+        Question::Background { by_bell: false } => "background ",
+        Question::Background { by_bell: true } => "background-bell ",
+        Question::Frames { is_set: false } => "frames ",
+        Question::Frames { is_set: true } => "frames-set ",
+        Question::Pastes { is_set: false } => "pastes ",
+        Question::Pastes { is_set: true } => "pastes-set ",
+        Question::Version => "version ",
+    }
+}
+
+fn push_questions(text: &mut String, beside: &Beside) -> Result<(), AllocError> {
+    push_number(text, "asked", beside.questions_asked())?;
+    for question in beside.questions() {
+        text.push_str(question_word(*question))?;
+    }
+    Ok(())
+}
+
 // What is told of what stands beside.
 fn told(alloc: Global, beside: &Beside) -> Result<String, AllocError> {
     let mut text = String::new(alloc);
@@ -149,6 +199,7 @@ fn told(alloc: Global, beside: &Beside) -> Result<String, AllocError> {
     for byte in beside.clip().unwrap_or(&[]) {
         text.push(char::from(*byte))?;
     }
+    push_questions(&mut text, beside)?;
     Ok(text)
 }
 

@@ -1,5 +1,5 @@
-//! Tests of the program by the public calls of the crates that it stands on: what its words ask for and how a run ends, what `roam show`
-//! and `roam world` print.
+//! Tests of the program by the public calls of the crates that it stands on: what its words ask for and how a run ends, what `roam show`,
+//! `roam rows` and `roam world` print.
 //!
 //! They lie here and not beside the code, since a crate with tests is proved twice by the gate; and together, since each crate of tests
 //! that stands on the program takes a minute of proof before its first.
@@ -7,6 +7,8 @@
 
 #[cfg(test)]
 mod ends;
+#[cfg(test)]
+mod rows;
 #[cfg(test)]
 mod shows;
 #[cfg(test)]

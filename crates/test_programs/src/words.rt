@@ -36,6 +36,7 @@ Usage: roam <COMMAND>
 
 Commands:
   show    Feeds standard input to a terminal and prints the screen that it makes
+  rows    Reads records from standard input and prints every row that leaves the screen of each terminal that they tell of
   world   Plays a script from standard input and prints the answer to each of its lines
   serve   Serves a session of 24 rows and 80 columns, whose panes are reached at sockets
   attach  Follows a session and paints it on standard output
@@ -124,6 +125,9 @@ fn texts_of_words(rt: HostRuntime) {
 // exclude one another or need one another, and a version that is none, ask for nothing.
 const ASKED: &str = "\
 roam show --rows 2 --cols 8|show 2 8
+roam rows|rows
+roam rows --as-meant|rows as meant
+roam rows --rows 2|nothing
 roam world|world
 roam serve --dir d --port 4000 --session 5E55 --turns 9|serve d 4000 24149 9
 roam serve --dir d --port 4000 --session 5E55|serve d 4000 24149 18446744073709551615
@@ -185,6 +189,9 @@ fn text_of_source(alloc: Global, source: &Source<'_>) -> Result<String, AllocErr
 fn text_of(alloc: Global, request: &Request<'_>) -> Result<String, AllocError> {
     match request {
         Request::Show { rows, cols } => format!(in alloc; "show {rows} {cols}"),
+        Request::Rows { as_meant } => {
+            String::from_str(alloc, if *as_meant { "rows as meant" } else { "rows" })
+        }
         Request::World => String::from_str(alloc, "world"),
         Request::Serve {
             folder,

@@ -4,8 +4,9 @@
 //! its number: `lives N` or `goes`, `gives TEXT` or `gives nothing`, `takes TEXT` or `takes nothing of TEXT`; with `told`, panes 1 and 2,
 //! each with its life, its first row and its rows or `none`, of which a program that follows them is told (pane 2 is in focus where it is
 //! there), and how many client starts edit and watch, where that is known; with `beside` and a moment, at which what stands beside the
-//! panes' terminals is told; with `clips` and a moment, at which texts for the clipboard are. `files are removed` by the ports. `start asks
-//! ACT, ACT` or `is quiet`: a datagram of the server's own start comes, with these acts, or none.
+//! panes' terminals is told; with `clips` and a moment, at which texts for the clipboard are, or with `asks` and one, at which questions are.
+//! `files are removed` by the ports. `start asks ACT, ACT` or `is quiet`: a datagram of the server's own start comes, with these acts, or
+//! none.
 use crate::acts::has;
 use crate::files::{first_untrue, is_so, ports_for};
 use crate::programs::Programs;
@@ -158,6 +159,13 @@ fn are_clips(ports: &mut ServerPorts<&HostRuntime>, words: &str) -> bool {
     is_moment
 }
 
+// At this moment what the panes' programs ask is told.
+fn are_asks(ports: &mut ServerPorts<&HostRuntime>, words: &str) -> bool {
+    let is_moment = is_now(ports, words);
+    ports.tell_asks();
+    is_moment
+}
+
 fn is_start(alloc: Global, ports: &mut ServerPorts<&HostRuntime>, words: &str) -> bool {
     match words.strip_prefix("asks ") {
         Some(acts) => asks(alloc, ports, acts),
@@ -191,6 +199,7 @@ fn is_done(
         "told" => Ok(is_told(rt.alloc(), ports, words)),
         "beside" => Ok(is_beside(ports, words)),
         "clips" => Ok(are_clips(ports, words)),
+        "asks" => Ok(are_asks(ports, words)),
         "files" => are_files(rt, ports, words),
         "start" => Ok(is_start(rt.alloc(), ports, words)),
         _ => programs.does(rt, who, words),
@@ -270,6 +279,12 @@ fn first_wrong_of<'a>(rt: &HostRuntime, stories: &'a str) -> Result<Option<&'a s
 /// question; of another life of the pane those of it.
 ///
 /// They are told beside the rest, in either order; who didn't ask for them is told what he was, and so is the keeper of shells.
+///
+/// What a pane's program asks of its terminal is told to who asked for that, at once, as it comes: none that was asked before, each once
+/// and in its order; of another life of the pane what is asked in it.
+///
+/// Frames, where bytes go as they are meant: one is held together until it ends, or for 150 ms; what comes before it isn't held, nor what
+/// comes behind one that was held for so long; one that begins within another is no other; of another life of the pane none is left.
 ///
 /// Programs follow and close. Two are told each what is new for it; a line that asks for no close, for one of a pane that is gone, or of
 /// the last pane; of two closes the second waits until a turn was taken with the first, and a pane that is still there then may be closed
@@ -529,6 +544,74 @@ first writes \u{1b}]52;c;Yw==\u{7}
 pane 1 gives \u{1b}]52;c;Yw==\u{7}
 clips 8000
 second waits
+files are removed
+
+folder asked
+ports asked
+first connects asked/p1
+pane 1 lives 1
+first writes \u{1b}[>q
+pane 1 gives \u{1b}[>q
+second connects asked/panes
+second types asks/beside/
+told 1 1 23, none
+second reads 1 1 1 23 80 1/focus 1/
+asks 0
+second waits
+first writes \u{1b}]11;?\u{7}\u{1b}[c
+pane 1 gives \u{1b}]11;?\u{7}\u{1b}[c
+second reads asks 1 1 background bell/
+asks 1
+second waits
+first writes a\u{1b}[?2026h
+pane 1 gives a\u{1b}[?2026h
+first writes \u{1b}[?2026$p
+pane 1 gives \u{1b}[?2026$p
+second reads asks 1 1 frames set/
+first writes \u{1b}[>q\u{1b}]10;?\u{1b}\\\u{1b}[>q
+pane 1 gives \u{1b}[>q\u{1b}]10;?\u{1b}\\\u{1b}[>q
+second reads asks 1 1 version/asks 1 1 foreground/asks 1 1 version/
+first writes \u{1b}[?2004$p
+pane 1 gives \u{1b}[?2004$p
+second reads asks 1 1 pastes/
+pane 1 lives 2
+first connects asked/p1
+asks 2
+second waits
+first writes \u{1b}[>q
+pane 1 gives \u{1b}[>q
+second reads asks 1 2 version/
+files are removed
+
+folder frames
+ports frames as meant
+first connects frames/p1
+pane 1 lives 1
+asks 0
+first writes a\u{1b}[?2026hb
+pane 1 gives a
+first writes c
+pane 1 gives nothing
+pane 1 gives nothing
+first writes \u{1b}[?2026ld
+pane 1 gives \u{1b}[?2026hbc\u{1b}[?202
+pane 1 gives 6ld
+pane 1 gives nothing
+first writes e\u{1b}[?2026hf
+pane 1 gives e
+asks 149
+first writes \u{1b}[?2026hg
+pane 1 gives nothing
+asks 150
+pane 1 gives \u{1b}[?2026hf\u{1b}[?2026
+pane 1 gives hg
+first writes h
+pane 1 gives h
+first writes \u{1b}[?2026hi
+pane 1 gives nothing
+pane 1 lives 2
+asks 1000
+pane 1 gives nothing
 files are removed
 
 folder followers

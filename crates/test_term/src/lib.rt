@@ -9,6 +9,8 @@ mod edges;
 #[cfg(test)]
 mod keys;
 #[cfg(test)]
+mod leavings;
+#[cfg(test)]
 mod pieces;
 #[cfg(test)]
 mod rows;

@@ -14,6 +14,7 @@ returns-clause-takes g c = λ h.
       role = c.role_after-role.ensures.role;
       aside = ap (λ f. f.aside) c.say.ensures.others ∙ c.heard.ensures.asked;
       clips = ap (λ f. f.clips) c.say.ensures.others ∙ c.ask.ensures.asked;
+      asks = ap (λ f. f.asks) c.say.ensures.others ∙ c.ask-2.ensures.asked;
       does = c.do_line-said.ensures.does;
       waits = c.say.ensures.said;
     }

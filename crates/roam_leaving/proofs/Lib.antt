@@ -1,0 +1,9 @@
+pub mod RowTexts
+pub mod Writing
+pub mod Tops
+pub mod Repeats
+pub mod QuietRuns
+pub mod Through
+pub mod Shedding
+pub mod Standing
+pub mod Leading

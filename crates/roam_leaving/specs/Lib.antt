@@ -1,0 +1,5 @@
+pub mod Wraps
+pub mod RowText
+pub mod Lines
+pub mod Sources
+pub mod Leading

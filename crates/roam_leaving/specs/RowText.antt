@@ -1,0 +1,41 @@
+-- A row as the text that paints it: from the default style and the first column of a blank row.
+use Rattle.std.specs.Prelude.{ℕ, ◌+◌, ◌==◌, ◌&&◌, Bool, List, [], ◌∷◌, ◌++◌, map, take, if◌then◌else◌}
+use Rattle.std.specs.List.{flat_map}
+use Rattle.roam_cells.specs.Glyph.{Glyph, is_right_half, blank, default_style}
+use Rattle.roam_cells.specs.Same.{same}
+use Rattle.roam_cells.specs.declared.styles.Style.{Style}
+use Rattle.roam_paint.specs.Painting.{styling}
+use Rattle.roam_paint.specs.Sequences.{spelling_of}
+use Rattle.roam_text.specs.declared.functions.Function.{Function}
+use Rattle.roam_text.specs.declared.functions.Function.TheVariants.{Print}
+
+-- how many columns of a row are in use: up to its last cell that isn't blank
+abbrev pub used : List Glyph → ℕ
+used [] = 0
+used (x ∷ xs) = if ((used xs == 0) && same x blank) then 0 else used xs + 1
+
+-- a cell where a style is set; a right half prints nothing of its own
+abbrev pub cell_words : Style → Glyph → List Function
+cell_words g x = if is_right_half x then [] else styling x.style g ++ map Print x.points
+
+-- the style that is set after it
+abbrev pub style_behind : Style → Glyph → Style
+style_behind g x = if is_right_half x then g else x.style
+
+-- one cell after another where a style is set, and then the default style
+abbrev pub row_words : Style → List Glyph → List Function
+row_words g [] = styling default_style g
+row_words g (x ∷ xs) = cell_words g x ++ row_words (style_behind g x) xs
+
+-- the text of cells
+abbrev pub text_of : List Glyph → List ℕ
+text_of cells = flat_map spelling_of (row_words default_style cells)
+
+-- the text of a row: of one that goes on in the next that of all its columns, since blanks at its end are part of what goes on; else of
+-- those in use
+unfoldable pub row_text : Bool → List Glyph → List ℕ
+row_text on row = if on then text_of row else text_of (take (used row) row)
+
+-- the line of a row: + where autowrap went on from it, else a space, and then its text
+abbrev pub line_text : Bool → List Glyph → List ℕ
+line_text on row = (if on then 0x2B else 0x20) ∷ (row_text on row ++ 0x0A ∷ [])

@@ -1,0 +1,292 @@
+//! What `roam rows` prints: the rows that leave by ECMA-48, the VT220 and this project's profile, and what becomes of records that are none.
+use crate::streams::{Cut, Narrow};
+use roam_left_rows::{RowsFault, run_rows};
+use std::alloc::{AllocError, Global};
+use std::test::*;
+
+// Cases, with a line = between them: the rows and columns of the screen, and a name; what is fed; the lines of the rows that leave, each
+// behind a bar; and behind two bars those of the screen.
+const CASES: &str = "\
+2 8 a line feed in the last row
+a\r\nb\r\nc
+| a
+|| b
+|| c
+=
+2 4 autowrap goes on
+abcdefghij\r\nk
+|+abcd
+|+efgh
+|| ij
+|| k
+=
+2 4 a line that ends in the last column doesn't go on
+abcd\r\ne\r\nf
+| abcd
+|| e
+|| f
+=
+3 4 what is written over after a wrap still goes on, and what is erased doesn't
+abcde\x1B[1;1Hxy\x1B[3;1H\x1BD
+|+xycd
+|| e
+||\x20
+||\x20
+=
+3 4 a row whose end is erased doesn't go on
+abcde\x1B[1;3H\x1B[K\x1B[3;1H\x1BD
+| ab
+|| e
+||\x20
+||\x20
+=
+2 8 styles
+\x1B[1ma\x1B[31mb\x1B[mc\r\n\r\n
+| \x1B[0;1ma\x1B[0;1;38;5;1mb\x1B[0mc
+||\x20
+||\x20
+=
+2 8 a style at the end of a row is ended, and blanks in a style are told
+\x1B[7ma \r\n\r\n
+| \x1B[0;7ma \x1B[0m
+||\x20
+||\x20
+=
+2 4 blanks at the end of a row that goes on
+ab  cd\r\n
+|+ab\x20\x20
+|| cd
+||\x20
+=
+2 4 a wide character that goes to the next row
+abc\u{4E2D}\r\n
+|+abc\x20
+|| \u{4E2D}
+||\x20
+=
+3 4 SU
+a\r\nb\r\nc\x1B[2S
+| a
+| b
+|| c
+||\x20
+||\x20
+=
+2 4 REP brings every row
+a\x1B[20b
+|+aaaa
+|+aaaa
+|+aaaa
+|+aaaa
+||+aaaa
+|| a
+=
+2 4 none leaves the other screen
+a\r\nb\x1B[?1049h1\r\n2\r\n3\r\n4\x1B[?1049l\r\nc
+| a
+|| b
+|| c
+=
+3 4 IL and DL and scrolls below the first row send none
+\x1B[2;3r\x1B[2;1Ha\r\nb\r\nc\x1B[L\x1B[M\x1B[3S
+||\x20
+||\x20
+||\x20
+=
+2 4 RIS sends none
+a\r\nb\x1Bc\r\n\r\n
+|\x20
+||\x20
+||\x20";
+
+fn number_in(word: Option<&str>) -> u16 {
+    word.unwrap_or("").parse::<u16>().unwrap_or(0)
+}
+
+// The lines that stand behind a bar in place of another one, each with its LF, and how many they are.
+fn lines_behind(alloc: Global, text: &str, is_shown: bool) -> Result<(String, usize), AllocError> {
+    let mut lines = String::new(alloc);
+    let mut count = 0usize;
+    for line in text.split('\n') {
+        let shown = line.strip_prefix("|");
+        let found = if is_shown {
+            shown
+        } else if shown.is_none() {
+            Some(line)
+        } else {
+            None
+        };
+        if let Some(found) = found {
+            lines.push_str(found)?;
+            lines.push('\n')?;
+            count = count.saturating_add(1);
+        }
+    }
+    Ok((lines, count))
+}
+
+// The records of a case, and those that are told.
+fn records_of(alloc: Global, case: &str) -> Result<(String, String), AllocError> {
+    let (head, rest) = case.split_once('\n').unwrap_or((case, ""));
+    let (bytes, inside) = rest.split_once("\n|").unwrap_or((rest, ""));
+    let mut words = head.split(' ');
+    let rows = number_in(words.next());
+    let cols = number_in(words.next());
+    let inside = inside.replace(alloc, "\n|", "\n")?;
+    let (left, count) = lines_behind(alloc, inside.as_str(), false)?;
+    let (shown, rows_shown) = lines_behind(alloc, inside.as_str(), true)?;
+    let asked = format!(in alloc;
+        "pane 7 {rows} {cols}\nbytes 7 {}\n{bytes}screen 7\n",
+        bytes.len()
+    )?;
+    let mut told = String::new(alloc);
+    if 0 < count {
+        told = format!(in alloc; "rows 7 {count} {}\n{}", left.len(), left.as_str())?;
+    }
+    let screen = format!(in alloc; "screen 7 {rows_shown} {}\n{}", shown.len(), shown.as_str())?;
+    told.push_str(screen.as_str())?;
+    Ok((asked, told))
+}
+
+fn tells(alloc: Global, asked: &str, told: &str) -> bool {
+    let mut out = Vec::new(alloc);
+    let mut reader = Cut::new(asked.as_bytes(), usize::MAX, usize::MAX);
+    run_rows(alloc, false, &mut reader, &mut out) == Ok(()) && out.as_slice() == told.as_bytes()
+}
+
+fn is_told(alloc: Global, case: &str) -> Result<bool, AllocError> {
+    let (asked, told) = records_of(alloc, case)?;
+    Ok(tells(alloc, asked.as_str(), told.as_str()))
+}
+
+#[test]
+fn rows_of_records(rt: HostRuntime) {
+    for case in CASES.split("\n=\n") {
+        assert!(rt; is_told(rt.alloc(), case) == Ok(true), "{case:?}");
+    }
+}
+
+// Records, with an empty line between them, of which the last line is none or out of place.
+const BAD: &str = "\
+pane 0 2 8
+pane 1 1 8
+
+pane 0 2 501
+
+pane 1024 2 8
+
+pane 0 2
+
+pane 0 2 8 1
+
+pane 00 2 8
+
+pane 0 +2 8
+
+ pane 0 2 8
+
+size 0 2 8
+
+pane 0 2 8
+size 0 201 8
+
+bytes 0 1
+
+pane 0 2 8
+bytes 1 0
+
+pane 0 2 8
+bytes 0 18446744073709551616
+
+screen 0
+
+pane 0 2 8
+gone 0
+screen 0
+
+gone 0
+
+rows 0 1 1
+
+pane 0 2 8
+screen 0 0
+
+123456789012345678901234567890123456789012345678901234567890123456789";
+
+// What is told of two rows of eight columns that nobody wrote.
+const BLANK: &str = "screen 0 2 4\n \n \n";
+
+// Whether a run of these records, behind one that asks for a screen, is refused at the last line, and what came before it told.
+fn is_refused(alloc: Global, bad: &str) -> Result<bool, AllocError> {
+    let asked = format!(in alloc; "pane 0 2 8\nscreen 0\ngone 0\n{bad}\n")?;
+    let line = asked.as_str().split('\n').count() - 1;
+    let mut out = Vec::new(alloc);
+    let mut reader = Cut::new(asked.as_bytes(), 5, 3);
+    let ran = run_rows(alloc, false, &mut reader, &mut out);
+    Ok(ran == Err(RowsFault::Record(line as u64)) && out.as_slice() == BLANK.as_bytes())
+}
+
+#[test]
+fn records_that_are_none(rt: HostRuntime) {
+    for bad in BAD.split("\n\n") {
+        assert!(rt; is_refused(rt.alloc(), bad) == Ok(true), "{bad:?}");
+    }
+}
+
+// What these records tell, where bytes go through the filter or don't.
+fn told_of(alloc: Global, asked: &str, as_meant: bool) -> Result<Vec<u8>, RowsFault> {
+    let mut out = Vec::new(alloc);
+    let mut reader = Cut::new(asked.as_bytes(), 1, 1);
+    run_rows(alloc, as_meant, &mut reader, &mut out)?;
+    Ok(out)
+}
+
+fn are_told(alloc: Global, asked: &str, as_meant: bool, told: &str) -> bool {
+    matches!(told_of(alloc, asked, as_meant), Ok(out) if out.as_slice() == told.as_bytes())
+}
+
+#[test]
+fn sizes_clearings_and_meanings(rt: HostRuntime) {
+    let alloc = rt.alloc();
+    let sizes = "pane 3 4 8\nbytes 3 10\n1\r\n2\r\n3\r\n4size 3 2 4\nsize 3 200 500\nsize 3 2 4\n";
+    assert!(rt; are_told(alloc, sizes, false, "rows 3 2 6\n 1\n 2\n"));
+    let cleared = "pane 0 2 8\nbytes 0 13\na\r\nb\r\nc\x1B[3J\r\n";
+    assert!(rt;
+        are_told(
+            alloc,
+            cleared,
+            false,
+            "rows 0 1 3\n a\ncleared 0\nrows 0 1 3\n b\n"
+        )
+    );
+    let styled = "pane 0 2 8\nbytes 0 13\n\x1B[4:3ma\r\n\r\n\r\n";
+    assert!(rt;
+        are_told(
+            alloc,
+            styled,
+            true,
+            "rows 0 1 13\n \x1B[0;4ma\x1B[0m\nrows 0 1 2\n \n"
+        )
+    );
+    assert!(rt; are_told(alloc, styled, false, "rows 0 1 3\n a\nrows 0 1 2\n \n"));
+    let again = "pane 0 2 8\nbytes 0 3\na\r\npane 0 2 8\nscreen 0\n";
+    assert!(rt; are_told(alloc, again, false, BLANK));
+}
+
+// How a run ends that fails at a read, or at a call of its writer.
+fn ends(alloc: Global, read: u32, call: u32) -> Result<(), RowsFault> {
+    let mut reader = Cut::new(b"pane 0 2 8\nscreen 0\n", 20, 20);
+    reader.fails_at = read;
+    let mut writer = Narrow {
+        calls: 0,
+        fails_at: call,
+    };
+    run_rows(alloc, false, &mut reader, &mut writer)
+}
+
+#[test]
+fn rows_that_cannot_be_read_or_written(rt: HostRuntime) {
+    assert!(rt; ends(rt.alloc(), 1, 0) == Err(RowsFault::Read));
+    assert!(rt; ends(rt.alloc(), 0, 1) == Err(RowsFault::Write));
+    assert!(rt; ends(rt.alloc(), 0, 0) == Ok(()));
+}
