@@ -6,7 +6,7 @@ _roam_mux_names() {
     "$@" ls 2> /dev/null | while read -r name _; do echo "$name"; done
 }
 
-_roam_mux_words="attach new ls list watch kill send paste capture env ssh help --help --version"
+_roam_mux_words="attach new ls list watch kill send paste capture log buffer env ssh help --help --version"
 
 # The acts that a client types, a line each; a number, a size or a character is left to the person.
 _roam_acts() {
@@ -45,6 +45,12 @@ _roam_mux() {
         fi
         return
     fi
+    # Behind buffer stand what is done, and a session.
+    if [ "${COMP_WORDS[first]}" = buffer ] && [ "$COMP_CWORD" -gt "$((first + 1))" ]; then
+        [ "$COMP_CWORD" -gt "$((first + 2))" ] || words=$(_roam_mux_names "${mux[@]}")
+        mapfile -t COMPREPLY < <(compgen -W "$words" -- "$word")
+        return
+    fi
     case ${COMP_WORDS[COMP_CWORD - 1]} in
     ssh) mapfile -t COMPREPLY < <(compgen -A hostname -W "--ssh --far --guess --help" -- "$word") && return ;;
     mux | roam-mux | */mux | */roam-mux) words="$_roam_mux_words $(_roam_mux_names "${mux[@]}")" ;;
@@ -53,8 +59,11 @@ _roam_mux() {
     send) words="-l --help $(_roam_mux_names "${mux[@]}")" ;;
     paste) words="--raw --help $(_roam_mux_names "${mux[@]}")" ;;
     kill) words="-f --help $(_roam_mux_names "${mux[@]}")" ;;
-    capture) words="--svg --help $(_roam_mux_names "${mux[@]}")" ;;
-    --svg | --raw | -f) words=$(_roam_mux_names "${mux[@]}") ;;
+    capture) words="--svg -S -E -e -J --help $(_roam_mux_names "${mux[@]}")" ;;
+    log) words="-e -J --help $(_roam_mux_names "${mux[@]}")" ;;
+    buffer) words="list show set paste --help" ;;
+    -S | -E) words="-" ;;
+    --svg | --raw | -f | -e | -J) words=$(_roam_mux_names "${mux[@]}") ;;
     new) words="-d --guess --help" ;;
     --guess) words="adaptive always never" ;;
     help) words=$_roam_mux_words ;;

@@ -75,6 +75,19 @@ def children(process):
     return [int(word) for word in pathlib.Path(f"/proc/{process}/task/{process}/children").read_text(encoding="utf-8").split()]
 
 
+def is_filter(process):
+    """Whether a process is a filter of rows, by its words."""
+    try:
+        return pathlib.Path(f"/proc/{process}/cmdline").read_bytes().split(b"\0")[1:2] == [b"rows"]
+    except OSError:
+        return False
+
+
+def commands(shells):
+    """The commands of panes that what keeps the shells has started, without its filter of rows."""
+    return [process for process in children(shells) if not is_filter(process)]
+
+
 def listed():
     """What `mux ls` says."""
     return subprocess.run(tool("mux", "ls"), stdout=subprocess.PIPE, check=True).stdout.decode().split()
@@ -277,9 +290,13 @@ def own_terminal():
     fcntl.ioctl(0, termios.TIOCSCTTY, 0)
 
 
-def three_panes(name=SESSION):
+# What has a session keep no rows, so that the view that all share scrolls in place of copy mode.
+KEEPS_NONE = {"ROAM_HISTORY": "0"}
+
+
+def three_panes(name=SESSION, environment=None):
     """A terminal on a session of three panes, the first beside two others and in focus."""
-    outer = Outer(tool("mux", name))
+    outer = Outer(tool("mux", name), environment=environment)
     # What keeps the shells follows the panes from here on, and knows where the focus was.
     outer.shows("$ ")
     for keys, label in ((b"", "[1]"), (b"\x02%", " 1 [2]"), (b'\x02"', " 1  2 [3]"), (b"\x021", "[1] 2  3")):

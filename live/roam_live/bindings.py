@@ -15,7 +15,8 @@ if TYPE_CHECKING:
 # Keys after the prefix that are acts, and those that are wishes. An arrow is the wish to have the pane there in focus.
 BINDINGS = {"o": "next", **{str(pane): f"focus {pane}" for pane in range(1, 10)}}
 WISHES = {"%": "split right", '"': "split down", "x": "close", "d": "detach", "r": "repaint", "?": "help", "up": "up", "down": "down",
-          "left": "left", "right": "right", "\x1a": "suspend", "m": "mouse"}
+          "left": "left", "right": "right", "\x1a": "suspend", "m": "mouse", "[": "copy", "prev": "copy page", "/": "copy search",
+          "]": "paste", "=": "choose"}
 GROWTH = {"C-right": "grow 1", "C-down": "grow 1", "C-left": "grow -1", "C-up": "grow -1"}
 
 # For so many seconds after a growth the next needs no prefix.
@@ -39,9 +40,11 @@ C-b and then:
   arrows   the pane there
   C-arrows grow the pane along its split (right, down), or shrink it (left,
            up); again within half a second without C-b
-  [ PgUp   scroll: PgUp PgDn up down g G; q, Escape, C-c or Return ends it
-  m        the mouse: a click focuses the pane there, the wheel scrolls, and
-           borders are dragged; again, it selects text as without roam
+  [ PgUp / copy mode: all rows that are kept; tmux's keys, vi's where EDITOR
+           is: Space or C-Space selects, Return or M-w copies, q leaves
+  ] =      paste what was copied last; choose what is pasted
+  m        the mouse: a click focuses the pane there, the wheel scrolls, text
+           is dragged over, and borders; again, it selects as without roam
   d        detach: the session goes on
   C-z      suspend: the shell that this came from is there again, until `fg`
   r        size the session to this terminal, which cuts what is wider where
@@ -95,6 +98,15 @@ class Typing:
         self.mode = self.scrolling if self.view else self.plain
         return ([f"view {rows}"], "scroll") if self.view else ([NEWEST], "scrolled")
 
+    def begin_scroll(self, is_page: bool, rows: int) -> Asked:
+        """Begins to scroll the view that all share, by a page at once where that is asked."""
+        self.mode, self.view = self.scrolling, 0
+        return self.scrolled(0, 1, rows) if is_page else ([], "scroll")
+
+    def repeats(self, now: float) -> bool:
+        """Whether a growth needs no prefix."""
+        return now < self.repeats_until
+
     def left(self) -> list[str]:
         """The acts that are left to do where the person leaves."""
         return [NEWEST] if self.mode == self.scrolling else []
@@ -111,7 +123,7 @@ class Typing:
         if key.name == self.prefix:
             self.mode = self.prefixed
             return [], ""
-        if key.name in GROWTH and now < self.repeats_until:
+        if key.name in GROWTH and self.repeats(now):
             return self.prefixed(key, now, rows)
         return acts_of(key), ""
 
@@ -131,9 +143,6 @@ class Typing:
         if key.name in GROWTH:
             self.repeats_until = now + REPEATS
             return [GROWTH[key.name]], ""
-        if key.name in ("[", "prev"):
-            self.mode, self.view = self.scrolling, 0
-            return self.scrolling(key, now, rows) if key.name == "prev" else ([], "scroll")
         if key.name in BINDINGS:
             return [BINDINGS[key.name]], ""
         return [], WISHES.get(key.name, "unknown")
@@ -141,12 +150,15 @@ class Typing:
     def scrolling(self, key: Key, now: float, rows: int) -> Asked:
         """A key that scrolls, or one that ends it where the newest rows are: the prefix and a paste do so too. Another does nothing."""
         if key.name in SCROLLS:
-            lines, pages = SCROLLS[key.name]
-            step = lines + pages * max(1, rows // 2)
-            self.view = min(max(self.view + step, 0), MOST_VIEW)
-            return [f"view {step}"], "scroll"
+            return self.scrolled(*SCROLLS[key.name], rows)
         if key.name not in SCROLL_ENDS and key.name not in (self.prefix, "paste"):
             return [], ""
         self.mode = self.plain
         acts, wish = ([], "") if key.name in SCROLL_ENDS and key.name != self.prefix else self.plain(key, now, rows)
         return [NEWEST, *acts], wish or "scrolled"
+
+    def scrolled(self, lines: int, pages: int, rows: int) -> Asked:
+        """Scrolls by so many rows and pages, on a terminal of so many rows."""
+        step = lines + pages * max(1, rows // 2)
+        self.view = min(max(self.view + step, 0), MOST_VIEW)
+        return [f"view {step}"], "scroll"

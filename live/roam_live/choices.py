@@ -1,5 +1,5 @@
-"""What a person chooses by the environment: the prefix, when guesses are shown, whether roam has the mouse, who sets the clipboard, and
-whether UDP is tried between machines."""
+"""What a person chooses by the environment: the prefix, when guesses are shown, whether roam has the mouse, who sets the clipboard, how many
+rows are kept of a pane, and whether UDP is tried between machines."""
 from __future__ import annotations
 
 import os
@@ -16,8 +16,11 @@ GUESSING = ("adaptive", "always", "never")
 # Whether roam itself has the mouse: a click focuses, the wheel scrolls, and borders are dragged.
 MOUSE = ("off", "on")
 
-# Who sets the terminal's clipboard: nobody but roam itself, which never does yet; programs in panes too; or nobody.
+# Who sets the terminal's clipboard: roam itself, by what is copied; programs in panes too; or nobody.
 CLIPBOARD = ("external", "on", "off")
+
+# How many rows that left its screen are kept of a pane where nobody chose another number, and how many may be chosen.
+DEFAULT_ROWS, MOST_ROWS = 10_000, 1_000_000
 
 
 def chosen_prefix() -> str:
@@ -52,6 +55,19 @@ def wants_mouse() -> bool:
 def sets_clipboard() -> bool:
     """Whether programs in panes set the terminal's clipboard: where the environment's ROAM_CLIPBOARD is `on`."""
     return chosen("ROAM_CLIPBOARD", CLIPBOARD) == "on"
+
+
+def may_set_clipboard() -> bool:
+    """Whether what is copied is set on the terminal's clipboard: where the environment's ROAM_CLIPBOARD isn't `off`."""
+    return os.environ.get("ROAM_CLIPBOARD") != "off"
+
+
+def chosen_history() -> int:
+    """How many rows that left its screen are kept of a pane: as the environment's ROAM_HISTORY says, where it is there."""
+    word = os.environ.get("ROAM_HISTORY") or str(DEFAULT_ROWS)
+    if not (word.isascii() and word.isdigit() and len(word) <= len(str(MOST_ROWS)) and int(word) <= MOST_ROWS):
+        raise Fault(f"ROAM_HISTORY is {word[:40]!r}, and may be 0 to {MOST_ROWS}")
+    return int(word)
 
 
 def wants_udp() -> bool:

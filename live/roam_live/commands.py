@@ -8,10 +8,13 @@ from collections.abc import Callable
 
 from roam_live import terminal
 from roam_live.bindings import NEWEST, Typing, help_with, spelled
+from roam_live.choosing import Choosing
+from roam_live.copying import Copying, CopyEvent
 from roam_live.display import NO_SIZE, Display
 from roam_live.keys import Key, Keys
 from roam_live.links import StartLink
 from roam_live.loops import Loop
+from roam_live.colours import COLOUR
 from roam_live.mouse import MOUSE
 from roam_live.pastes import Pastes
 from roam_live.pointing import Pointing
@@ -74,6 +77,8 @@ class Commands:
         # another size itself.
         self.given: terminal.Size | None = None
         self.showed_all = False
+        self.copying, self.choosing = Copying(self, loop), Choosing(self)
+        display.moved = self.fit_drawn
         self.pastes = Pastes(link, panes, shells, loop, self.unpasted, lambda line: display.tell(line, PASTE_TOLD))
         # The session's size and the labels of its panes, as they were told last.
         self.known: tuple[terminal.Size, str] = (NO_SIZE, "")
@@ -100,8 +105,8 @@ class Commands:
     def typed(self, keys: list[Key]) -> None:
         """Takes keys."""
         for key in keys:
-            if key.name == MOUSE and self.typing.mode != self.typing.pasting:
-                self.pointing.take(key.text)
+            if key.name == COLOUR or key.name == MOUSE and self.typing.mode != self.typing.pasting:
+                self.reported(key)
                 continue
             is_help = self.display.cover == self.help
             if is_help:
@@ -109,9 +114,19 @@ class Commands:
             # A key that ends the help means nothing else, unless it begins something.
             if not is_help or key.name in (self.typing.prefix, "paste"):
                 self.take(key)
+        self.copying.settle()
+
+    def reported(self, key: Key) -> None:
+        """Takes what the terminal reports: what is done with the mouse, or a colour that it has."""
+        if key.name == MOUSE:
+            self.pointing.take(key.text)
+        elif self.shells:
+            self.shells.tell_colour(key.text)
 
     def take(self, key: Key) -> None:
         """Takes a key. Under a cover nothing is typed; the prefix means there what it always does."""
+        if self.copying.takes(key) or self.choosing.takes(key):
+            return
         before = self.typing.mode
         acts, wish = self.typing.asked(key, time.monotonic(), self.display.outer.size()[0])
         self.take_pasted(key, before)
@@ -135,6 +150,10 @@ class Commands:
             self.note_key()
         elif is_pasting:
             self.pastes.begin(NO_ANSWER if before == self.typing.answering else "")
+
+    def is_full(self) -> bool:
+        """Whether so much waits behind a paste, or for rows, that nothing more is to come."""
+        return self.pastes.is_full() or self.copying.is_full()
 
     def unpasted(self) -> str:
         """Why nothing is pasted now; nothing where it is."""
@@ -161,6 +180,9 @@ class Commands:
             word, _, pane = act.partition(" ")
             if word in MOVES:
                 self.move(word, int(pane) if word == "focus" else 0)
+        if any(act.startswith(MOVES) for act in acts):
+            self.copying.focus_moved(acts)
+            self.choosing.close()
         if acts and acts[-1].startswith(KEYS):
             self.note_key()
 
@@ -185,6 +207,7 @@ class Commands:
         if self.given == self.session_size():
             self.forget_given()
         self.pointing.told()
+        self.fit_drawn()
         self.fit_first()
         self.show_known()
         self.show_aside()
@@ -236,6 +259,8 @@ class Commands:
             self.display.resettle()
         elif wish == "help":
             self.display.show(self.help)
+        elif wish.startswith("copy"):
+            self.copy(wish)
         elif wish == "unknown":
             self.display.tell(f"{self.prefix} {spelled(key.name)} means nothing; {self.prefix} ? shows the keys")
         elif wish and not self.link.watches:
@@ -251,11 +276,45 @@ class Commands:
             self.close()
         elif wish == "mouse":
             self.pointing.switch()
+        elif wish in ("paste", "choose"):
+            self.copying.close()
+            self.choosing.ask(is_newest=wish == "paste")
         elif wish in BESIDE:
             self.go(wish)
         elif wish in ("yes", "no", "scrolled"):
             self.act(*(["close"] if wish == "yes" else []))
             self.display.end_told()
+
+    # ---- rows that are kept
+
+    def fit_drawn(self) -> None:
+        """Has what is drawn over a pane go by where that is now."""
+        self.copying.fit()
+        self.choosing.fit()
+
+    def copy(self, wish: str) -> None:
+        """Opens copy mode in the pane in focus, a page up or in its search where that is asked; where no rows are kept the view that all
+        share scrolls."""
+        begins = {"copy page": [CopyEvent(lambda mode: mode.perform("page-up"))],
+                  "copy search": [CopyEvent(lambda mode: mode.ask_search())]}.get(wish, [])
+        places = self.places()
+        self.choosing.close()
+        if self.copying.is_on():
+            self.copying.add(*begins)
+        elif places and places.focus:
+            self.copying.open(places.focus, lambda: self.scroll_back(wish), *begins)
+        else:
+            self.scroll_back(wish)
+
+    def scroll_back(self, wish: str) -> bool:
+        """Scrolls the view that all share, of who doesn't only watch, and tells whether it does."""
+        if self.link.watches or wish == "copy search":
+            self.display.tell("no rows are kept that could be shown")
+            return False
+        acts, scrolls = self.typing.begin_scroll(wish == "copy page", self.display.outer.size()[0])
+        self.act(*acts)
+        self.change(scrolls)
+        return True
 
     # ---- sizes
 

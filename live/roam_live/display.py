@@ -8,12 +8,15 @@ from collections.abc import Callable
 
 from roam_live import terminal
 from roam_live.asides import GivenAside, GivenClip
+from roam_live.colours import ASKED
 from roam_live.loops import Loop
+from roam_live.places import Rect
 from roam_live.program import Fault, write
 from roam_live.words import printable
 
 TYPE_CHECKING = False
 if TYPE_CHECKING:
+    from roam_live.drawings import Drawing
     from roam_live.told import ToldRecord
 
 # So many seconds a line stands in the last row.
@@ -71,6 +74,11 @@ class OuterTerminal:
     def ask(self, reports: str) -> None:
         """Asks it for reports of the mouse: for none, `drags`, or all `motion`."""
         self.waiting += self.aside.asked(reports)
+
+    def ask_colours(self) -> None:
+        """Asks it for its colours; what it answers comes among what is typed, if it comes."""
+        if self.aside.is_able:
+            self.waiting += ASKED
 
     def set_clip(self, text: str) -> None:
         """Sets its clipboard, by a text in base64."""
@@ -132,6 +140,12 @@ class Display:
         self.cover = self.told = ""
         self.silent = 0
         self.labels = ""
+        # What is drawn over a part of what is painted, and the line that stands in the last row meanwhile; whether the start was told of
+        # its mask; and what is called where what is shown of the session may be another part.
+        self.drawing: Drawing | None = None
+        self.drawing_line = ""
+        self.is_masked = False
+        self.moved: Callable[[], object] = lambda: None
         # What tells which key fits the session to this terminal, where that may be, and which leaves.
         self.fits_line = self.leaves_line = ""
         # The line that stands in the last row, and where; and whether what is painted next may erase it.
@@ -142,8 +156,8 @@ class Display:
 
     def begin(self) -> None:
         """Knows nothing of what a start paints that was just connected to: it paints the whole where it isn't asked for a part."""
-        self.asked, self.painted_size, self.place = None, NO_SIZE, (0, 0)
-        self.is_stale, self.silent, self.line_put = True, 0, None
+        self.asked, self.painted_size, self.place = None, NO_SIZE, self.place if self.drawing else (0, 0)
+        self.is_stale, self.silent, self.line_put, self.is_masked = True, 0, None, False
 
     def know(self, size: terminal.Size, labels: str, may_be_whole: bool) -> None:
         """Goes by what is known of the session: its size, the labels of its panes, and whether it may be shown whole."""
@@ -180,11 +194,18 @@ class Display:
             self.ask_part(self.wanted())
         elif is_painted and not self.cover:
             self.repaint()
+        self.moved()
 
     def ask_part(self, part: terminal.Size | None) -> None:
-        """Asks for a part of the session, or for all of it: for that part with the cursor that is nearest to the first row and column."""
+        """Asks for a part of the session, or for all of it: for that part with the cursor that is nearest to the first row and column, or,
+        where something is drawn over it, for the one that is shown."""
         self.asked, self.is_stale = part, True
-        self.says("part {} {}".format(*part) if part else "whole")
+        if part and self.drawing:
+            rows, cols = self.size()
+            top, left = (max(0, min(place, most)) for place, most in zip(self.place, (rows - 1 - part[0], cols - part[1])))
+            self.says(f"part {top} {left} {part[0]} {part[1]}")
+        else:
+            self.says("part {} {}".format(*part) if part else "whole")
 
     def repaint(self) -> None:
         """Has all painted anew."""
@@ -209,6 +230,7 @@ class Display:
             self.take_size((record.numbers[0], record.numbers[1]))
         elif record.word == "part":
             self.place = record.numbers[0], record.numbers[1]
+            self.moved()
         elif record.word in ("paint", "anew"):
             self.take_painting(record)
         elif record.word in ("silent", "heard"):
@@ -236,10 +258,13 @@ class Display:
         if self.cover or not self.fits() or self.is_stale and not is_anew:
             self.is_stale = True
             return
+        drawing = self.drawing
+        self.outer.waiting += drawing.lifted() if drawing else b""
         self.outer.waiting += terminal.CLEARED + record.data.removeprefix(terminal.RESET) if is_anew else record.data
         is_over = is_anew or self.is_line_lost or self.asked is None
         self.is_stale = self.is_line_lost = False
         self.put_line(is_over)
+        self.outer.waiting += drawing.laid(is_anew) if drawing else b""
 
     def shown_at(self, row: int, col: int, is_near: bool = False) -> tuple[int, int] | None:
         """The place of the session that is shown at a row and a column of the terminal, all from 1; None where none is, as in the last row,
@@ -252,11 +277,52 @@ class Display:
         top, left = self.place if self.asked else (0, 0)
         return top + row, left + col
 
+    # ---- what is drawn over a part
+
+    def visible(self, rect: Rect) -> Rect | None:
+        """What is shown of a rectangle of the session, as a rectangle of the terminal; None where nothing is."""
+        top, left = self.place if self.asked else (0, 0)
+        rows, cols = self.asked or self.painted_size
+        row, col = max(1, rect.row - top), max(1, rect.col - left)
+        end, right = min(rows, rect.row - top + rect.rows - 1), min(cols, rect.col - left + rect.cols - 1)
+        return Rect(row, col, end - row + 1, right - col + 1) if row <= end and col <= right else None
+
+    def lay(self, drawing: Drawing) -> None:
+        """Draws something over a part of what is shown, which stays that part: all is painted anew for it, but for that."""
+        was_masked, self.drawing = self.is_masked, drawing
+        if was_masked:
+            self.says("unmask")
+        elif self.asked:
+            self.ask_part(self.asked)
+        self.is_masked = self.is_stale = True
+        self.says(drawing.masks())
+
+    def draw(self) -> None:
+        """Goes by other lines, or another cursor, of what is drawn."""
+        if self.drawing and not self.cover and not self.is_stale:
+            self.outer.waiting += self.drawing.laid()
+
+    def lift(self) -> None:
+        """Draws nothing any more."""
+        self.drawing, self.drawing_line = None, ""
+        if self.is_masked:
+            self.is_masked = False
+            self.says("unmask")
+            self.is_stale = True
+        if self.asked:
+            self.ask_part(self.asked)
+
+    def say_line(self, line: str) -> None:
+        """Has a line stand in the last row while something is drawn, where nothing else is told."""
+        self.drawing_line = line
+        self.change_line()
+
     # ---- lines in place of the session
 
     def show(self, text: str) -> None:
         """Shows lines in place of the session."""
         self.cover, self.is_stale, self.line_put = text, True, None
+        self.forget_drawn()
         rows, cols = self.outer.size()
         lines = [part for line in text.split("\n") for part in wrapped(printable(line), max(1, cols - 1))][: max(1, rows)]
         self.outer.waiting += terminal.CLEARED + terminal.unwrapped("\r\n".join(lines))
@@ -267,10 +333,16 @@ class Display:
         self.outer.waiting += terminal.CLEARED
         self.choose(is_painted=True)
 
+    def forget_drawn(self) -> None:
+        """Knows that nothing of what was drawn stands on the terminal any more."""
+        if self.drawing:
+            self.drawing.forget()
+
     def enter_again(self) -> None:
         """Takes the terminal again, where nothing stands of what was painted."""
         self.outer.enter_again()
         self.is_stale, self.line_put = True, None
+        self.forget_drawn()
 
     def resized(self) -> None:
         """Goes by a new size of the terminal: at once where there is no room for what is shown, and for all of it a moment later, since
@@ -301,6 +373,8 @@ class Display:
             return self.told
         if self.silent:
             return "; ".join(filter(None, (f"roam: no answer for {self.silent} s", self.leaves_line)))
+        if self.drawing_line:
+            return self.drawing_line
         return "" if self.asked is None else self.labels_line(self.outer.size()[1])
 
     def labels_line(self, width: int) -> str:
@@ -323,7 +397,9 @@ class Display:
         if is_over or self.line_put != (text, row, width):
             self.line_put = text, row, width
             line = printable(text)[:width].ljust(width)
-            self.outer.waiting += b"\x1b7" + terminal.unwrapped(f"\x1b[{row};1H\x1b[0;7m{line}\x1b[0m") + b"\x1b8"
+            written = terminal.unwrapped(f"\x1b[{row};1H\x1b[0;7m{line}\x1b[0m")
+            is_placed = self.drawing is not None and self.drawing.is_placed
+            self.outer.waiting += written + self.drawing.placed() if self.drawing and is_placed else b"\x1b7" + written + b"\x1b8"
 
     def change_line(self) -> None:
         """Goes by another line; where the session's own status row stands there all is painted anew."""

@@ -8,6 +8,7 @@ from collections.abc import Callable
 from roam_live.loops import Loop
 from roam_live.places import ASIDE, BRACKETED, CLIPS, LONGEST_LINE, Places, ToldPanes
 from roam_live.program import Lines, SocketPeer, connected, connected_now, read, reason, runs_program, say, write
+from roam_live.questions import ASKS
 
 TYPE_CHECKING = False
 if TYPE_CHECKING:
@@ -158,6 +159,7 @@ class KeeperFollowing(Following):
         if runs_program(peer):
             self.ask(KEEPER)
             self.ask(ASIDE)
+            self.ask(ASKS)
         self.loop.later("panes are quiet", QUIET, lambda: self.tell(TELLS_NOTHING))
 
     def heard(self, lines: list[str]) -> None:

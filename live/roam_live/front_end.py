@@ -74,7 +74,7 @@ class FrontEnd:
         if self.server is not None:
             self.loop.add(self.server, lambda: self.leave(*self.session.ending()))
         self.loop.add(self.wakeup, self.signalled)
-        self.loop.add(0, self.typed, hears=lambda: len(link.waiting) < TYPED_LIMIT and not self.commands.pastes.is_full())
+        self.loop.add(0, self.typed, hears=lambda: len(link.waiting) < TYPED_LIMIT and not self.commands.is_full())
         self.loop.add(outer.end, None, self.show, has_more=outer.has_more)
 
     def leave(self, line: str | None, status: int = 0) -> None:
@@ -217,6 +217,11 @@ class FrontEnd:
         if not self.display.outer.put():
             self.leave("", 1)
 
+    def ask_colours(self) -> None:
+        """Asks the terminal for its colours, where a keeper may know them of it."""
+        if self.session.folder and not self.link.watches:
+            self.display.outer.ask_colours()
+
     def hands_over(self) -> bool:
         """Whether a paste is still handed over where the person has left: that is waited for, as for what was typed last."""
         if self.left_at is None:
@@ -232,6 +237,7 @@ class FrontEnd:
         """Follows the session until the person leaves or it ends, and tells the status."""
         try:
             self.display.outer.enter()
+            self.ask_colours()
             self.connect()
             if self.server is None:
                 self.loop.later("probe", PROBES, self.probe)

@@ -4,6 +4,7 @@ from __future__ import annotations
 import sys
 import time
 
+from roam_live.kept_rows import BAD_LINE
 from roam_live.keys import pasted_acts
 from roam_live.links import opened
 from roam_live.loops import READ, WRITE, ready
@@ -38,7 +39,8 @@ class TextGiver:
         return self.peer.fileno()
 
     def answer(self, word: str) -> bool:
-        """Gives what waits, and tells whether it is answered by a word; False where the connection has ended, or the text is lost."""
+        """Gives what waits, and tells whether it is answered by a word; False where the connection has ended, the text is lost, or the
+        keeper doesn't know what was said."""
         end = time.monotonic() + TAKES
         while time.monotonic() < end:
             events = ready(self, READ | WRITE if self.waiting else READ, end - time.monotonic())
@@ -49,6 +51,8 @@ class TextGiver:
             if piece == b"":
                 return False
             for line in self.lines.fed(piece or b""):
+                if line == BAD_LINE:
+                    return False
                 told, _, rest = line.partition(" ")
                 name, _, more = rest.partition(" ")
                 if name == self.name and told == REFUSED:
@@ -56,6 +60,11 @@ class TextGiver:
                 if name == self.name:
                     return told == word
         raise Fault(f"session {self.session.name}: what keeps its shells doesn't take the text")
+
+    def is_buffer_held(self, number: int) -> bool:
+        """Gives a buffer of the keeper's, and tells whether it holds that as a text."""
+        self.waiting += f"give {self.name} buffer {number}\n".encode()
+        return self.answer(HELD)
 
     def is_held(self, data: bytes, is_plain: bool) -> bool:
         """Gives a text, and tells whether the keeper holds it; False where none is there that takes any."""
@@ -85,11 +94,31 @@ def type_text(session: FolderSession, text: str, pane: int, is_plain: bool) -> i
     if len(data) > MOST_BYTES:
         raise Fault(f"a text has {MOST_BYTES >> 20} MB at most; nothing was typed")
     giver = given(session, data, is_plain)
-    acts = mark_acts(giver.name) if giver else pasted_acts(text, not is_plain and wants_brackets(session, pane))
+    if giver:
+        return put(session, giver, pane, focus)
+    acts = pasted_acts(text, not is_plain and wants_brackets(session, pane))
     type_lines(session, opened(session, False), lines_in_pane(acts, pane, focus, "paste ; "))
-    if giver and not giver.answer(PUT):
+    return 0
+
+
+def put(session: FolderSession, giver: TextGiver, pane: int, focus: int) -> int:
+    """Has the mark typed of a text that the keeper holds, and returns once the text is put there."""
+    type_lines(session, opened(session, False), lines_in_pane(mark_acts(giver.name), pane, focus, "paste ; "))
+    if not giver.answer(PUT):
         raise Fault(f"session {session.name}: what keeps its shells ended, and nothing was typed")
     return 0
+
+
+def paste_buffer(session: FolderSession, number: int, pane: int) -> int:
+    """Has a buffer of the keeper's pasted into a pane, or into that in focus."""
+    focus = pane_places(session, pane).focus if pane else 0
+    try:
+        giver = TextGiver(session)
+    except OSError as fault:
+        raise Fault(f"session {session.name}: nobody keeps its shells") from fault
+    if not giver.is_buffer_held(number):
+        raise Fault(f"session {session.name}: what keeps its shells has no buffers, as an earlier roam's, or ended; nothing was typed")
+    return put(session, giver, pane, focus)
 
 
 def read_text(is_raw: bool) -> str:

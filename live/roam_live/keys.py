@@ -5,6 +5,7 @@ import codecs
 import re
 from collections import namedtuple
 
+from roam_live.colours import ANSWER, BEGINS, COLOUR, begun_at
 from roam_live.mouse import BEGIN, MOUSE
 
 
@@ -40,7 +41,7 @@ ACTS = {name for name in SPELLINGS.values() if not name.startswith("C-") and not
 TYPED = {"\r": "key return", "\x7f": "key backspace"}
 
 # A sequence, or a character; and the beginning of a sequence that more may follow.
-WHOLE = re.compile(r"\x1b\[\[[A-E]|\x1b\[[0-?]*[ -/]*[@-~]|\x1bO[ -~]|.", re.DOTALL)
+WHOLE = re.compile(ANSWER.pattern + r"|\x1b\[\[[A-E]|\x1b\[[0-?]*[ -/]*[@-~]|\x1bO[ -~]|.", re.DOTALL)
 BEGUN = re.compile(r"\x1b(\[\[?|\[[0-?]+[ -/]*|O)?")
 
 
@@ -67,8 +68,9 @@ class Keys:
         if begins:
             self.is_pasting = True
             return [*keys_in(before), Key("paste", PASTE)], rest
-        cut = text.rfind("\x1b", max(0, len(text) - 32))
-        is_cut = cut >= 0 and BEGUN.fullmatch(text, cut) is not None
+        answer = begun_at(text)
+        cut = text.rfind("\x1b", max(0, len(text) - 32)) if answer is None else answer
+        is_cut = answer is not None or cut >= 0 and BEGUN.fullmatch(text, cut) is not None
         self.rest = text[cut:] if is_cut else ""
         return keys_in(text[:cut] if is_cut else text), ""
 
@@ -84,8 +86,9 @@ class Keys:
         return [Key("text", before)] * bool(before) + [Key("pasted", PASTED)] * bool(ends), rest
 
     def waits(self) -> bool:
-        """Whether an escape waits for more that may not come; of a report of the mouse all does, however long that takes."""
-        return self.rest != "" and not self.is_pasting and not self.rest.startswith(BEGIN)
+        """Whether an escape waits for more that may not come; of a report of the mouse all does, and of an answer that tells a colour,
+        however long that takes."""
+        return self.rest != "" and not self.is_pasting and not self.rest.startswith((BEGIN, *BEGINS))
 
     def ended(self) -> list[Key]:
         """The keys of what waits, where no more came in time."""
@@ -94,7 +97,7 @@ class Keys:
 
 
 def keys_in(text: str) -> list[Key]:
-    """The keys of a text, and the reports of the mouse among them; a sequence that isn't known has the name of none."""
+    """The keys of a text, and reports of the mouse and answers of the terminal among them; a sequence that isn't known has the name of none."""
     return [Key(name_of(found[0]), found[0]) for found in WHOLE.finditer(text)]
 
 
@@ -102,6 +105,8 @@ def name_of(text: str) -> str:
     """The name of a character or a sequence."""
     if text.startswith(BEGIN) and text[-1] in "Mm":
         return MOUSE
+    if text.startswith(BEGINS):
+        return COLOUR
     return SPELLINGS.get(text, text if len(text) == 1 else "unknown")
 
 

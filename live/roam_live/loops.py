@@ -1,6 +1,7 @@
 """What a process waits for: ends that come and go, with what is done there, and moments."""
 from __future__ import annotations
 
+import select
 import selectors
 import time
 from collections.abc import Callable
@@ -73,10 +74,7 @@ class Loop:
 
     def __init__(self, clock: Callable[[], float] | None = None) -> None:
         self.clock = clock or time.monotonic
-        # It needs no descriptor of its own, takes any file, and as many as there are where the limit was lowered since.
-        self.selector = selectors.SelectSelector()
         self.sources: dict[int, LoopEnd] = {}
-        self.heeded: dict[int, int] = {}
         self.due: dict[str, tuple[float, Does]] = {}
         self.before: list[Callable[[], float | None]] = []
 
@@ -89,22 +87,7 @@ class Loop:
 
     def remove(self, end: End) -> None:
         """Lets an end go, before it is closed."""
-        number = number_of(end)
-        self.sources.pop(number, None)
-        self.heed(number, 0)
-
-    def heed(self, number: int, events: int) -> None:
-        """Has the system tell these events of an end, and no others."""
-        known = self.heeded.get(number, 0)
-        if events == known:
-            return
-        if not known:
-            self.selector.register(number, events)
-        elif not events:
-            self.selector.unregister(number)
-        else:
-            self.selector.modify(number, events)
-        self.heeded[number] = events
+        self.sources.pop(number_of(end), None)
 
     # ---- moments
 
@@ -136,9 +119,19 @@ class Loop:
 
     def ready(self, seconds: float | None) -> dict[int, int]:
         """Waits until something can be done at an end, so many seconds at most, and tells the events by their ends."""
+        reads, writes = [], []
         for number, source in self.sources.items():
-            self.heed(number, source.events())
-        return {key.fd: events for key, events in self.selector.select(seconds)}
+            events = source.events()
+            if events & READ:
+                reads.append(number)
+            if events & WRITE:
+                writes.append(number)
+        # This needs no descriptor of its own, takes any file, and as many as there are where the limit was lowered since.
+        readable, writable, _ = select.select(reads, writes, (), seconds)
+        found = dict.fromkeys(readable, READ)
+        for number in writable:
+            found[number] = found.get(number, 0) | WRITE
+        return found
 
     def wait_time(self) -> float | None:
         """Does what is done before each wait, and tells how long nothing is due then; None where nothing ever is."""
@@ -149,8 +142,8 @@ class Loop:
     def turn(self) -> None:
         """Waits until something can be done, and does it: what has come before what is due."""
         ready = self.ready(self.wait_time())
-        for number, source in list(self.sources.items()):
-            events = ready.get(number, 0)
+        for number, source in [(number, source) for number, source in self.sources.items() if number in ready]:
+            events = ready[number]
             # What was done before may have let it go, or closed it and opened another.
             while events and self.sources.get(number) is source:
                 events = WRITE if source.do(events) else 0

@@ -4,9 +4,11 @@ from __future__ import annotations
 # What tmux calls what `mux` has by another name.
 TMUX_WORDS = {
     "a": "attach", "at": "attach", "att": "attach", "attach-session": "attach", "capture-pane": "capture", "capturep": "capture",
-    "det": "detach", "detach-client": "detach", "has-session": "ls", "kill-server": "kill", "kill-session": "kill", "list-clients": "ls",
-    "list-commands": "help", "list-keys": "help", "list-sessions": "ls", "lsc": "ls", "lscm": "help", "lsk": "help", "new-session": "new",
-    "send-keys": "send", "show-environment": "env", "showenv": "env", "start-server": "new",
+    "det": "detach", "detach-client": "detach", "has-session": "ls", "kill-server": "kill", "kill-session": "kill", "list-buffers": "buffer",
+    "list-clients": "ls", "list-commands": "help", "list-keys": "help", "list-sessions": "ls", "lsb": "buffer", "lsc": "ls",
+    "lscm": "help", "lsk": "help", "new-session": "new", "paste-buffer": "buffer", "pasteb": "buffer", "pipe-pane": "log", "pipep": "log",
+    "send-keys": "send", "set-buffer": "buffer", "setb": "buffer", "show-buffer": "buffer", "show-environment": "env",
+    "showb": "buffer", "showenv": "env", "start-server": "new",
 }
 
 # A slip may be of two letters in a word that has so many, and of one in a shorter one.

@@ -49,10 +49,10 @@ class Behind:
 
 
 class Paste:
-    """A paste for which a mark is typed, once the keeper of the shells holds it."""
+    """A paste for which a mark is typed, once the keeper of the shells holds it: a text, or a buffer of the keeper's by its number."""
 
-    def __init__(self, text: str, is_bracketed: bool) -> None:
-        self.name, self.text, self.is_bracketed = random_name(), text, is_bracketed
+    def __init__(self, text: str, is_bracketed: bool, buffer: int | None = None) -> None:
+        self.name, self.text, self.is_bracketed, self.buffer = random_name(), text, is_bracketed, buffer
         self.is_held = False
 
 
@@ -114,8 +114,22 @@ class Pastes:
         if len(data) > MOST_BYTES or not self.shells.has_room(len(data)):
             self.tells(TOO_LONG)
             return
-        self.waiting.append(paste)
         self.shells.give(paste.name, data)
+        self.hand(paste)
+
+    def paste_buffer(self, number: int) -> None:
+        """Has a buffer of the keeper's be pasted."""
+        why = self.refuses()
+        if why or not self.shells:
+            self.tells(why or NOT_TAKEN)
+            return
+        paste = Paste("", False, number)
+        self.shells.give_buffer(paste.name, number)
+        self.hand(paste)
+
+    def hand(self, paste: Paste) -> None:
+        """Waits until a paste is held."""
+        self.waiting.append(paste)
         self.loop.later(f"hand {paste.name}", HANDING, lambda: self.fail(paste, NOT_TAKEN))
 
     # ---- what becomes of it
@@ -129,13 +143,13 @@ class Pastes:
             return
         if word == HELD:
             paste.is_held = True
-        elif word == UNTOLD:
+        elif word == UNTOLD and paste.buffer is None:
             place = self.waiting.index(paste)
             self.waiting[place] = Behind(tuple(pasted_acts(paste.text, paste.is_bracketed)), True)
         else:
             self.waiting.remove(paste)
-            if word == REFUSED:
-                self.tells(f"nothing is pasted: {more}")
+            if word in (REFUSED, UNTOLD):
+                self.tells(f"nothing is pasted: {more}" if more else NOT_TAKEN)
         self.loop.drop(f"hand {name}")
         self.type_waiting()
 

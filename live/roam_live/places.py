@@ -37,6 +37,7 @@ ASIDE = "beside"
 ASIDES = ("modes", "shape", "title", "bell")
 BRACKETED = "paste"
 FOCUS = "focus"
+OTHER = "other"
 
 # What it is asked for by who sets a clipboard too, and the word of its lines.
 CLIPS = "clips"

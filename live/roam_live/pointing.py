@@ -3,6 +3,7 @@ mouse itself."""
 from __future__ import annotations
 
 from roam_live.borders import BorderDrag, border_at
+from roam_live.copy_pointing import Clicks
 from roam_live.loops import Loop
 from roam_live.mouse import DOWN, UP, MouseReport, is_wanted, report_of, sent, tracking_of
 
@@ -42,6 +43,9 @@ class Pointing:
         # Whether roam has the mouse itself; and the border that is dragged.
         self.is_on = False
         self.border: BorderDrag | None = None
+        # The pane in which the first button is held where no program has it, and where on the terminal it was pressed; and how often.
+        self.grasped: tuple[int, Place] | None = None
+        self.clicks = Clicks()
         # The pane whose program was told that a button is held, by the button.
         self.held: dict[int, int] = {}
         # The newest motion that wasn't typed yet, with its pane and place; the pane, place and button of the last, and when it was.
@@ -77,6 +81,10 @@ class Pointing:
         holder = self.held.get(report.number(), 0) if report.moves() or report.is_release else 0
         if report.is_release:
             self.held.pop(report.number(), None)
+        if not holder and not self.border and self.copies(report):
+            return
+        if report.is_release:
+            self.grasped = None
         elif self.border and not report.moves():
             # That it was let go wasn't told.
             self.end_drag()
@@ -95,7 +103,10 @@ class Pointing:
         """Goes by a report at a place of the session. The pane whose program was told that a button is held has the reports of that button,
         wherever the mouse is: its program is told the nearest place, as on a terminal of its own."""
         pane = holder or places.pane_at(*place)
-        if not pane and self.is_on and report.button == 0 and not report.is_release:
+        if self.grasped and report.moves() and report.number() == 0:
+            (pane, pressed), self.grasped = self.grasped, None
+            self.commands.copying.pointing.open_by_drag(pane, pressed, (report.row, report.col))
+        elif not pane and self.is_on and report.button == 0 and not report.is_release:
             self.grip(places, place)
         elif pane == 0 or report.is_release and not holder or pane != places.focus and (not self.is_on or report.moves() or holder):
             return
@@ -115,8 +126,28 @@ class Pointing:
                 self.held[report.number()] = pane
         elif report.is_wheel():
             self.turn(report, pane)
-        elif not has_focus:
-            self.commands.act_together(f"focus {pane}")
+        else:
+            if not has_focus:
+                self.commands.act_together(f"focus {pane}")
+            if self.is_on and report.number() == 0:
+                self.grasp(pane, (report.row, report.col))
+
+    # ---- copy mode
+
+    def copies(self, report: MouseReport) -> bool:
+        """Whether copy mode takes a report."""
+        commands = self.commands
+        if not commands.copying.is_on() or commands.paused or commands.display.cover or not commands.typing.is_typing():
+            return False
+        return commands.copying.pointing.take(report)
+
+    def grasp(self, pane: int, place: Place) -> None:
+        """Takes note of where the first button is held, at a place of the terminal: what is dragged from there is selected, and a word by a
+        double click."""
+        self.grasped = pane, place
+        if self.clicks.press(place, self.loop.clock()) == 2:
+            self.grasped = None
+            self.commands.copying.pointing.open_by_click(pane, place)
 
     # ---- where roam has the mouse
 
@@ -129,7 +160,7 @@ class Pointing:
         if OTHER in self.commands.panes.modes(pane):
             self.commands.act_together(f"focus {pane}", *[f"key {way}"] * NOTCH)
         elif way == "up":
-            self.scroll(pane, NOTCH)
+            self.commands.copying.pointing.open_by_wheel(pane)
 
     def scroll(self, pane: int, rows: int) -> None:
         """Scrolls a pane; where the newest rows are there again that is over."""

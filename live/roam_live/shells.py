@@ -8,19 +8,34 @@ import socket
 from collections.abc import Callable
 
 from roam_live.brought import BROUGHT, Brought
+from roam_live.buffers import NOTHING, UNKNOWN, WATCHES, Buffers
+from roam_live.colours import Colours
 from roam_live.given import KEPT, LOST, GivenText, GivenTexts
 from roam_live.listeners import Listener
 from roam_live.loops import Loop
-from roam_live.presence import GONE, OTHERS, THERE, WHO, Presence, presence_said
+from roam_live.presence import WHO, presence_said
 from roam_live.program import Fault, read, reason, say, write
-from roam_live.texts import random_name
+from roam_live.row_answers import RowAsker
+from roam_live.shells_peers import MOST_WAITING, Giving, ShellsPeer
+from roam_live.texts import cleaned, random_name
+
+TYPE_CHECKING = False
+if TYPE_CHECKING:
+    from roam_live.row_keeping import RowKeeper
+    from roam_live.row_pieces import PaneRows
 
 # So many are connected at most: front ends of this machine and of others.
 MOST_PEERS = 64
 
-# No line that comes has so many bytes, and so many at most wait for one who is told something: who takes them not is let go.
+# No line that comes has so many bytes.
 LONGEST_LINE = 256
-MOST_WAITING = 1 << 16
+
+# Of answers with bytes behind them so many wait for all together; who takes none of one for so many seconds is let go.
+MOST_ANSWERS = 1 << 25
+UNREAD = 60.0
+
+# So many seconds rows aren't read of the filter for who writes them down and doesn't take them.
+LOG_WAIT = 1.0
 
 # What one says that is to be told what runs in front in the panes.
 COMMANDS = "commands"
@@ -29,77 +44,31 @@ COMMANDS = "commands"
 GIVE = re.compile(r"give ([0-9a-f]{16}) ([1-9]\d{0,8})( plain)?", re.ASCII)
 ASK = re.compile(r"ask ([0-9a-f]{16})", re.ASCII)
 
-# Of so many texts one is told at most what becomes of them.
-MOST_NAMES = 64
+# How one gives a buffer, has one kept, whose bytes follow, and asks for one, or for all.
+GIVE_BUFFER = re.compile(r"give ([0-9a-f]{16}) buffer (\d{1,9})", re.ASCII)
+BUFFER = re.compile(r"buffer (add|show) (\d{1,9})", re.ASCII)
+BUFFER_LIST = "buffer list"
 
 BAD_LINE = "bad line"
 
 
-class Giving:
-    """A text whose bytes come: they are kept, or passed over where the text is known already, or refused."""
-
-    def __init__(self, name: str, length: int, is_plain: bool, is_kept: bool, refusal: str) -> None:
-        self.name, self.length, self.is_plain, self.is_kept, self.refusal = name, length, is_plain, is_kept, refusal
-        self.left = length
-        self.data = bytearray()
-
-    def take(self, came: bytearray) -> None:
-        """Takes those of its bytes that are there, off what came."""
-        count = min(self.left, len(came))
-        if self.is_kept:
-            self.data += came[:count]
-        del came[:count]
-        self.left -= count
-
-
-class ShellsPeer:
-    """One who is connected, by a number of its own: what came of its lines, what waits for it, and whether it is at a terminal."""
-
-    def __init__(self, end: socket.socket, number: int) -> None:
-        self.end, self.number = end, number
-        self.came, self.waiting = bytearray(), bytearray()
-        self.presence: Presence | None = None
-        # Whether it asked who else is there; and the others, as it was told last.
-        self.asks = False
-        self.told: dict[int, Presence] | None = None
-        # The same of what runs in front in panes.
-        self.asks_commands = False
-        self.commands: dict[int, tuple[int, str]] = {}
-        # The text that it gives now, and the names of those of which it wants to know what becomes of them.
-        self.giving: Giving | None = None
-        self.names: dict[str, None] = {}
-
-    def watches(self) -> bool:
-        """Whether it said that it only watches."""
-        return self.presence is not None and self.presence.kind == "watches"
-
-    def wants(self, name: str) -> None:
-        """Notes that it wants to know what becomes of a text."""
-        self.names.pop(name, None)
-        self.names[name] = None
-        if len(self.names) > MOST_NAMES:
-            del self.names[next(iter(self.names))]
-
-    def news(self, others: dict[int, Presence]) -> list[str]:
-        """The lines that tell it of the others, where it wasn't told so yet."""
-        told, self.told = self.told, others
-        lines = [f"{GONE} {number}" for number in told or () if number not in others]
-        lines += [f"{THERE} {number} {one}" for number, one in others.items() if (told or {}).get(number) != one]
-        return [*lines, f"{OTHERS} {len(others)}"] if lines or told is None else []
-
-
 class ShellsSocket:
     """The socket: lines of those who connect, and lines back. Where it can't be had that is told, and nobody is known to be there. A call
-    is for one more who asks what runs in front in the panes."""
+    is for one more who asks what runs in front in the panes; rows are asked of who keeps them."""
 
-    def __init__(self, folder: str | os.PathLike[str], loop: Loop, asked_commands: Callable[[], object] = lambda: None) -> None:
-        self.loop, self.asked_commands = loop, asked_commands
+    def __init__(self, folder: str | os.PathLike[str], loop: Loop, asked_commands: Callable[[], object] = lambda: None,
+                 rows: RowKeeper | None = None) -> None:
+        self.loop, self.asked_commands, self.rows = loop, asked_commands, rows
+        if rows:
+            rows.logs_came, rows.waits_for_logs = self.tell_logged, self.has_full_log
         self.peers: list[ShellsPeer] = []
         self.last = 0
         # By it those who come again know whether this is the keeper that was there before.
         self.name = random_name()
         self.texts = GivenTexts(loop, self.tell_text)
         self.brought = Brought()
+        self.buffers = Buffers()
+        self.colours = Colours()
         # Whether something is new of who is there.
         self.is_new = False
         self.listener: Listener | None = None
@@ -108,6 +77,7 @@ class ShellsSocket:
         except (Fault, OSError) as fault:
             say(f"who is at the session isn't told: {reason(fault)}")
         loop.each(self.tell_news)
+        loop.each(self.tell_rows)
 
     def has_room(self) -> bool:
         """Whether another may connect."""
@@ -118,7 +88,11 @@ class ShellsSocket:
         self.last += 1
         peer = ShellsPeer(end, self.last)
         self.peers.append(peer)
-        self.loop.add(end, lambda: self.hear(peer), lambda: self.write(peer), has_more=lambda: peer.waiting)
+        if self.rows:
+            peer.asker = RowAsker(self.rows, lambda data: self.answer(peer, data), lambda line: self.send(peer, [line]),
+                                  lambda: self.take_lines(peer))
+        self.loop.add(end, lambda: self.hear(peer), lambda: self.write(peer), has_more=lambda: peer.waiting,
+                      hears=lambda: not peer.is_busy())
 
     # ---- what comes
 
@@ -129,7 +103,11 @@ class ShellsSocket:
             self.drop(peer)
             return
         peer.came += piece or b""
-        while peer in self.peers:
+        self.take_lines(peer)
+
+    def take_lines(self, peer: ShellsPeer) -> None:
+        """Takes the lines that came of one, as far as those before are answered."""
+        while peer in self.peers and not peer.is_busy():
             if peer.giving:
                 peer.giving.take(peer.came)
                 if peer.giving.left:
@@ -138,12 +116,12 @@ class ShellsSocket:
                 self.take_given(peer, peer.giving)
             end = peer.came.find(b"\n", 0, LONGEST_LINE)
             if end < 0:
-                break
+                if len(peer.came) >= LONGEST_LINE:
+                    self.drop(peer)
+                return
             line = peer.came[:end].decode("utf-8", "replace")
             del peer.came[: end + 1]
             self.take_line(peer, line)
-        if len(peer.came) >= LONGEST_LINE:
-            self.drop(peer)
 
     def take_line(self, peer: ShellsPeer, line: str) -> None:
         """Takes a line of one who is there."""
@@ -163,7 +141,9 @@ class ShellsSocket:
             self.send(peer, [f"{self.texts.state(asks[1])} {asks[1]}"])
         elif line == BROUGHT:
             self.send(peer, self.brought.lines())
-        elif peer.watches() or not self.brought.take(line):
+        elif self.take_buffer_line(peer, line) or peer.asker and peer.asker.take(line):
+            pass
+        elif peer.watches() or not (self.brought.take(line) or self.colours.take(line)):
             self.send(peer, [BAD_LINE])
 
     # ---- texts that are given
@@ -176,6 +156,38 @@ class ShellsSocket:
         self.texts.coming += length if peer.giving.is_kept else 0
         peer.wants(name)
 
+    def take_buffer_line(self, peer: ShellsPeer, line: str) -> bool:
+        """Takes a line about buffers, and tells whether it is one."""
+        gives, asks = GIVE_BUFFER.fullmatch(line), BUFFER.fullmatch(line)
+        if line == BUFFER_LIST:
+            self.answer(peer, "".join(f"{one}\n" for one in self.buffers.lines()).encode("utf-8", "replace"))
+        elif gives:
+            self.give_buffer(peer, gives[1], self.buffers.texts.get(int(gives[2])))
+        elif asks and asks[1] == "add":
+            self.begin_buffer(peer, int(asks[2]))
+        elif asks:
+            data = self.buffers.texts.get(int(asks[2]))
+            told = f"buffer show {int(asks[2])} {'none' if data is None else len(data)}\n"
+            self.answer(peer, told.encode() + (data or b""))
+        return bool(line == BUFFER_LIST or gives or asks)
+
+    def begin_buffer(self, peer: ShellsPeer, length: int) -> None:
+        """Takes a text that is to be a buffer, whose bytes follow."""
+        refusal = WATCHES if peer.watches() else self.buffers.refusal(length)
+        peer.giving = Giving("", length, False, not refusal, refusal, is_buffer=True)
+        self.buffers.coming += 0 if refusal else length
+
+    def give_buffer(self, peer: ShellsPeer, name: str, data: bytes | None) -> None:
+        """Takes a buffer for a text, as if its characters were given."""
+        text = cleaned((data or b"").decode("utf-8", "replace")).encode()
+        if not text and self.texts.state(name) == LOST:
+            self.send(peer, [f"refused {name} {UNKNOWN if data is None else NOTHING}"])
+            return
+        self.begin_giving(peer, name, len(text), False)
+        if peer.giving:
+            peer.giving.take(bytearray(text))
+            self.take_given(peer, peer.giving)
+
     def wait_for(self, peer: ShellsPeer) -> None:
         """Waits for more of a text; one of which nothing more comes takes its room no longer than others."""
         self.loop.later(f"given by {peer.number}", KEPT, lambda: self.drop(peer))
@@ -183,14 +195,21 @@ class ShellsSocket:
     def take_given(self, peer: ShellsPeer, given: Giving) -> None:
         """Has a text wait whose bytes are all there, and answers."""
         self.end_giving(peer)
+        if given.is_buffer:
+            told = f"none {given.refusal}" if given.refusal else f"{self.buffers.add(bytes(given.data))} {given.length}"
+            self.send(peer, [f"buffer add {told}"])
+            return
         if given.is_kept:
             self.texts.take(GivenText(given.name, bytes(given.data), given.is_plain))
         self.send(peer, [f"refused {given.name} {given.refusal}" if given.refusal else f"{self.texts.state(given.name)} {given.name}"])
 
     def end_giving(self, peer: ShellsPeer) -> None:
         """Waits for no more of a text."""
-        if peer.giving and peer.giving.is_kept:
-            self.texts.coming -= peer.giving.length
+        given = peer.giving
+        if given and given.is_kept and given.is_buffer:
+            self.buffers.coming -= given.length
+        elif given and given.is_kept:
+            self.texts.coming -= given.length
         peer.giving = None
         self.loop.drop(f"given by {peer.number}")
 
@@ -211,6 +230,33 @@ class ShellsSocket:
         for peer in [peer for peer in self.peers if peer.asks]:
             self.send(peer, peer.news({number: one for number, one in there.items() if number != peer.number}))
 
+    def tell_rows(self) -> float | None:
+        """Goes on with what was asked of rows, and tells when that is due again."""
+        now, dues = self.loop.clock(), []
+        for peer in list(self.peers):
+            dues += [peer.asker.turn(now, not peer.is_full())] if peer.asker else []
+        return min((due for due in dues if due is not None), default=None)
+
+    def tell_logged(self, rows: PaneRows) -> None:
+        """Tells those who write down the rows of a pane that some came."""
+        for peer in list(self.peers):
+            if peer.asker and peer.asker.logged and peer.asker.logged.rows is rows and not peer.is_full():
+                peer.asker.tell_logged()
+
+    def has_full_log(self) -> bool:
+        """Whether somebody who writes rows down doesn't take them and is waited for: for a second, and not again until he has all."""
+        now, found = self.loop.clock(), False
+        for peer in self.peers:
+            if not peer.logs() or not peer.is_full():
+                peer.awaited_until = 0.0
+            elif peer.asker and not peer.asker.is_late:
+                if not peer.awaited_until:
+                    peer.awaited_until = now + LOG_WAIT
+                    self.loop.later(f"log of {peer.number}", LOG_WAIT, lambda: None)
+                peer.asker.is_late = now >= peer.awaited_until
+                found = found or not peer.asker.is_late
+        return found
+
     def has_asked_commands(self) -> bool:
         """Whether somebody is there who asked what runs in front in the panes."""
         return any(peer.asks_commands for peer in self.peers)
@@ -224,18 +270,45 @@ class ShellsSocket:
     def send(self, peer: ShellsPeer, lines: list[str]) -> None:
         """Has lines go to one, who is let go where too much waits for it."""
         peer.waiting += "".join(f"{line}\n" for line in lines).encode("utf-8", "replace")
-        if len(peer.waiting) > MOST_WAITING:
+        if len(peer.waiting) > MOST_WAITING + peer.answers:
+            self.drop(peer)
+
+    def answer(self, peer: ShellsPeer, data: bytes) -> None:
+        """Has an answer with bytes behind it go to one: he asks no more until he took most of it. Where too much waits for all he is let
+        go."""
+        peer.waiting += data
+        peer.answers += len(data)
+        if sum(one.answers for one in self.peers) > MOST_ANSWERS:
+            self.drop(peer)
+        elif peer in self.peers and f"unread by {peer.number}" not in self.loop.due:
+            self.loop.later(f"unread by {peer.number}", UNREAD, lambda: self.drop_unread(peer))
+
+    def drop_unread(self, peer: ShellsPeer) -> None:
+        """Lets one go who took nothing for too long; who writes rows down may take his time."""
+        if not peer.logs():
             self.drop(peer)
 
     def write(self, peer: ShellsPeer) -> None:
         """Writes what one takes."""
+        waiting = len(peer.waiting)
         if not write(peer.end.fileno(), peer.waiting):
             self.drop(peer)
+            return
+        if not peer.waiting:
+            peer.answers = 0
+            self.loop.drop(f"unread by {peer.number}")
+        elif len(peer.waiting) < waiting and peer.answers:
+            self.loop.later(f"unread by {peer.number}", UNREAD, lambda: self.drop_unread(peer))
+        if peer.came:
+            self.take_lines(peer)
 
     def drop(self, peer: ShellsPeer) -> None:
         """Lets one go."""
         if peer in self.peers:
             self.end_giving(peer)
+            self.loop.drop(f"unread by {peer.number}")
+            if peer.asker:
+                peer.asker.close()
             self.loop.remove(peer.end)
             peer.end.close()
             self.peers.remove(peer)

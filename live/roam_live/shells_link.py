@@ -5,10 +5,12 @@ import os
 import socket
 from collections.abc import Callable
 
-from roam_live.following import Following
+from roam_live.colours import COLOUR, Colours, told_in
+from roam_live.following import LET_GO, Following
+from roam_live.kept_rows import BUFFER, AnswerReader, BadAnswer, RowsLink
 from roam_live.loops import Loop
 from roam_live.presence import HERE, WHO, Presence, ToldOthers, terminal_name
-from roam_live.program import connected_now
+from roam_live.program import connected_now, read
 from roam_live.texts import MOST_BYTES
 
 TYPE_CHECKING = False
@@ -21,6 +23,9 @@ KEEPER = "keeper"
 
 # What is told here of one where no keeper is there that takes any.
 UNTOLD = "untold"
+
+# Where so many connections in a row couldn't be had one may still be there soon.
+FEW = 2
 
 # So many bytes wait for a keeper at most.
 MOST_GIVING = 2 * MOST_BYTES
@@ -47,22 +52,31 @@ class ShellsLink(Following):
         self.is_known = False
         self.keeper = ""
         self.is_there = False
+        # What is told comes here, and rows that are kept, and buffers, are asked for by this.
+        self.reader, self.kept = AnswerReader(), RowsLink(self.ask_with)
         # Texts that aren't held yet, by their names, and those that are, and aren't known to be put; a call tells what becomes of one, as
-        # by the word of the keeper, with more words or none.
-        self.giving: dict[str, bytes] = {}
+        # by the word of the keeper, with more words or none. A number is that of a buffer of the keeper's.
+        self.giving: dict[str, bytes | int] = {}
         self.given: dict[str, None] = {}
         self.answers: Callable[[str, str, str], object] = lambda name, word, more: None
         # The lines by which this terminal brings what new panes have, once to each keeper: behind a cut another may have brought since.
         self.brings: list[str] = []
+        # The colours of this terminal, as far as it told them, and what of that the keeper wasn't told: each is told them once.
+        self.colours = Colours()
+        self.untold: list[str] = []
         if folder:
             self.connect()
 
     def begin(self, peer: socket.socket) -> None:
         """Follows a connection that is there."""
         super().begin(peer)
-        self.said = ""
+        self.said, self.reader = "", AnswerReader()
         self.say_here()
         self.ask(WHO)
+
+    def is_connecting(self) -> bool:
+        """Whether a connection may be there soon: none is, as where the keeper was launched just before, and few were tried in a row."""
+        return self.peer is None and self.faults <= FEW
 
     def say_here(self) -> None:
         """Says that this terminal is there, where that, or its size, wasn't said."""
@@ -70,6 +84,43 @@ class ShellsLink(Following):
         if line != self.said:
             self.said = line
             self.ask(line)
+
+    def ask_with(self, line: str, data: bytes) -> bool:
+        """Says a line with bytes behind it, and tells whether a keeper is connected that takes them."""
+        if not self.peer or not self.has_room(len(line) + len(data)):
+            return False
+        self.ask(line)
+        self.waiting += data
+        return True
+
+    def hear(self) -> None:
+        """Takes what came; what can't be an answer ends the connection."""
+        piece = read(self.peer.fileno()) if self.peer else None
+        if piece == b"":
+            self.lost(LET_GO)
+            return
+        try:
+            for answer in self.reader.fed(piece or b""):
+                self.faults = 0
+                if not self.kept.take(answer):
+                    self.take([" ".join(answer.words)])
+        except BadAnswer as fault:
+            self.lost(str(fault))
+
+    def tell_colour(self, text: str) -> None:
+        """Takes an answer of the terminal: what colour it has, which the keeper is told where this terminal edits."""
+        told = told_in(text)
+        line = " ".join((COLOUR, *told)) if told else ""
+        if line and self.kind == "edits" and line not in self.colours.lines():
+            self.colours.take(line)
+            self.untold.append(line)
+            self.tell_colours()
+
+    def tell_colours(self) -> None:
+        """Tells the keeper what it wasn't told of this terminal's colours, while it is there."""
+        for line in self.untold if self.is_there else ():
+            self.ask(line)
+        self.untold = [] if self.is_there else self.untold
 
     def take(self, lines: list[str]) -> None:
         """Takes what was told."""
@@ -89,6 +140,7 @@ class ShellsLink(Following):
     def forget(self) -> None:
         """Knows no more who is there. Where no keeper was known before, none is there that takes texts."""
         self.others, self.is_there = ToldOthers(), False
+        self.kept.forget()
         if not self.is_known:
             self.lose(UNTOLD)
 
@@ -100,7 +152,10 @@ class ShellsLink(Following):
         is_other = self.keeper not in ("", name)
         for line in self.brings if name != self.keeper else ():
             self.ask(line)
+        if name != self.keeper:
+            self.untold = self.colours.lines()
         self.keeper, self.is_there = name, True
+        self.tell_colours()
         if is_other:
             self.lose(LOST)
         for text, data in self.giving.items():
@@ -130,8 +185,17 @@ class ShellsLink(Following):
         if self.is_there:
             self.ask_to_take(name, data)
 
-    def ask_to_take(self, name: str, data: bytes) -> None:
-        """Gives a text to the keeper that is there."""
+    def give_buffer(self, name: str, number: int) -> None:
+        """Has the keeper hold a buffer of its own as a text; a keeper that has none of this number refuses it."""
+        self.giving[name] = number
+        if self.is_there:
+            self.ask_to_take(name, number)
+
+    def ask_to_take(self, name: str, data: bytes | int) -> None:
+        """Gives a text, or a buffer, to the keeper that is there."""
+        if isinstance(data, int):
+            self.ask(f"give {name} {BUFFER} {data}")
+            return
         self.ask(f"give {name} {len(data)}")
         self.waiting += data
 

@@ -70,6 +70,22 @@ class AskedPanes:
             end = min(end, time.monotonic() + BEHIND) if self.told.places() else end
 
 
+def making_of(session: FolderSession, pane: int) -> tuple[int, int]:
+    """A pane, or that in focus where none is named, and its life; Fault where that isn't told, or it isn't there."""
+    try:
+        with connected_in(session.folder / "panes", ASKED) as peer:
+            asked = AskedPanes(peer)
+            asked.hear_all()
+    except OSError as fault:
+        raise Fault(f"session {session.name}: where its panes are isn't told") from fault
+    places = asked.told.places()
+    number = pane or (places.focus if places else 0)
+    life = asked.told.lives.get(number, "")
+    if not places or number not in places.rects or not life.isdigit():
+        raise Fault(f"session {session.name} has no pane {number}" if places else f"session {session.name}: where its panes are isn't told")
+    return number, int(life)
+
+
 def wants_brackets(session: FolderSession, pane: int) -> bool:
     """Whether the program in a pane, or in the one in focus, is known to want what is pasted between brackets."""
     try:

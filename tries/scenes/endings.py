@@ -11,7 +11,7 @@ import subprocess
 import sys
 import time
 
-from tried import Outer, PROGRAM, check, children, comes, listed, noted, own_terminal, said, scene, tool
+from tried import Outer, PROGRAM, check, children, commands, comes, listed, noted, own_terminal, said, scene, tool
 from roam_live import terminal
 from roam_live.program import TOOLS, begun
 
@@ -135,7 +135,7 @@ def refused(folder):
     with limited(shells, resource.RLIMIT_FSIZE, 0):
         outer.type(b"\x02%")
         outer.status(" 1  2  3 [4]")
-        comes(lambda: len(children(shells)) == 4)
+        comes(lambda: len(commands(shells)) == 4)
         outer.type(b"echo fu''ll\r")
         check("where no file can be written the panes go on", outer.shows("full"), outer.rows)
     check("and where they are is written later", comes(lambda: listed()[4:6] == ["4", "panes"]), listed)
@@ -242,8 +242,9 @@ def earlier_start(folder):
     def comes_earlier():
         """An earlier start at the session's socket, as it is noted."""
         os.kill(noted("other")["terminals"][0], signal.SIGKILL)
+        was = (served / "terminals").stat().st_ino
         process = subprocess.Popen([sys.executable, "-c", EARLIER_START, str(served / "terminals")])
-        comes(lambda: processes_of(str(served / "terminals")) and not (served / "terminals.new").exists())
+        comes(lambda: (served / "terminals").stat().st_ino != was)
         state = {**noted("other"), "terminals": [process.pid, begun(process.pid)]}
         (served / "state.json").write_text(json.dumps(state), encoding="utf-8")
         return process

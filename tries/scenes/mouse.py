@@ -2,7 +2,7 @@
 import os
 import time
 
-from tried import SESSION, Outer, check, comes, scene, three_panes, tool
+from tried import KEEPS_NONE, SESSION, Outer, check, comes, scene, three_panes, tool
 from roam_live import terminal
 from roam_live.mouse import ASKED, OFF
 from scenes.machines import ssh_words
@@ -169,7 +169,7 @@ def click(outer, row, col):
 @scene
 def mouse_of_roam(folder):
     """With C-b m a click focuses a pane, the wheel scrolls a shell's and sends arrows on the other screen, and a border is dragged."""
-    outer = three_panes()
+    outer = three_panes(environment=KEEPS_NONE)
     outer.type(b"\x02m")
     check("C-b m tells that roam has the mouse", outer.status("the mouse focuses, scrolls and drags borders; C-b m ends that"), outer.rows)
     check("and has the terminal asked", asks(outer, ASKED["drags"], 0), bytes(outer.written[-200:]))

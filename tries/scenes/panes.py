@@ -8,7 +8,7 @@ import subprocess
 import termios
 import time
 
-from tried import SESSION, Outer, check, comes, is_part, listed, noted, said, scene, three_panes, tool
+from tried import KEEPS_NONE, SESSION, Outer, check, comes, is_part, listed, noted, said, scene, three_panes, tool
 from roam_live import terminal
 from roam_live.commands import NEW
 from roam_live.front_end import SIZES
@@ -169,8 +169,8 @@ def covered(outer):
     check("a key ends that", outer.status("[1] 2  3"), outer.rows)
     outer.type(b"for k in 1 2 3 4 5 6; do echo $k$k$k; done; seq 100; echo en''d\r")
     check("a long text runs through", outer.shows("end"), outer.rows)
-    outer.type(b"\x02[g")
-    check("C-b [ g scrolls to the oldest row", outer.shows("333"), outer.rows)
+    outer.type(b"\x02[\x1b<")
+    check("C-b [ M-< goes to the oldest row", outer.shows("333"), outer.rows)
     outer.type(b"q")
     check("q goes back", comes(lambda: not outer.shows("333", 0.01)) and outer.shows("100"), outer.rows)
 
@@ -290,7 +290,7 @@ def ends(folder):
 @scene
 def told(folder):
     """What a person asks for that can't be had is told for a second, in the last row."""
-    outer = Outer(tool("mux", "other"))
+    outer = Outer(tool("mux", "other"), environment=KEEPS_NONE)
     outer.shows("$ ")
     means = "means nothing; C-b ? shows the keys"
     last = "the last pane goes with its shell, and the session with it"

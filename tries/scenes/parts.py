@@ -6,7 +6,7 @@ import subprocess
 import time
 
 from tried import (
-    Outer, check, comes, connected, is_part_of, listed, noted, part_at, said, scene, shown_above, terminals_of, told_cells, tool)
+    KEEPS_NONE, Outer, check, comes, connected, is_part_of, listed, noted, part_at, said, scene, shown_above, terminals_of, told_cells, tool)
 from emulated import Emulated
 from roam_live.cells import Style
 from roam_live.program import is_listened, program
@@ -89,6 +89,8 @@ def two_sizes(folder):
     guesses = {"ROAM_GUESS": "always"}
     first = Outer(tool("mux", "other"), (24, 80), guesses)
     first.shows("$ ")
+    # Who comes before the keeper knows of the first is alone, and has the session its own size.
+    comes(lambda: listed()[-2:] == ["1", "terminal"])
     second = Outer(tool("mux", "attach", "other"), (50, 200), guesses)
     second.shows("$ ")
     check("the second shows all of a smaller session", are_right([first, second]), (first.rows(), second.rows()))
@@ -333,7 +335,8 @@ def whole_by_hand(folder):
     own = folder / "own"
     own.mkdir(mode=0o700)
     server = subprocess.Popen([program(), "serve", "--dir", str(own)])
-    shells = subprocess.Popen(tool("pane_shells", "--server", str(server.pid), str(own)))
+    keeps_none = {**os.environ, **KEEPS_NONE}
+    shells = subprocess.Popen(tool("pane_shells", "--server", str(server.pid), str(own)), env=keeps_none)
     comes(lambda: is_listened(own / "clients"))
     outer = Outer(tool("attach", str(own)))
     check("the whole is shown", outer.shows("$ ") and outer.status("[1]"), outer.rows)

@@ -8,7 +8,7 @@ import signal
 import subprocess
 import time
 
-from tried import Outer, check, comes, noted, said, scene, tool
+from tried import KEEPS_NONE, Outer, check, comes, noted, said, scene, tool
 from scenes.machines import far_ends, ssh_words
 
 # So many pastes are typed with keys round each, and so many bytes at once are timed.
@@ -62,7 +62,7 @@ def waits_for_return(outer, name):
 @scene
 def paste_lines(folder):
     """Two pasted lines wait for Return in bash, and vim takes a paste as it is; what is pasted is neither a binding nor an answer."""
-    outer = Outer(tool("mux", "other"))
+    outer = Outer(tool("mux", "other"), environment=KEEPS_NONE)
     outer.shows("$ ")
     outer.type(BASH)
     outer.shows("b> ")

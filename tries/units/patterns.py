@@ -17,9 +17,13 @@ LINES = "reads lines of a socket of the session's folder"
 NAMES = "reads names of sessions and hosts"
 WORDS = "reads what a program of this machine says"
 RELAY = "reads what the other end of a relay says"
+LENT = "reads the SGR before characters of a row that the keeper lends; what is written is made anew"
+ROWS = "reads rows that the filter of rows printed, which have characters and SGR alone, and writes none of either"
 CELLS = "reads the SGR before a cell, in the record that answers `look sgr`"
 BRACKETS = "is typed round a paste, and taken out of one"
 MARKS = "reads what was typed into a pane, for marks of texts that were given"
+ANSWERS = "is typed into a pane as an answer, and reads nothing"
+COLOURS = "reads what a person's terminal answers, among what is typed"
 BEGIN = "the reset with which the start itself begins a record `anew`; another clearing is written for it"
 
 # Each use: the file, the name that it is assigned to or the function that it stands in, and whether it is of `re` or of an escape.
@@ -37,6 +41,20 @@ KNOWN = {
     ("roam_live/bindings.py", "SCROLL_ENDS", "ESC"): TYPED,
     ("roam_live/cells.py", "parted", "ESC"): CELLS,
     ("roam_live/cells.py", "sgr_of", "ESC"): CELLS,
+    ("roam_live/choosing.py", "Choosing.lines", "ESC"): WRITES,
+    ("roam_live/choosing.py", "LEAVES", "ESC"): TYPED,
+    ("roam_live/copy_keys.py", "ESCAPE", "ESC"): TYPED,
+    ("roam_live/copy_keys.py", "WITH_META", "ESC"): TYPED,
+    ("roam_live/copy_paint.py", "LinePainter.text", "ESC"): WRITES,
+    ("roam_live/copy_paint.py", "sgr_of", "ESC"): WRITES,
+    ("roam_live/copy_rows.py", "RowReader.read", "ESC"): LENT,
+    ("roam_live/copy_screen.py", "CopyScreen.lines", "ESC"): WRITES,
+    ("roam_live/colours.py", "ANSWER", "re"): COLOURS,
+    ("roam_live/colours.py", "ANSWER", "ESC"): COLOURS,
+    ("roam_live/colours.py", "ASKED", "ESC"): WRITES,
+    ("roam_live/colours.py", "BEGINS", "ESC"): COLOURS,
+    ("roam_live/colours.py", "BEGUN", "re"): COLOURS,
+    ("roam_live/colours.py", "BEGUN", "ESC"): COLOURS,
     ("roam_live/display.py", "Display.put_line", "ESC"): WRITES,
     ("roam_live/display.py", "Display.take_painting", "RESET"): BEGIN,
     ("roam_live/keypads.py", "ASKED", "re"): PROGRAM,
@@ -55,7 +73,14 @@ KNOWN = {
     ("roam_live/mouse.py", "OLD_BEGIN", "ESC"): "begins what a pane's program is sent, and reads nothing",
     ("roam_live/mouse.py", "REPORT", "re"): TYPED,
     ("roam_live/mouse.py", "REPORT", "ESC"): TYPED,
+    ("roam_live/drawings.py", "", "ESC"): WRITES,
+    ("roam_live/drawings.py", "Drawing.laid", "ESC"): WRITES,
+    ("roam_live/drawings.py", "put_at", "ESC"): WRITES,
     ("roam_live/places.py", "TOLD", "re"): LINES,
+    ("roam_live/questions.py", "", "ESC"): ANSWERS,
+    ("roam_live/questions.py", "NAMED", "ESC"): ANSWERS,
+    ("roam_live/questions.py", "PaneQuestion.answer", "ESC"): ANSWERS,
+    ("roam_live/questions.py", "mode_told", "ESC"): ANSWERS,
     ("roam_live/relayed.py", "GREETING", "re"): RELAY,
     ("roam_live/remote.py", "host_of", "re"): WORDS,
     ("roam_live/remote.py", "near_session", "re"): NAMES,
@@ -69,7 +94,12 @@ KNOWN = {
     ("roam_live/terminal.py", "RESET", "ESC"): BEGIN,
     ("roam_live/terminal.py", "unwrapped", "ESC"): WRITES,
     ("roam_live/shells.py", "ASK", "re"): LINES,
+    ("roam_live/row_keeping.py", "SHOWS_OTHER", "ESC"): "is handed to the filter of rows, and reads nothing",
+    ("roam_live/row_pieces.py", "characters", "ESC"): ROWS,
+    ("roam_live/row_texts.py", "BEGIN", "ESC"): "reads rows that the keeper handed out, and writes the SGR in them where that is asked for",
+    ("roam_live/shells.py", "BUFFER", "re"): LINES,
     ("roam_live/shells.py", "GIVE", "re"): LINES,
+    ("roam_live/shells.py", "GIVE_BUFFER", "re"): LINES,
     ("roam_live/targets.py", "PANE", "re"): NAMES,
     ("roam_live/texts.py", "BRACKET_ENDS", "ESC"): BRACKETS,
     ("roam_live/texts.py", "", "ESC"): BRACKETS,

@@ -44,6 +44,18 @@ class Completion(unittest.TestCase):
         self.assertEqual(completed("_roam_mux", "mux", "send", "-l", ""), [])
         self.assertEqual(completed("_roam_mux", "mux", "send", "-l", "text", "m"), ["main"])
 
+    def test_rows(self):
+        """The words for rows and buffers."""
+        self.assertEqual(completed("_roam_mux", "mux", "lo"), ["log"])
+        self.assertEqual(completed("_roam_mux", "mux", "log", "w"), ["work"])
+        self.assertEqual(completed("_roam_mux", "mux", "log", "-e", "w"), ["work"])
+        self.assertEqual(completed("_roam_mux", "mux", "capture", "-"), ["--svg", "-S", "-E", "-e", "-J", "--help"])
+        self.assertEqual(completed("_roam_mux", "mux", "capture", "-J", "w"), ["work"])
+        self.assertEqual(completed("_roam_mux", "mux", "buffer", ""), ["list", "show", "set", "paste", "--help"])
+        for word in ("list", "show", "set", "paste"):
+            self.assertEqual(completed("_roam_mux", "mux", "buffer", word, ""), ["main", "work"])
+            self.assertEqual(completed("_roam_mux", "mux", "buffer", word, "main", ""), [])
+
     def test_every_act(self):
         """Each act that roam(1) lists is offered."""
         page = pathlib.Path(TOOLS.parent, "docs/man/roam.1").read_text(encoding="utf-8")

@@ -175,7 +175,7 @@ class Follows(Played):
             self.turn()
             self.following.ask("close 1 1")
             self.turn()
-        self.assertEqual(self.taken().recv(64), b"keeper\nbeside\nclose 1 1\n")
+        self.assertEqual(self.taken().recv(64), b"keeper\nbeside\nasks\nclose 1 1\n")
         self.assertEqual(self.following.server, os.getpid())
 
 

@@ -8,6 +8,7 @@ from unittest import mock
 
 from aids import Case, StillLoop, closed, read_now, record
 from roam_live import display, front_end, links, mouse, pastes, terminal
+from roam_live.colours import ASKED
 from roam_live.front_end import FrontEnd
 from roam_live.program import Fault, begun
 from roam_live.places import Places, Rect
@@ -270,6 +271,27 @@ class Loop(Fronts):
         with mock.patch.object(terminal, "make_raw", return_value=None), self.assertRaisesRegex(Fault, "^the terminal can't be made raw$"):
             self.front.run()
         self.assertEqual((termios.tcgetattr(self.slave), self.shown()), (self.before, b""))
+
+    def test_colours(self):
+        """A terminal is asked for its colours where it is taken; one that watches isn't, nor a console of Linux. What it answers is the
+        keeper's to know, and isn't typed."""
+        outer = self.front.display.outer
+        for watches, is_able, wanted in ((False, True, ASKED), (True, True, b""), (False, False, b"")):
+            self.front.link.watches, outer.aside.is_able = watches, is_able
+            self.front.ask_colours()
+            self.assertEqual(bytes(outer.waiting), wanted, (watches, is_able))
+            outer.waiting.clear()
+
+    def test_colours_told(self):
+        """An answer comes among what is typed, in pieces too, and nothing of it is."""
+        start = self.connect()
+        start.setblocking(False)
+        read_now(start)
+        for text in (b"a\x1b]11;rgb:1e/1e/2e\x1b\\b", b"\x1b]10;rgb:ff", b"ff/ffff/ffff\x07c"):
+            self.type(text)
+        told = self.front.commands.shells.colours.known
+        self.assertEqual(told, {"background": "1e1e/1e1e/2e2e", "foreground": "ffff/ffff/ffff"})
+        self.assertEqual([line for line in read_now(start).split(b"\n") if line.startswith(b"char")], [b"char 61 ; char 62", b"char 63"])
 
     def test_signals(self):
         """SIGTERM, SIGHUP and SIGINT leave, with 128 and their number; a new size is gone by."""
@@ -780,10 +802,12 @@ class Wishes(Case):
         self.assertEqual((person.display.told, person.loop.due["told"][0]), ("C-b Z means nothing; C-b ? shows the keys", 101.0))
 
     def test_watches(self):
-        """Who only watches types nothing, and may leave, repaint and have the help."""
+        """Who only watches types nothing, and may leave, repaint and have the help; where no rows are kept the shared view stays."""
         person = self.person(watches=True)
-        self.assertEqual(person.types(b"ls\r\x02%\x02x\x02o\x021\x02[\x02\x1b[C\x02r"), [])
+        self.assertEqual(person.types(b"ls\r\x02%\x02x\x02o\x021\x02\x1b[C\x02r"), [])
         self.assertEqual(person.display.told, "")
+        self.assertEqual(person.types(b"\x02[\x02]\x02="), [])
+        self.assertEqual((person.display.told, person.commands.typing.is_scrolling()), ("no rows are kept that could be shown", False))
         person.types(b"\x02?")
         self.assertTrue(person.display.cover)
         person.types(b"\x02d")

@@ -8,6 +8,8 @@ import struct
 from unittest import mock
 
 from aids import Case, StillLoop, loaded, read_now
+from filtered import played
+from roam_live import row_keeping
 from roam_live.given import GivenTexts
 from roam_live.loops import READ, WRITE
 from roam_live.program import Fault, begun
@@ -22,10 +24,13 @@ def queue():
 
 
 class Keeper(Case):
-    """A keeper that follows a socket `panes` of its own."""
+    """A keeper that follows a socket `panes` of its own, and keeps no rows."""
+
+    history = "0"
 
     def setUp(self):
         self.stop_clock()
+        self.environment(ROAM_HISTORY=self.history)
         self.folder = self.made_folder()
         self.listeners = {name: self.listening(self.folder / name) for name in ("panes", "p1", "p2", "p3")}
         self.wakeup, self.wakes = self.pipe()
@@ -51,6 +56,7 @@ class Keeper(Case):
         keeper.socket.close()
         for number in list(keeper.panes):
             keeper.drop(number)
+        keeper.rows.close()
         for spare in (keeper.spare, keeper.voice):
             spare.free()
         if keeper.following.peer:
@@ -171,6 +177,23 @@ class Panes(Keeper):
             self.assertEqual(read_now(self.made[0]), b"a" + wanted + b"b", lines)
         one.setblocking(False)
         self.assertEqual(read_now(one).decode(), "".join(f"held {name}\n" for name in names) + "".join(f"put {name}\n" for name in names))
+
+    def test_answered(self):
+        """What a pane's program asks is answered there, before what the server hands out behind it; a colour once a terminal has told it,
+        and never what is asked of another making."""
+        panes = self.begin()
+        self.keeper.socket.colours.take("colour foreground ffff/ffff/ffff")
+        told = (("asks 1 4 foreground bell\nasks 1 4 background\nasks 1 4 pastes set\n", b"\x1b]10;rgb:ffff/ffff/ffff\x07\x1b[?2004;1$y"),
+                ("asks 1 3 version\nasks 9 4 version\nasks 1 4\nasks 1 4 name\n", b""), ("asks 1 4 frames\n", b"\x1b[?2026;0$y"))
+        for lines, wanted in told:
+            self.server.send(lines.encode())
+            panes[0].send(b"\x1b[?62c")
+            self.keeper.panes[1].hear()
+            self.turn()
+            self.assertEqual(read_now(self.made[0]), wanted + b"\x1b[?62c", lines)
+        self.keeper.panes[2].close_terminal()
+        self.tell("asks 2 5 version")
+        self.assertEqual(read_now(self.made[1]), b"")
 
     def test_gone_while_typed(self):
         """What was typed into a pane that is told to be gone is nothing."""
@@ -528,6 +551,90 @@ class Waits(Keeper):
         self.now += 2.0
         self.turn()
         self.assertEqual(read_now(self.server), b"close 1 4\n" * 2)
+
+
+class Rows(Keeper):
+    """What the filter of rows, which is played by hand, is handed of panes."""
+
+    history = "100"
+
+    def setUp(self):
+        self.fake = played(self)[0]
+        self.patch_of(row_keeping, "program", lambda: "/roam")
+        super().setUp()
+
+    def handed(self):
+        """What the filter was handed."""
+        self.turn()
+        self.now += row_keeping.WAITS / 2
+        self.turn()
+        return self.fake.taken()
+
+    def test_handed(self):
+        """What is written to panes, their sizes and their ends, and what the keeper itself says there."""
+        panes = self.begin()
+        self.made[0].send(b"out")
+        self.made[1].send(b"two")
+        self.assertEqual(self.handed(), b"pane 0 23 39\nbytes 0 3\noutpane 1 23 40\nbytes 1 3\ntwo")
+        self.patch_of(shells.terminal, "set_size")
+        self.tell("1 1 1 10 39 4", "2 gone", "focus 1")
+        self.assertEqual(self.handed(), b"size 0 10 39\ngone 1\n")
+        self.made[0].send(b"last")
+        self.turn()
+        self.ended[71] = True
+        os.write(self.wakes, bytes([signal.SIGCHLD]))
+        self.assertEqual(self.handed(), b"bytes 0 %d\nlast%s" % (4 + len(shells.ENDED), shells.ENDED))
+        self.assertEqual(read_now(panes[0]), b"outlast" + shells.ENDED)
+
+    def test_behind(self):
+        """A pane isn't read while the filter doesn't keep up, for a second at most."""
+        pane = self.begin()[0]
+        self.keeper.rows.is_behind = True
+        self.keeper.loop.later("rows are behind", row_keeping.WAITS, self.keeper.rows.lose)
+        self.made[0].send(b"out")
+        self.turn()
+        self.assertEqual(read_now(pane), b"")
+        self.now += row_keeping.WAITS
+        self.turn()
+        self.assertEqual(read_now(pane), b"out")
+        self.assertIn(row_keeping.BEHIND, self.said.getvalue())
+
+    def test_last_logged(self):
+        """Where the session ends who writes rows down has what stood last in a pane."""
+        self.begin()
+        self.made[0].send(b"out")
+        one = self.connected("shells", b"log 1 4 0\n")
+        self.turn()
+        self.assertEqual(self.fake.taken(), b"pane 0 23 39\nbytes 0 3\nout")
+        self.keeper.is_over = True
+        self.fake.prints(b"screen 0 2 7\n out\n \n")
+        self.assertEqual(self.keeper.run(), 0)
+        self.assertEqual(read_now(one), b"rows 1 4 0 1 5\n out\nlog 1 4 end\n")
+
+    def test_last_waits(self):
+        """For what a filter doesn't tell then it isn't waited long."""
+        self.begin()
+        self.made[0].send(b"out")
+        one = self.connected("shells", b"log 1 4 0\n")
+        self.keeper.is_over = True
+        turn = self.keeper.loop.turn
+
+        def passed():
+            self.now += 0.1
+            turn()
+
+        self.patch_of(self.keeper.loop, "turn", passed)
+        self.assertEqual(self.keeper.run(), 0)
+        self.assertEqual(one.recv(64), b"")
+
+    def connected(self, name, text):
+        """One who connects to a socket of the keeper's, and says this."""
+        one = socket.socket(socket.AF_UNIX, socket.SOCK_STREAM)
+        self.addCleanup(one.close)
+        one.connect(str(self.folder / name))
+        one.send(text)
+        self.turn()
+        return one
 
 
 class Words(Case):

@@ -55,9 +55,12 @@ WISHES = ((b"\x1b[C", "right"), (b"\x1b[B", "down"), (b"\x1a", "suspend"), (b"y"
 
 
 def asked_by(typing, text, now=1.0, rows=24):
-    """What each key of a text asks for."""
-    keys = Keys()
-    return [typing.asked(key, now, rows) for key in keys.fed(text) + keys.ended()]
+    """What each key of a text asks for, where no rows are kept: the view that all share scrolls in place of copy mode."""
+    keys, found = Keys(), []
+    for key in keys.fed(text) + keys.ended():
+        asked = typing.asked(key, now, rows)
+        found.append(typing.begin_scroll(asked[1] == "copy page", rows) if asked[1] in ("copy", "copy page") else asked)
+    return found
 
 
 class Spelled(unittest.TestCase):
@@ -138,6 +141,13 @@ class Asked(unittest.TestCase):
         for pane in range(1, 10):
             self.assertEqual(asked_by(Typing(), b"\x02%d" % pane)[-1], ([f"focus {pane}"], ""))
         self.assertEqual(asked_by(Typing(), b"\x020")[-1], ([], "unknown"))
+
+    def test_copies(self):
+        """Copy mode, its search, and pastes of what was copied are wishes of the front end's own."""
+        for text, wish in ((b"[", "copy"), (b"\x1b[5~", "copy page"), (b"/", "copy search"), (b"]", "paste"), (b"=", "choose")):
+            typing = Typing()
+            found = [typing.asked(key, 1.0, 24) for key in Keys().fed(b"\x02" + text)]
+            self.assertEqual((found[-1], typing.mode), (([], wish), typing.plain), text)
 
     def test_repeats(self):
         """For half a second the next growth needs no prefix; then it is typed."""

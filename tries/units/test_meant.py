@@ -32,6 +32,7 @@ class Meant(unittest.TestCase):
             self.assertIn(TMUX_WORDS[name], WORDS)
         self.assertEqual(meant("a", WORDS), "attach")
         self.assertEqual(meant("list-sessions", WORDS), "ls")
+        self.assertEqual([meant(name, WORDS) for name in ("paste-buffer", "lsb", "pipe-pane")], ["buffer", "buffer", "log"])
 
     def test_names(self):
         for name in NAMES:

@@ -7,7 +7,7 @@ import types
 from unittest import mock
 
 from aids import Case, loaded
-from roam_live import brought, captures, choices, front_end, giving, remote, sending, sessions, targets
+from roam_live import asked_rows, brought, captures, choices, front_end, giving, remote, sending, sessions, targets
 from roam_live.places import Places, Rect
 from roam_live.program import Fault
 from roam_live.relayed import greeting
@@ -25,7 +25,8 @@ class Mux(Case):
         self.base.mkdir(mode=0o700)
         for module in (sessions, remote):
             self.patch_of(module, "base", lambda: self.base)
-        self.environment(ROAM_PREFIX=None, ROAM_GUESS=None, ROAM_MOUSE=None, ROAM_CLIPBOARD=None, ROAM_PANE=None, SHELL="/bin/sh")
+        self.environment(ROAM_PREFIX=None, ROAM_GUESS=None, ROAM_MOUSE=None, ROAM_CLIPBOARD=None, ROAM_PANE=None, ROAM_HISTORY=None,
+                         SHELL="/bin/sh")
         self.said, self.text = self.heard(), self.printed()
         self.follows = self.patch_of(front_end, "follow", return_value=7)
         self.is_terminal = True
@@ -69,6 +70,15 @@ class Attaches(Mux):
             self.assertEqual(self.done, [("kill", name), ("launch", name, ()), ("demand_terminals", name)])
             session, is_watching, prefix, guessing, is_new = self.follows.call_args[0]
             self.assertEqual((session.name, is_watching, prefix, guessing, is_new(None)), (name, False, "C-b", "adaptive", True))
+
+    def test_history(self):
+        """A session isn't begun that is to keep what can't be; one that runs is attached to."""
+        self.environment(ROAM_HISTORY="many")
+        for words in ((), ("new", "-d", "work")):
+            self.refuses("ROAM_HISTORY is 'many', and may be 0 to 1000000", *words)
+        self.assertNotIn("launch", [one[0] for one in self.done])
+        self.runs.add("main")
+        self.assertEqual(self.mux("attach", "main"), 7)
 
     def test_running(self):
         """One that is running is attached to, its missing parts are started, and it is not new."""
@@ -180,6 +190,36 @@ class Starts(Mux):
             self.mux("capture", "--svg", "main")
             self.assertTrue(takes.call_args[0][1])
         self.assertEqual([one[0] for one in self.done[:3]], ["demand_age", "note_found", "demand_terminals"])
+
+    def test_rows(self):
+        """Rows that left, where some are named, or how they are printed; of the pane in focus where none is named. They aren't drawn."""
+        self.runs.add("main")
+        with mock.patch.object(asked_rows, "capture_rows", return_value=4) as takes, \
+                mock.patch.object(asked_rows, "log_rows", return_value=5) as logs:
+            for words, told in ((("-S", "-10", "main.2"), (2, "-10", None, False, False)),
+                                (("-S", "-", "-E", "-", "main"), (0, "-", "-", False, False)),
+                                (("-e", "-J", "main"), (0, None, None, True, True)), (("-E", "0", "main.1"), (1, None, "0", False, False))):
+                self.assertEqual((self.mux("capture", *words), takes.call_args[0][1:]), (4, told))
+            self.assertEqual((self.mux("log", "main.2"), logs.call_args[0][1:]), (5, (2, False, False)))
+            self.assertEqual((self.mux("log", "-e", "-J", "main"), logs.call_args[0][1:]), (5, (0, True, True)))
+        self.refuses("a picture is drawn of what is shown, and of no other rows", "capture", "--svg", "-S", "0", "main")
+        self.refuses("no session none is running", "log", "none")
+        self.assertEqual(self.done, [])
+
+    def test_buffers(self):
+        """Buffers are listed, printed and set, and pasted into a pane; they are of no pane."""
+        self.runs.add("main")
+        names = ("list_buffers", "show_buffer", "set_buffer", "put_buffer")
+        does = [self.patch_of(asked_rows, name, return_value=place) for place, name in enumerate(names)]
+        for words, place, told in ((("list", "main"), 0, ()), (("show", "main"), 1, (None,)), (("show", "main", "3"), 1, ("3",)),
+                                   (("set", "main"), 2, (None,)), (("set", "main", "a b"), 2, ("a b",)), (("paste", "main"), 3, (None, 0)),
+                                   (("paste", "main.2", "7"), 3, ("7", 2))):
+            self.assertEqual((self.mux("buffer", *words), does[place].call_args[0][1:]), (place, told))
+        self.refuses("buffers are of a session, and of no pane", "buffer", "show", "main.2")
+        self.refuses("all buffers are listed", "buffer", "list", "main", "3")
+        for words in (("drop", "main"), ("list",), ()):
+            with self.assertRaises(SystemExit):
+                self.mux("buffer", *words)
 
     def test_texts(self):
         """A text is sent by -l, and standard input pasted, in one piece; acts and a text aren't sent at once."""
@@ -443,7 +483,7 @@ class Words(Mux):
         page = PAGE.read_text(encoding="utf-8")
         for word in mux.WORDS:
             self.assertRegex(page, rf"\b{word}\b")
-        self.assertEqual(list(mux.WORDS), "attach new detach ls list watch kill send paste capture env ssh far help".split())
+        self.assertEqual(list(mux.WORDS), "attach new detach ls list watch kill send paste capture log buffer env ssh far help".split())
 
     def test_ssh_words(self):
         asked = mux.asked_by("ssh", ["-p", "22", "--far", "f", "there"])

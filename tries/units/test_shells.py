@@ -152,9 +152,10 @@ class Kept(unittest.TestCase):
         self.held = []
 
     def run_tool(self, *words):
-        """The tool, with a command in each pane."""
+        """The tool, with a command in each pane. It keeps no rows, which takes the built program."""
+        words, known = [sys.executable, "-B", str(TOOLS / "pane_shells"), *words], {**os.environ, "ROAM_HISTORY": "0"}
         with open(self.folder / "said", "wb") as said:
-            process = subprocess.Popen([sys.executable, "-B", str(TOOLS / "pane_shells"), *words], stdout=said, stderr=said)
+            process = subprocess.Popen(words, stdout=said, stderr=said, env=known)
         self.addCleanup(process.wait)
         self.addCleanup(process.kill)
         return process

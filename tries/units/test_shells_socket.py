@@ -333,6 +333,31 @@ class Links(Sockets):
             self.turn(one)
             self.assertEqual(values["DISPLAY"], wanted)
 
+    def test_colours(self):
+        """A terminal that edits tells each keeper once what colours it has, as soon as it has answered; one that watches tells none."""
+        one, watcher = self.link(), self.link(watches=True)
+        one.tell_colour("\x1b]10;rgb:ff/ff/ff\x07")
+        watcher.tell_colour("\x1b]11;rgb:0/0/0\x07")
+        self.turn(one, watcher)
+        for text in ("\x1b]11;rgb:1e/1e/2e\x1b\\", "\x1b]11;rgb:1e/1e/2e\x1b\\", "\x1b]11;rgb:1e\x07"):
+            one.tell_colour(text)
+        self.assertEqual(one.waiting, b"colour background 1e1e/1e1e/2e2e\n")
+        self.turn(one, watcher)
+        self.assertEqual(self.socket.colours.known, {"foreground": "ffff/ffff/ffff", "background": "1e1e/1e1e/2e2e"})
+        self.socket.name, self.socket.colours.known = "another", {}
+        one.lost("ended")
+        self.now += PAUSES[-1]
+        self.turn(one)
+        self.assertEqual(len(self.socket.colours.known), 2)
+        one.lost("ended")
+        one.tell_colour("\x1b]10;rgb:0/0/0\x07")
+        self.now += PAUSES[-1]
+        self.turn(one)
+        self.assertEqual(self.socket.colours.known["foreground"], "0000/0000/0000")
+        self.socket.colours.known["foreground"] = "ffff/ffff/ffff"
+        rude = self.connect(f"here {B}\ncolour foreground 0000/0000/0000\n".encode())
+        self.assertEqual((read_now(rude), self.socket.colours.known["foreground"]), (b"bad line\n", "ffff/ffff/ffff"))
+
     def test_none(self):
         """Where nobody knows the socket, or tells nothing, nothing is known, and that isn't awaited for long; no folder has none."""
         folder = self.made_folder()

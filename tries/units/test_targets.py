@@ -151,6 +151,20 @@ class Panes(Case):
             close_pane(self.session, 1)
         self.assertFalse(wants_brackets(self.session, 1))
 
+    def test_making(self):
+        """A pane, or that in focus, and its life; one that isn't there, and a server that tells nothing, are told of."""
+        panes = b"1 1 1 2 3 7\n2 1 5 2 4 9\nfocus 2\nstarts 1 of 64\nwatchers 0 of 16\n"
+        for pane, making in ((1, (1, 7)), (2, (2, 9)), (0, (2, 9))):
+            self.server, self.answers = None, [panes]
+            self.assertEqual(targets.making_of(self.session, pane), making)
+        for answers, pane, why in (([panes], 3, "session main has no pane 3"), ([None], 0, "session main: where its panes are isn't told")):
+            self.server, self.answers = None, answers
+            with self.assertRaisesRegex(Fault, f"^{why}$"):
+                targets.making_of(self.session, pane)
+        self.listener.close()
+        with self.assertRaisesRegex(Fault, "^session main: where its panes are isn't told$"):
+            targets.making_of(self.session, 0)
+
     def test_brackets(self):
         """Whether a program wants brackets is asked of a server that knows the word; what is told right behind the places counts."""
         panes = b"1 1 1 2 3 7\n2 1 5 2 4 9\nfocus 1\nstarts 1 of 64\nwatchers 0 of 16\n"

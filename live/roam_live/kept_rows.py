@@ -1,0 +1,275 @@
+"""What a front end asks of the rows that left a pane's screen, and of buffers, which the keeper of shells keeps: questions over its
+connection there, each with a call for the answer."""
+from __future__ import annotations
+
+from collections import deque, namedtuple
+from collections.abc import Callable
+
+TYPE_CHECKING = False
+if TYPE_CHECKING:
+    from typing import Protocol, Union
+
+    # What is called with the words of an answer and the bytes behind it; None where it can't be answered.
+    Told = Callable[[Union["Answer", None]], object]
+
+# The words of questions and of answers; and of what is told of a snapshot unasked.
+COUNT, ROWS, FIND, FOUND, SNAPSHOT, RELEASE, MORE = "count", "rows", "find", "found", "snapshot", "release", "more"
+LOG = "log"
+BUFFER, BUFFERS, ADD, LIST, SHOW = "buffer", "buffers", "add", "list", "show"
+NONE, BAD_LINE = "none", "bad line"
+BACK, ON = "back", "on"
+
+# Behind no answer so many bytes follow: a screen of 200 rows and 500 columns has less, whatever its styles; and no list has so many lines.
+MOST_ANSWER = 1 << 24
+MOST_LISTED = 64
+
+# No text that is searched for has so many bytes: it stands in a line, which the keeper takes up to 256.
+MOST_SOUGHT = 180
+
+# So many rows are asked for at once at most: the keeper hands out no more.
+MOST_ROWS = 2000
+
+
+class BadAnswer(Exception):
+    """What a keeper told can't be an answer."""
+
+
+class Snapshot(namedtuple("Snapshot", "pane life first end screen")):
+    """A pane's rows at one moment: those that left are `first` to `end` without it, and those of the screen, which are given, are `end` and
+    on. Each has a space or `+` before it, which says that the row goes on in the next."""
+
+    pane: int
+    life: int
+    first: int
+    end: int
+    screen: list[bytes]
+
+
+class BufferNote(namedtuple("BufferNote", "number length sample")):
+    """A buffer: its number, how many bytes it has, and the first of its characters."""
+
+    number: int
+    length: int
+    sample: str
+
+
+if TYPE_CHECKING:
+
+    class KeptRows(Protocol):
+        """Who answers what is asked of kept rows and buffers. A call may be told at once, as None where no keeper is there that keeps any;
+        the rows of a snapshot stay as they are until it is released, or another is asked for."""
+
+        # What is called with a pane, its life, and how many rows came since its snapshot.
+        on_more: Callable[[int, int, int], object]
+
+        def snapshot(self, pane: int, life: int, told: Callable[[Snapshot | None], object]) -> None:
+            """Asks for a snapshot of a pane; this end has one at a time."""
+
+        def rows(self, pane: int, life: int, first: int, count: int, told: Callable[[int, list[bytes]], object]) -> None:
+            """Asks for rows by their numbers; told with the number of the first that is there, and those that were had: maybe fewer."""
+
+        def find(self, pane: int, life: int, first: int, back: bool, text: str, told: Callable[[int | None], object]) -> None:
+            """Asks for the next row behind `first`, or before it, in which a text begins; case counts where the text has a capital."""
+
+        def release(self, pane: int, life: int) -> None:
+            """Lets a snapshot go."""
+
+        def add_buffer(self, text: bytes, told: Callable[[int | None], object]) -> None:
+            """Has a buffer kept; told with its number."""
+
+        def buffers(self, told: Callable[[list[BufferNote] | None], object]) -> None:
+            """Asks which buffers there are, the newest first."""
+
+        def buffer(self, number: int, told: Callable[[bytes | None], object]) -> None:
+            """Asks for the bytes of a buffer."""
+
+
+class Answer:
+    """An answer: its words, the bytes behind them, and lines where it is a list."""
+
+    def __init__(self, words: list[str]) -> None:
+        self.words = words
+        self.data = b""
+        self.lines: list[str] = []
+
+    def number(self, place: int) -> int:
+        """The number that a word is; BadAnswer where it is none."""
+        return number_at(self.words, place)
+
+
+def number_at(words: list[str], place: int) -> int:
+    """The number, of at most fifteen digits, that a word is; BadAnswer where there is none."""
+    word = words[place] if len(words) > place else ""
+    if not (word.isascii() and word.isdigit() and len(word) <= 15):
+        raise BadAnswer(" ".join(words)[:80])
+    return int(word)
+
+
+def rows_in(data: bytes) -> list[bytes]:
+    """The rows of an answer's bytes, each without its LF."""
+    return data.split(b"\n")[:-1]
+
+
+class AnswerReader:
+    """Takes apart what a keeper tells: lines, of which some have bytes behind them, or more lines."""
+
+    # The words of those with bytes, by how many words they have, the last of which is the length.
+    LENGTHS = {ROWS: 6, SNAPSHOT: 7}
+
+    def __init__(self) -> None:
+        self.came = bytearray()
+        self.answer: Answer | None = None
+        self.missing = self.lines_missing = 0
+
+    def fed(self, piece: bytes) -> list[Answer]:
+        """What is whole now; BadAnswer where a line, or what is behind it, is longer than any."""
+        self.came += piece
+        found: list[Answer] = []
+        while True:
+            if self.answer and self.missing:
+                if len(self.came) < self.missing:
+                    return found
+                self.answer.data = bytes(self.came[: self.missing])
+                del self.came[: self.missing]
+                self.missing = 0
+            elif not self.take_line():
+                return found
+            if self.answer and not self.missing and not self.lines_missing:
+                found.append(self.answer)
+                self.answer = None
+
+    def take_line(self) -> bool:
+        """Takes a line, and tells whether one was there."""
+        end = self.came.find(b"\n")
+        if end < 0:
+            if len(self.came) >= 1 << 16:
+                raise BadAnswer("a line is longer than any")
+            return False
+        line = self.came[:end].decode("utf-8", "replace")
+        del self.came[: end + 1]
+        if self.answer:
+            self.answer.lines.append(line)
+            self.lines_missing -= 1
+            return True
+        self.answer = Answer(line.split(" "))
+        words = self.answer.words
+        if len(words) == self.LENGTHS.get(words[0]) or words[:2] == [BUFFER, SHOW] and words[3:] != [NONE]:
+            self.missing = number_at(words, len(words) - 1)
+        elif words[0] == BUFFERS:
+            self.lines_missing = number_at(words, 1)
+        if self.missing > MOST_ANSWER or self.lines_missing > MOST_LISTED:
+            raise BadAnswer("an answer is longer than any")
+        return True
+
+
+class RowsLink:
+    """The questions of this end, as `KeptRows` has them: a call asks the keeper, by a line and bytes behind it, and tells whether one is
+    connected."""
+
+    def __init__(self, ask: Callable[[str, bytes], bool]) -> None:
+        self.ask = ask
+        self.on_more: Callable[[int, int, int], object] = lambda pane, life, count: None
+        # What was asked, in the order in which it is answered: the word of its answer, and the call.
+        self.asked: deque[tuple[str, Told]] = deque()
+        # Whether the keeper that is connected has answered something of this, so that it knows how many bytes follow a line.
+        self.is_known = False
+
+    # ---- questions
+
+    def count(self, pane: int, life: int, told: Callable[[tuple[int, int] | None], object]) -> None:
+        """Asks for the numbers of the first row that is kept and of that behind the last."""
+        self.put(f"{COUNT} {pane} {life}", COUNT, lambda answer: told((answer.number(3), answer.number(4)) if answer else None))
+
+    def rows(self, pane: int, life: int, first: int, count: int, told: Callable[[int, list[bytes]], object]) -> None:
+        """Asks for rows by their numbers; told with the number of the first that is there, and those that were had: maybe fewer."""
+
+        def take(answer: Answer | None) -> None:
+            if answer:
+                told(answer.number(3), rows_in(answer.data))
+            else:
+                told(first, [])
+
+        self.put(f"{ROWS} {pane} {life} {max(0, first)} {min(count, MOST_ROWS)}", ROWS, take)
+
+    def find(self, pane: int, life: int, first: int, back: bool, text: str, told: Callable[[int | None], object]) -> None:
+        """Asks for the next row behind `first`, or before it, in which a text begins; case counts where the text has a capital. No row
+        holds a text with a control character, or one that is longer than a line may be."""
+        if not text.isprintable() or not text or len(text.encode("utf-8", "replace")) > MOST_SOUGHT:
+            told(None)
+            return
+        line = f"{FIND} {pane} {life} {max(0, first)} {BACK if back else ON} {text}"
+        self.put(line, FOUND, lambda answer: told(answer.number(3) if answer else None))
+
+    def snapshot(self, pane: int, life: int, told: Callable[[Snapshot | None], object]) -> None:
+        """Asks for a snapshot of a pane; this end has one at a time."""
+
+        def take(answer: Answer | None) -> None:
+            told(Snapshot(pane, life, answer.number(3), answer.number(4), rows_in(answer.data)) if answer else None)
+
+        self.put(f"{SNAPSHOT} {pane} {life}", SNAPSHOT, take)
+
+    def release(self, pane: int, life: int) -> None:
+        """Lets a snapshot go."""
+        if self.is_known:
+            self.ask(f"{RELEASE} {pane} {life}", b"")
+
+    def add_buffer(self, text: bytes, told: Callable[[int | None], object]) -> None:
+        """Has a buffer kept; told with its number, None where it isn't kept."""
+
+        def add(is_known: bool) -> None:
+            if not is_known:
+                told(None)
+                return
+            self.put(f"{BUFFER} {ADD} {len(text)}", BUFFER, lambda answer: told(answer.number(2) if answer else None), text)
+
+        # An earlier keeper would take the bytes for lines.
+        if self.is_known:
+            add(True)
+        else:
+            self.buffers(lambda notes: add(notes is not None))
+
+    def buffers(self, told: Callable[[list[BufferNote] | None], object]) -> None:
+        """Asks which buffers there are, the newest first."""
+        self.put(f"{BUFFER} {LIST}", BUFFERS, lambda answer: told([note_in(line) for line in answer.lines] if answer else None))
+
+    def buffer(self, number: int, told: Callable[[bytes | None], object]) -> None:
+        """Asks for the bytes of a buffer."""
+        self.put(f"{BUFFER} {SHOW} {number}", BUFFER, lambda answer: told(answer.data if answer else None))
+
+    def put(self, line: str, word: str, told: Told, data: bytes = b"") -> None:
+        """Asks, and notes who is told; at once that it can't be, where no keeper is connected."""
+        if self.ask(line, data):
+            self.asked.append((word, told))
+        else:
+            told(None)
+
+    # ---- answers
+
+    def take(self, answer: Answer) -> bool:
+        """Takes what a keeper told, and tells whether it is of this; BadAnswer where it can't be."""
+        words = answer.words
+        if words[0] == MORE:
+            self.on_more(*(number_at(words, place) for place in (1, 2, 3)))
+            return True
+        is_refusal = " ".join(words) == BAD_LINE
+        if not self.asked or not is_refusal and words[0] not in (COUNT, ROWS, FOUND, SNAPSHOT, BUFFER, BUFFERS):
+            return is_refusal
+        word, told = self.asked.popleft()
+        if not is_refusal and word != words[0]:
+            raise BadAnswer(f"{words[0]} isn't what was asked for")
+        self.is_known = self.is_known or not is_refusal
+        told(None if is_refusal or NONE in words[2:4] else answer)
+        return True
+
+    def forget(self) -> None:
+        """Knows of no keeper any more: nothing that was asked is answered."""
+        self.is_known = False
+        asked, self.asked = self.asked, deque()
+        for _, told in asked:
+            told(None)
+
+
+def note_in(line: str) -> BufferNote:
+    """The buffer that a line of a list tells."""
+    words = line.split(" ", 2)
+    return BufferNote(number_at(words, 0), number_at(words, 1), words[2] if len(words) > 2 else "")

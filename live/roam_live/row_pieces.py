@@ -1,0 +1,305 @@
+"""Rows that left the screens of panes, as the filter of rows printed them: pieces, which are split into rows only where those are asked
+for, the newest of each pane, and no more than a limit in all."""
+from __future__ import annotations
+
+from collections import deque
+from collections.abc import Callable, Iterable, Iterator
+
+# So many bytes all pieces of a session have, with what is counted for each beside its bytes, those of snapshots too, and these alone. The
+# process grows by 64 MB for them at most: what is free between them is more than what is counted beside each.
+MOST_KEPT = 56 << 20
+MOST_HELD = 24 << 20
+BESIDE = 256
+
+# What comes is joined to the last piece while that is shorter.
+JOINED = 8192
+
+# So many rows and so many bytes are handed out at once, one row at least.
+MOST_ROWS = 2000
+MOST_BYTES = 1 << 18
+
+# What stands in the place of rows that are lost.
+LOST_ROWS = " [{} rows of history are lost here]\n"
+LOST_SOME = " [rows of history are lost here]\n"
+
+
+class Piece:
+    """Rows that were printed at once: the number of the first, how many there are, their bytes, and its place among all pieces of a
+    session; by how many snapshots it is held, and whether it is kept without them."""
+
+    __slots__ = ("first", "count", "data", "place", "holders", "is_kept")
+
+    def __init__(self, first: int, count: int, data: bytes, place: int = 0) -> None:
+        self.first, self.count, self.data, self.place = first, count, data, place
+        self.holders, self.is_kept = 0, True
+
+    def end(self) -> int:
+        """The number behind that of its last row."""
+        return self.first + self.count
+
+    def charge(self) -> int:
+        """What is counted for it."""
+        return len(self.data) + BESIDE
+
+
+class KeptRange:
+    """Rows that can be asked for: the numbers of the first and of that behind the last, and the pieces that hold them, in order."""
+
+    def __init__(self, first: int, end: int, pieces: Iterable[Piece]) -> None:
+        self.first, self.end, self.pieces = first, end, list(pieces)
+
+    def rows(self, first: int, count: int, most_rows: int = MOST_ROWS, most_bytes: int = MOST_BYTES) -> tuple[int, list[bytes]]:
+        """The rows from a number on, as far as they are there, each without its LF: no more than may be handed out at once; and the number
+        of the first of them."""
+        first = min(max(first, self.first), self.end)
+        end, size = min(first + min(count, most_rows), self.end), 0
+        found: list[bytes] = []
+        for piece in self.pieces:
+            if piece.first >= end:
+                break
+            if piece.end() <= first:
+                continue
+            for row in piece.data.split(b"\n")[max(0, first - piece.first) : min(piece.count, end - piece.first)]:
+                size += len(row) + 1
+                if found and size > most_bytes:
+                    return first, found
+                found.append(row)
+        return first, found
+
+
+class Snapshot(KeptRange):
+    """A pane's rows at one moment: those that were kept, and those of its screen behind them."""
+
+    def __init__(self, kept: PaneRows, screen: Piece) -> None:
+        super().__init__(kept.first, kept.end + screen.count, [*kept.pieces, screen])
+        self.pane, self.life, self.kept_end, self.screen = kept.pane, kept.life, kept.end, screen
+        # Whether it was dropped, since snapshots held too much.
+        self.is_lost = False
+
+
+class PaneRows:
+    """The rows that are kept of one making of a pane."""
+
+    def __init__(self, pane: int, life: int, room: RowsRoom) -> None:
+        self.pane, self.life, self.room = pane, life, room
+        self.first = self.end = 0
+        self.pieces: deque[Piece] = deque()
+        # How many rows are told to be lost by the last piece, where it tells that; None where no number is known.
+        self.lost: int | None = 0
+
+    def add(self, count: int, data: bytes) -> None:
+        """Keeps rows that came."""
+        last = self.pieces[-1] if self.pieces else None
+        if last and len(last.data) < JOINED and not last.holders and self.lost == 0:
+            self.room.charge(len(data))
+            last.data += data
+            last.count += count
+        else:
+            self.put(count, data)
+        self.lost = 0
+        self.end += count
+        self.keep_last()
+
+    def put(self, count: int, data: bytes) -> None:
+        """Has a piece more."""
+        piece = Piece(self.end, count, data, self.room.next_place())
+        self.room.charge(piece.charge())
+        self.pieces.append(piece)
+
+    def lose(self, count: int | None) -> None:
+        """Has a row say that rows are lost here, so many where that is known; one stands for all that are lost together."""
+        if self.lost != 0 and not self.pieces[-1].holders:
+            count = count + self.lost if count is not None and self.lost is not None else None
+            self.room.charge(-self.pieces.pop().charge())
+            self.end -= 1
+        text = LOST_SOME if count is None else LOST_ROWS.format(count)
+        self.put(1, text.encode())
+        self.end, self.lost = self.end + 1, count
+        self.keep_last()
+
+    def keep_last(self) -> None:
+        """Keeps no more rows than may be, the last ones, and no more bytes in all."""
+        self.first = max(self.first, self.end - self.room.most_rows)
+        while self.pieces and self.pieces[0].end() <= self.first:
+            self.drop_piece()
+        self.room.keep_most()
+
+    def drop_piece(self) -> None:
+        """Keeps the oldest piece no longer."""
+        piece = self.pieces.popleft()
+        self.first = max(self.first, piece.end())
+        self.room.let_go(piece)
+        self.lost = self.lost if self.pieces else 0
+
+    def clear(self) -> None:
+        """Keeps none of the rows that came so far."""
+        while self.pieces:
+            self.drop_piece()
+        self.first = self.end
+
+    def range(self) -> KeptRange:
+        """What is kept now."""
+        return KeptRange(self.first, self.end, self.pieces)
+
+
+class RowsRoom:
+    """What the kept rows of all panes of a session take together, and the snapshots of them. The oldest pieces go first, of whichever
+    pane."""
+
+    def __init__(self, most_rows: int, most_bytes: int = MOST_KEPT, most_held: int = MOST_HELD) -> None:
+        self.most_rows, self.most_bytes, self.most_held = most_rows, most_bytes, most_held
+        self.panes: list[PaneRows] = []
+        self.snapshots: list[Snapshot] = []
+        # What is counted for the pieces that are kept, and for those that snapshots alone hold, with their screens.
+        self.kept = self.held = 0
+        self.place = 0
+
+    def pane(self, pane: int, life: int) -> PaneRows:
+        """The rows of a new making of a pane."""
+        rows = PaneRows(pane, life, self)
+        self.panes.append(rows)
+        return rows
+
+    def drop(self, rows: PaneRows) -> None:
+        """Keeps nothing more of a pane that is gone."""
+        rows.clear()
+        self.panes.remove(rows)
+
+    def next_place(self) -> int:
+        """The place of a new piece among all."""
+        self.place += 1
+        return self.place
+
+    def charge(self, count: int) -> None:
+        """Counts so many bytes more for what is kept."""
+        self.kept += count
+
+    def keep_most(self) -> None:
+        """Drops the oldest pieces while there are too many bytes in all."""
+        while self.kept + self.held > self.most_bytes:
+            oldest = min((rows for rows in self.panes if rows.pieces), key=lambda rows: rows.pieces[0].place, default=None)
+            if not oldest:
+                return
+            oldest.drop_piece()
+
+    def let_go(self, piece: Piece) -> None:
+        """Counts a piece no more for what is kept; a snapshot may hold it still."""
+        piece.is_kept = False
+        self.kept -= piece.charge()
+        if piece.holders:
+            self.held += piece.charge()
+            self.hold_most()
+
+    # ---- snapshots
+
+    def snapshot(self, rows: PaneRows, count: int, screen: bytes) -> Snapshot:
+        """A snapshot of a pane with the rows of its screen; too much that snapshots hold takes the oldest of them."""
+        made = Snapshot(rows, Piece(rows.end, count, screen))
+        made.screen.is_kept = False
+        self.held += made.screen.charge()
+        for piece in made.pieces:
+            piece.holders += 1
+        self.snapshots.append(made)
+        self.hold_most()
+        self.keep_most()
+        return made
+
+    def hold_most(self) -> None:
+        """Drops the oldest snapshots while they hold too much."""
+        while self.held > self.most_held and self.snapshots:
+            self.snapshots[0].is_lost = True
+            self.release(self.snapshots[0])
+
+    def release(self, snapshot: Snapshot) -> None:
+        """Lets a snapshot go."""
+        if snapshot not in self.snapshots:
+            return
+        self.snapshots.remove(snapshot)
+        for piece in snapshot.pieces:
+            piece.holders -= 1
+            if not piece.holders and not piece.is_kept:
+                self.held -= piece.charge()
+        snapshot.pieces.clear()
+
+
+# ---- what is looked for
+
+def characters(data: bytes) -> str:
+    """The characters of rows, without the styles between them."""
+    if b"\x1b" in data:
+        first, *parts = data.split(b"\x1b[")
+        data = first + b"".join(part[part.find(b"m") + 1 :] for part in parts)
+    return data.decode("utf-8", "replace")
+
+
+class Search:
+    """Looks for the next row behind a number, or before it, in which a text begins, a piece at a time. Rows that went on are one text; case
+    counts where the text has a capital."""
+
+    def __init__(self, among: KeptRange, start: int, is_back: bool, text: str) -> None:
+        self.is_folded = text == text.lower()
+        self.text, self.is_back = text, is_back
+        self.first, self.end = (among.first, min(start, among.end)) if is_back else (max(among.first, start + 1), among.end)
+        self.pieces = among.pieces
+        self.found: int | None = None
+        self.places = self.order()
+
+    def order(self) -> Iterator[int]:
+        """The places of the pieces that may hold it, in the order in which they are looked through."""
+        places = [place for place, piece in enumerate(self.pieces) if piece.end() > self.first and piece.first < self.end]
+        return reversed(places) if self.is_back else iter(places)
+
+    def step(self) -> bool:
+        """Looks through one piece more, and tells whether that was the last that is needed."""
+        place = next(self.places, None)
+        if place is None:
+            return True
+        self.found = self.found_in(place)
+        return self.found is not None
+
+    def lines(self, place: int) -> list[str]:
+        """The characters of a piece's rows, each behind what leads it."""
+        text = characters(self.pieces[place].data)
+        return (text.lower() if self.is_folded else text).split("\n")[:-1]
+
+    def following(self, place: int) -> Iterator[str]:
+        """The rows behind a piece, as far as its last row may go on in them."""
+        for behind in range(place + 1, len(self.pieces)):
+            yield from self.lines(behind)
+
+    def found_in(self, place: int) -> int | None:
+        """The number of the row of a piece in which it begins; None where there is none in the part that is looked through."""
+        piece = self.pieces[place]
+        lines = self.lines(place)
+        begins, texts, length = [], [], 0
+        for line in lines:
+            begins.append(length)
+            texts.append(line[1:] if line[:1] == "+" else f"{line[1:]}\n")
+            length += len(texts[-1])
+        goes_on, more = bool(lines) and lines[-1][:1] == "+", length + len(self.text)
+        for line in self.following(place) if goes_on else ():
+            texts.append(line[1:])
+            more -= len(line) - 1
+            if line[:1] != "+" or more <= length:
+                break
+        return row_of("".join(texts), self.text, [*begins, length], piece.first, self.first, self.end, self.is_back)
+
+
+def row_of(joined: str, text: str, begins: list[int], number: int, first: int, end: int, is_back: bool) -> int | None:
+    """The number of the first row, or of the last, from `first` to `end`, in which a text begins, of rows that begin at these places of one
+    text, which have the numbers from `number` on."""
+    from bisect import bisect_right
+
+    low = begins[min(max(0, first - number), len(begins) - 1)]
+    high = begins[min(max(0, end - number), len(begins) - 1)] + len(text) - 1
+    place = joined.rfind(text, low, high) if is_back else joined.find(text, low, high)
+    # An empty row begins where the row behind it does, so it is the last of those that begin there.
+    return None if place < 0 else number + bisect_right(begins, place) - 1
+
+
+def all_of(search: Search, until: Callable[[], bool] = lambda: False) -> bool:
+    """Looks through piece by piece until that is done, or it is to stop; tells whether it is done."""
+    while not search.step():
+        if until():
+            return False
+    return True

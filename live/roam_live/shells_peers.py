@@ -1,0 +1,89 @@
+"""Who is connected to the socket `shells` of what keeps the shells of a session, and a text that comes from one."""
+from __future__ import annotations
+
+import socket
+
+from roam_live.presence import GONE, OTHERS, THERE, Presence
+
+TYPE_CHECKING = False
+if TYPE_CHECKING:
+    from roam_live.row_answers import RowAsker
+
+# So many bytes at most wait for one who is told something that he didn't ask for: who takes them not is let go. While more of answers wait
+# nothing more is heard of him.
+MOST_WAITING = 1 << 16
+
+# Of so many texts one is told at most what becomes of them.
+MOST_NAMES = 64
+
+
+class Giving:
+    """A text whose bytes come: they are kept, or passed over where the text is known already, or refused. It is given under a name, or to
+    be a buffer."""
+
+    def __init__(self, name: str, length: int, is_plain: bool, is_kept: bool, refusal: str, is_buffer: bool = False) -> None:
+        self.name, self.length, self.is_plain, self.is_kept, self.refusal = name, length, is_plain, is_kept, refusal
+        self.is_buffer = is_buffer
+        self.left = length
+        self.data = bytearray()
+
+    def take(self, came: bytearray) -> None:
+        """Takes those of its bytes that are there, off what came."""
+        count = min(self.left, len(came))
+        if self.is_kept:
+            self.data += came[:count]
+        del came[:count]
+        self.left -= count
+
+
+class ShellsPeer:
+    """One who is connected, by a number of its own: what came of its lines, what waits for it, and whether it is at a terminal."""
+
+    def __init__(self, end: socket.socket, number: int) -> None:
+        self.end, self.number = end, number
+        self.came, self.waiting = bytearray(), bytearray()
+        self.presence: Presence | None = None
+        # Whether it asked who else is there; and the others, as it was told last.
+        self.asks = False
+        self.told: dict[int, Presence] | None = None
+        # The same of what runs in front in panes.
+        self.asks_commands = False
+        self.commands: dict[int, tuple[int, str]] = {}
+        # The text that it gives now, and the names of those of which it wants to know what becomes of them.
+        self.giving: Giving | None = None
+        self.names: dict[str, None] = {}
+        # What it asks of rows; and how many bytes of answers wait since it took all.
+        self.asker: RowAsker | None = None
+        self.answers = 0
+        # Until when it is waited for, where it writes rows down and doesn't take them.
+        self.awaited_until = 0.0
+
+    def is_busy(self) -> bool:
+        """Whether what it asks isn't answered, or not taken, so that its next line is taken later."""
+        return self.is_full() or self.asker is not None and self.asker.waits()
+
+    def logs(self) -> bool:
+        """Whether it writes rows down."""
+        return self.asker is not None and self.asker.logged is not None
+
+    def is_full(self) -> bool:
+        """Whether much of what it was answered waits for it."""
+        return len(self.waiting) > MOST_WAITING
+
+    def watches(self) -> bool:
+        """Whether it said that it only watches."""
+        return self.presence is not None and self.presence.kind == "watches"
+
+    def wants(self, name: str) -> None:
+        """Notes that it wants to know what becomes of a text."""
+        self.names.pop(name, None)
+        self.names[name] = None
+        if len(self.names) > MOST_NAMES:
+            del self.names[next(iter(self.names))]
+
+    def news(self, others: dict[int, Presence]) -> list[str]:
+        """The lines that tell it of the others, where it wasn't told so yet."""
+        told, self.told = self.told, others
+        lines = [f"{GONE} {number}" for number in told or () if number not in others]
+        lines += [f"{THERE} {number} {one}" for number, one in others.items() if (told or {}).get(number) != one]
+        return [*lines, f"{OTHERS} {len(others)}"] if lines or told is None else []

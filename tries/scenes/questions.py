@@ -1,0 +1,102 @@
+"""What programs ask of their terminals and are answered, and frames that are held together."""
+import socket
+import time
+
+from tried import SESSION, Outer, check, comes, scene, terminals_of, tool
+from roam_live.colours import ASKED
+from roam_live.questions import ASKS, NAMED
+
+# A program that writes what its words spell to its terminal, and notes what comes until the answer to DA1 has, or for three seconds.
+ASKER = """\
+import os, select, sys, termios, time, tty
+before, noted, until = termios.tcgetattr(0), b"", time.monotonic() + 3
+tty.setraw(0)
+os.write(1, sys.argv[1].encode().decode("unicode_escape").encode() + b"\\033[c")
+while not noted.endswith(b"c") and select.select([0], [], [], max(0, until - time.monotonic()))[0]:
+    noted += os.read(0, 4096)
+open(sys.argv[2], "wb").write(noted)
+termios.tcsetattr(0, termios.TCSAFLUSH, before)
+"""
+
+# What the terminals of panes answer to DA1 begins so.
+DEVICE = b"\x1b[?6"
+
+
+def has_word(folder, word):
+    """Whether the server of a session's folder knows a word of who follows its panes."""
+    with socket.socket(socket.AF_UNIX) as peer:
+        peer.connect(str(folder / "panes"))
+        peer.sendall(f"{word}\n".encode())
+        time.sleep(0.3)
+        return b"bad line" not in peer.recv(65536)
+
+
+def is_known(folder):
+    """Whether the keeper of a session's folder knows of a terminal there: until then it is told no colour of it."""
+    try:
+        with socket.socket(socket.AF_UNIX) as peer:
+            peer.connect(str(folder / "shells"))
+            peer.sendall(b"who\n")
+            time.sleep(0.2)
+            return b"there " in peer.recv(65536)
+    except OSError:
+        return False
+
+
+def answers(folder, outer, text):
+    """What a program in a pane is sent that asks so, before and with the answer to DA1."""
+    script, noted = folder / "asker", folder / "noted"
+    script.write_text(ASKER, encoding="utf-8")
+    noted.unlink(missing_ok=True)
+    outer.type(f"python3 {script} '{text}' {noted}\r".encode())
+    comes(lambda: noted.exists() and noted.stat().st_size > 0)
+    return noted.read_bytes() if noted.exists() else b""
+
+
+@scene
+def questions(folder):
+    """A program is answered what it asks, before what the screen's terminal answers to what stands behind it; a colour as the person's
+    terminal has it, which told it among what is typed."""
+    outer = Outer(tool("mux", SESSION))
+    outer.shows("$ ")
+    if not has_word(terminals_of(SESSION).parent, ASKS):
+        print("skipped questions: this server tells none", flush=True)
+        return
+    check("the terminal is asked for its colours", ASKED in outer.written, bytes(outer.written[:300]))
+    found = answers(folder, outer, r"\033]11;?\007\033[?2026$p\033[?2004$p\033[>q")
+    wanted = b"\x1b[?2026;2$y\x1b[?2004;2$y" + NAMED + DEVICE
+    check("what is known is answered before the answer to DA1, in its order", found.startswith(wanted), found)
+    check("the keeper knows of the terminal", comes(lambda: is_known(terminals_of(SESSION).parent)))
+    outer.type(b"\x1b]11;rgb:11")
+    outer.type(b"11/1111/1111\x1b")
+    outer.type(b"\\\x1b]10;rgb:f/f/f\x07")
+    outer.type(b"echo as''ked\r")
+    check("what the terminal answers isn't typed", outer.shows("asked") and not any("rgb" in row for row in outer.rows()), outer.rows)
+    found = answers(folder, outer, r"\033]11;?\033\\\\\033]10;?\007")
+    wanted = b"\x1b]11;rgb:1111/1111/1111\x1b\\\x1b]10;rgb:ffff/ffff/ffff\x07" + DEVICE
+    check("and a colour is answered then, ended as the question was", found.startswith(wanted), found)
+    outer.type(b"vim -u NONE -N --cmd 'let &t_RB=\"\\<Esc>]11;?\\<C-g>\"'\r")
+    outer.shows("~")
+    time.sleep(0.5)
+    outer.type(b":set background?\r")
+    check("so that vim knows a dark terminal", outer.shows("background=dark"), outer.rows)
+    outer.type(b":q!\r")
+    outer.shows("$ ")
+
+
+@scene
+def frames(folder):
+    """A frame comes whole, and half a frame after a moment; nothing of either is lost."""
+    outer = Outer(tool("mux", SESSION))
+    outer.shows("$ ")
+    script = folder / "frames"
+    script.write_text("printf '\\033[?2026hha''lf'; sleep 1; printf ' who''le\\033[?2026l'; sleep 1; echo; echo do''ne\n", encoding="utf-8")
+    outer.type(f"sh {script}\r".encode())
+    check("half a frame is shown where the rest doesn't come soon", outer.shows("half", 0.9), outer.rows)
+    check("and the rest", outer.shows("half whole", 3), outer.rows)
+    check("and what comes behind it", outer.shows("done", 3), outer.rows)
+    many = folder / "many"
+    many.write_text("i=0; while [ $i -lt 200 ]; do printf '\\033[?2026h\\033[H%s\\033[K\\033[?2026l' $i; i=$((i+1)); done; echo; echo al''l\n",
+                    encoding="utf-8")
+    outer.type(f"clear; sh {many}\r".encode())
+    check("of many frames the last stays", outer.shows("199") and outer.shows("all"), outer.rows)

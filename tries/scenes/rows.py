@@ -1,0 +1,280 @@
+"""Rows that left the screens of panes, which the keeper of shells keeps by the filter of rows; what is copied, and what is written down."""
+import os
+import pathlib
+import signal
+import subprocess
+import time
+
+from tried import SESSION, Outer, check, children, comes, is_filter, noted, said, scene, tool
+from roam_live.asked_rows import RowsAsked
+from roam_live.program import TOOLS
+from roam_live.sessions import FolderSession
+from roam_live.targets import making_of
+
+KEPT = 10_000
+
+# So many seconds a search over all of them may take.
+SEARCHED = 0.05
+
+# So many bytes the keeper may grow by what it keeps.
+GROWTH = 64 << 20
+
+GIGABYTE = 1 << 30
+
+
+def keeper(name=SESSION):
+    """The process that keeps a session's shells."""
+    return noted(name)["shells"][0]
+
+
+def filters(name=SESSION):
+    """The filters of rows of a session."""
+    return [process for process in children(keeper(name)) if is_filter(process)]
+
+
+def grown(process):
+    """The bytes that a process has of its own."""
+    lines = pathlib.Path(f"/proc/{process}/status").read_text(encoding="utf-8").splitlines()
+    return next(int(line.split()[1]) << 10 for line in lines if line.startswith("RssAnon:"))
+
+
+def count_of(name=SESSION, pane=1):
+    """The numbers of the first row that is kept and of that behind the last."""
+    asked = RowsAsked(FolderSession.named(name))
+    number, life = making_of(asked.session, pane)
+    return asked.answer(lambda told: asked.link.count(number, life, told)) or (0, 0)
+
+
+def kept(name=SESSION, pane=1):
+    """All rows that are kept of a pane, without what leads them."""
+    asked = RowsAsked(FolderSession.named(name))
+    snapshot, found = asked.snapshot(pane), []
+    while snapshot.first + len(found) < snapshot.end:
+        rows = asked.rows(snapshot, snapshot.first + len(found), snapshot.end)
+        if not rows:
+            break
+        found += rows
+    return [row[1:].decode() for row in found]
+
+
+def begun():
+    """A terminal on a session, with a shell."""
+    outer = Outer(tool("mux", SESSION))
+    check("a session keeps rows by one filter", outer.shows("$ ") and comes(lambda: len(filters()) == 1), outer.rows)
+    return outer
+
+
+def run(outer, line, text, seconds=60):
+    """Has a shell run a line, behind which a text is shown."""
+    outer.type(f"{line}; echo {text[:2]}''{text[2:]}\r".encode())
+    return outer.shows(text, seconds)
+
+
+@scene
+def kept_rows(folder):
+    """The last 10,000 rows, whole and in order; a search in them; capture with its options, and CSI 3 J."""
+    outer = begun()
+    check("seq 1 200000 runs", run(outer, "clear; seq 1 200000", "counted"), outer.rows)
+    check("10,000 rows are kept", comes(lambda: count_of()[1] - count_of()[0] == KEPT and count_of()[1] > 199_900), count_of())
+    rows = kept()
+    numbers = [int(row) for row in rows if row.isdigit()]
+    check("whole and in order", len(numbers) >= KEPT - 2 and numbers == list(range(numbers[0], numbers[0] + len(numbers))), numbers[:9])
+    check("up to the screen", numbers[-1] > 199_970, numbers[-1])
+    best = sought("199000", numbers)
+    check(f"a search over them answers in {best * 1000:.1f} ms, of 50", best < SEARCHED, best)
+    best = sought("not there", numbers)
+    check(f"one that finds nothing in {best * 1000:.1f} ms", best < SEARCHED, best)
+    status, told, why = said("capture", "-S", "-5", "-E", "-1", f"{SESSION}.1")
+    check("capture prints the last of them", (status, told) == (0, "".join(f"{row}\n" for row in rows[-5:])), (told, why))
+    whole = said("capture", "-S", "-", SESSION)[1].splitlines()
+    shown = [row.rstrip() for row in outer.rows()[:-1]]
+    check("capture -S - prints all and the screen", [row.rstrip() for row in whole] == rows + shown[: len(whole) - KEPT], whole[-30:])
+    check("capture -S 0 -E 1 prints rows of the screen", said("capture", "-S", "0", "-E", "1", SESSION)[1].splitlines() == shown[:2])
+    check_forms(outer)
+    run(outer, "printf '\\033[3J'", "emptied")
+    # What the line itself shows may leave behind that.
+    check("CSI 3 J empties it", comes(lambda: count_of()[1] - count_of()[0] < 5), count_of())
+    check("and what comes is kept", run(outer, "seq 1 40", "again") and comes(lambda: "7" in kept()), kept)
+
+
+def sought(text, numbers):
+    """The seconds that a search backward over all rows takes, the best of five."""
+    asked = RowsAsked(FolderSession.named(SESSION))
+    snapshot, best = asked.snapshot(1), 60.0
+    for _ in range(5):
+        begin = time.monotonic()
+        found = asked.answer(lambda told: asked.link.find(1, snapshot.life, snapshot.end + 99, True, text, told))
+        best = min(best, time.monotonic() - begin)
+    wanted = snapshot.end - len(numbers) + numbers.index(int(text)) if text.isdigit() else None
+    check(f"{text!r} is found where it is", found == wanted or wanted is not None and abs(found - wanted) <= 2, (found, wanted))
+    return best
+
+
+def check_forms(outer):
+    """Rows with their styles, and joined."""
+    run(outer, "clear; printf '\\033[1;31mred\\033[0m\\n%0100d\\n' 7; seq 1 30", "styled")
+    comes(lambda: "red" in "".join(kept()[-40:]))
+    styled = said("capture", "-e", "-S", "-40", "-E", "-1", SESSION)[1]
+    check("capture -e has styles", "\x1b[" in styled and "red\x1b[0m\n" in styled, styled)
+    plain = said("capture", "-S", "-40", "-E", "-1", SESSION)[1]
+    check("without it none", "\x1b" not in plain and "red\n" in plain, plain)
+    check("a row that went on is two", f"{'0' * 80}\n{'0' * 19}7\n" in plain, plain)
+    joined = said("capture", "-J", "-S", "-40", "-E", "-1", SESSION)[1]
+    check("and one with -J", f"{'0' * 99}7\n" in joined, joined)
+
+
+@scene
+def filter_lost(folder):
+    """The filter killed, stopped and continued: shells go on, what is lost is told, and stands among the rows."""
+    outer = begun()
+    run(outer, "clear; seq 1 100", "before")
+    check("rows are kept", comes(lambda: "50" in kept()), kept)
+    os.kill(filters()[0], signal.SIGKILL)
+    check("a killed filter is told of", outer.shows("rows of history are lost: what filters them ended"), outer.rows)
+    check("another runs", comes(lambda: len(filters()) == 1), filters)
+    run(outer, "seq 201 300", "behind")
+    check("what came before is kept, then a row tells of the loss, then what comes",
+          comes(lambda: in_order(kept(), "50", "[rows of history are lost here]", "250")), lambda: kept()[-120:])
+    process = filters()[0]
+    os.kill(process, signal.SIGSTOP)
+    begin = time.monotonic()
+    check("a stopped one doesn't stop a shell", run(outer, "seq 1 300000", "passed", 30), outer.rows)
+    print(f"        seq 1 300000 beside a stopped filter took {time.monotonic() - begin:.1f} s", flush=True)
+    check("which is told", outer.shows("rows of history are lost: what filters them doesn't keep up"), outer.rows)
+    check("keys are echoed meanwhile", run(outer, "clear", "echoed"), outer.rows)
+    status, _, why = said("capture", "-S", "-", SESSION)
+    check("no snapshot is had of it", status == 1 and "no rows are kept" in why, why)
+    os.kill(process, signal.SIGCONT)
+    # What is written before it has taken what waited for it is lost too.
+    again = lambda: run(outer, "seq 401 500", "continued") and in_order(kept(), "[rows of history are lost here]", "450")
+    check("rows are kept again once it is continued", comes(again), lambda: kept()[-120:])
+    check("by the same filter", filters() == [process], filters())
+
+
+def in_order(rows, *texts):
+    """Whether these rows stand behind one another."""
+    place = 0
+    for text in texts:
+        if text not in rows[place:]:
+            return False
+        place = rows.index(text, place) + 1
+    return True
+
+
+@scene
+def filter_fed(folder):
+    """A gigabyte through a pane: the keeper grows by no more than may be, and the last rows are kept."""
+    outer = begun()
+    before = grown(keeper())
+    begin = time.monotonic()
+    line = "y" * 60
+    check("a gigabyte is written", run(outer, f"clear; yes {line} | head -c {GIGABYTE}; echo; seq 1 100", "written", 300), outer.rows)
+    print(f"        in {time.monotonic() - begin:.0f} s", flush=True)
+    check("the last rows are kept", comes(lambda: in_order(kept()[-200:], line, "50")), lambda: kept()[-9:])
+    first, end = count_of()
+    check("10,000 of them, and all were counted", end - first == KEPT and end > GIGABYTE // 61, (first, end))
+    wide = "python3 -c 'for n in range(40000): print(*(f\"\\33[38;5;{(n + c) % 256}mx\" for c in range(78)), sep=str())'"
+    run(outer, f"clear; {wide}; printf '\\033[0m'; seq 1 100", "coloured", 120)
+    check("and rows of many styles", comes(lambda: "50" in kept()[-99:]), lambda: kept()[-3:])
+    size = grown(keeper()) - before
+    check(f"the keeper grew by {size >> 20} MB, of 64", size < GROWTH, size)
+
+
+@scene
+def nine_kept(folder):
+    """Four sessions of nine panes, each with its rows."""
+    names = (SESSION, "other", "third", "fourth")
+    for name in names:
+        subprocess.run([*tool("mux", "new", "-d", name), "sh"], check=True)
+        acts = ["size 60 200", *(f"split {way}" for way in ("right", "down", "right", "down")), "focus 1", "split down", "split right",
+                "focus 2", "split right", "focus 1", "split right"]
+        subprocess.run(tool("mux", "send", name, *acts), check=True)
+        for pane in range(1, 10):
+            subprocess.run(tool("mux", "send", "-l", f"seq {pane}001 {pane}200\r", f"{name}.{pane}"), check=True)
+    for name in names:
+        found = [pane for pane in range(1, 10) if not comes(lambda: in_order(kept(name, pane), f"{pane}100", f"{pane}150"), 20)]
+        check(f"each of nine panes of {name} has its rows", not found, found)
+        check("by one filter", len(filters(name)) == 1, filters(name))
+    for name in names[2:]:
+        subprocess.run(tool("mux", "kill", "-f", name), check=True)
+
+
+@scene
+def small_rows(folder):
+    """A pane of two rows and four columns."""
+    subprocess.run([*tool("mux", "new", "-d", SESSION), "sh"], check=True)
+    subprocess.run(tool("mux", "send", SESSION, "size 6 9", "split right", "split down"), check=True)
+    places = FolderSession.named(SESSION).places()
+    sizes = {pane: (rect.rows, rect.cols) for pane, rect in places.rects.items()}
+    pane = min(sizes, key=lambda number: sizes[number])
+    check(f"a pane has {sizes[pane][0]} rows and {sizes[pane][1]} columns", sizes[pane] <= (2, 4), sizes)
+    subprocess.run(tool("mux", "send", "-l", "clear; seq 1 9999\r", f"{SESSION}.{pane}"), check=True)
+    check("its rows are kept", comes(lambda: in_order(kept(SESSION, pane), "9996", "9997")), lambda: kept(SESSION, pane)[-9:])
+    numbers = [row for row in kept(SESSION, pane) if row.isdigit()][-9000:]
+    check("whole and in order", numbers == [str(number) for number in range(int(numbers[0]), int(numbers[0]) + len(numbers))], numbers[:9])
+
+
+@scene
+def buffers(folder):
+    """What is set as a buffer is listed, shown and pasted, at this machine and over a relay."""
+    outer = begun()
+    check("none is there", said("buffer", "list", SESSION) == (0, "", ""), said("buffer", "list", SESSION))
+    check("one is set", said("buffer", "set", SESSION, "echo pas''ted")[0] == 0)
+    check("and listed", said("buffer", "list", SESSION)[1] == "1: 13 bytes: echo pas''ted\n", said("buffer", "list", SESSION))
+    check("and shown", said("buffer", "show", SESSION)[1] == "echo pas''ted", said("buffer", "show", SESSION))
+    check("and pasted", said("buffer", "paste", SESSION)[0] == 0 and outer.shows("echo pas''ted"), outer.rows)
+    outer.type(b"\r")
+    check("and run", outer.shows("pasted"), outer.rows)
+    long = "".join(f"row {number}\n" for number in range(50_000))
+    run_set = subprocess.run(tool("mux", "buffer", "set", SESSION), input=long.encode(), check=False)
+    check("a long one is kept whole", run_set.returncode == 0 and said("buffer", "show", SESSION, "2")[1] == long)
+    too_long = subprocess.run(tool("mux", "buffer", "set", SESSION), input=b"x" * (1 << 20) + b"y", stderr=subprocess.PIPE, check=False)
+    check("one that is too long isn't", too_long.returncode == 1 and b"1 MB" in too_long.stderr, too_long)
+    check("an unknown one isn't pasted", said("buffer", "paste", SESSION, "9")[0] == 1)
+    words = tool("relay", "--alone", "60", "--dir", str(folder / "near"), "-", str(TOOLS / "relay"), "--far", "--dir",
+                 str(folder / "roam" / SESSION), "-")
+    (folder / "near").mkdir(mode=0o700)
+    relay = subprocess.Popen(words, stdout=subprocess.DEVNULL)
+    run(outer, "clear; seq 1 5000", "counted")
+    check_far(FolderSession(folder / "near"), long)
+    relay.terminate()
+    relay.wait()
+
+
+def check_far(near, long):
+    """Rows and buffers by the sockets of a near relay."""
+    check("a relay is there", comes(lambda: (near.folder / "shells").exists() and near.places()), near.folder)
+    asked = RowsAsked(near)
+    check("a long buffer comes over it whole", asked.answer(lambda told: asked.link.buffer(2, told)) == long.encode())
+    number = asked.answer(lambda told: asked.link.add_buffer(b"a\nhere x 1 1 edits\n" * 30_000, told))
+    check("and goes", asked.answer(lambda told: asked.link.buffer(number, told)) == b"a\nhere x 1 1 edits\n" * 30_000, number)
+    snapshot = asked.snapshot(1)
+    rows = asked.rows(snapshot, snapshot.first, snapshot.end)
+    check("rows do too", len(rows) == 2000 and b" 1500" in rows, rows[:3])
+    found = asked.answer(lambda told: asked.link.find(1, snapshot.life, 0, False, "4321", told))
+    check("and what is looked for", found is not None and asked.rows(snapshot, found, found + 1) == [b" 4321"], found)
+
+
+@scene
+def rows_logged(folder):
+    """`mux log` writes down each row as it leaves, and the last screen where the pane ends."""
+    outer = begun()
+    with open(folder / "log", "wb") as log:
+        process = subprocess.Popen(tool("mux", "log", SESSION), stdout=log)
+
+    def lines():
+        return (folder / "log").read_text(encoding="utf-8").splitlines()
+
+    def is_begun():
+        run(outer, "seq 7001 7030", "begun")
+        return lines()
+
+    check("what leaves is written down", comes(is_begun), lines)
+    run(outer, "clear; seq 1 5000", "counted")
+
+    check("rows come as they leave", comes(lambda: in_order(lines(), "1", "4900")), lambda: lines()[-9:])
+    outer.type(b"echo last''words; exit\r")
+    check("it ends with the pane", comes(lambda: process.poll() == 0), process.poll)
+    numbers = [line for line in lines() if line.isdigit() and int(line) <= 5000]
+    check("nothing is missing, and nothing twice", numbers == [str(number) for number in range(1, 5001)], numbers[-9:])
+    check("the last screen too", "lastwords" in lines()[-3:], lines()[-9:])

@@ -1,0 +1,93 @@
+"""A filter of rows that is played by hand, and one that is a small script: it knows LF and CSI 3 J alone."""
+import contextlib
+import os
+import sys
+from unittest import mock
+
+from roam_live import row_filter
+
+# No process has this number.
+NOBODY = (1 << 31) - 1
+
+SCRIPT = r'''
+import os, sys
+source, out, screens = sys.stdin.buffer, sys.stdout.buffer, {}
+def told(word, number, rows):
+    data = b"".join(b" " + row + b"\n" for row in rows)
+    out.write(b"%s %s %d %d\n" % (word, number, len(rows), len(data)) + data)
+def show(number, data):
+    rows = screens[number]
+    for part in data.split(b"\x1b[3J")[:-1]:
+        rows[1][:] = []
+        out.write(b"cleared %s\n" % number)
+    rows[1] += data.replace(b"\r", b"").replace(b"\x1b[3J", b"")
+    *whole, rest = rows[1].split(b"\n")
+    gone = whole[: max(0, len(whole) + 1 - rows[0])]
+    if gone:
+        told(b"rows", number, [bytes(row) for row in gone])
+        rows[1][:] = b"\n".join([*whole[len(gone) :], rest])
+while True:
+    words = source.readline().split()
+    if not words:
+        break
+    if words[0] == b"pane":
+        screens[words[1]] = [int(words[2]), bytearray()]
+    elif words[0] == b"size":
+        screens[words[1]][0] = int(words[2])
+        show(words[1], b"")
+    elif words[0] == b"bytes":
+        show(words[1], source.read(int(words[2])))
+    elif words[0] == b"screen":
+        told(b"screen", words[1], [bytes(row) for row in screens[words[1]][1].split(b"\n")])
+    else:
+        del screens[words[1]]
+    out.flush()
+'''
+
+# What runs that script, as a filter.
+FAKE = [sys.executable, "-S", "-E", "-c", SCRIPT]
+
+
+class PlayedFilter:
+    """The other ends of a filter's pipes."""
+
+    def __init__(self, case, said=b""):
+        ends = [os.pipe() for _ in range(3)]
+        (self.input, to_it), (from_it, self.output), (error, self.error) = ends
+        self.ends = [to_it, from_it, error]
+        for end in (*self.ends, self.input, self.output):
+            os.set_blocking(end, False)
+        os.write(self.error, said)
+        self.open = {self.input, self.output, self.error}
+        case.addCleanup(self.end)
+
+    def taken(self):
+        """What was written to it."""
+        found = b""
+        with contextlib.suppress(BlockingIOError):
+            while True:
+                piece = os.read(self.input, 65536)
+                if not piece:
+                    break
+                found += piece
+        return found
+
+    def prints(self, data):
+        """Prints."""
+        os.write(self.output, data)
+
+    def end(self):
+        """Ends."""
+        for end in self.open:
+            os.close(end)
+        self.open = set()
+
+
+def played(case, count=1, said=b""):
+    """Filters that are spawned one after the other from now on, and played by hand; each further one can't be spawned."""
+    filters = [PlayedFilter(case, said) for _ in range(count)]
+    spawns = [(NOBODY, list(one.ends)) for one in filters]
+    patch = mock.patch.object(row_filter, "spawned", side_effect=[*spawns, *[OSError(11, "no process is left")] * 50])
+    patch.start()
+    case.addCleanup(patch.stop)
+    return filters

@@ -1,0 +1,83 @@
+"""A keeper of shells that is played: it lends rows, finds texts in them, and keeps buffers; at once, or once it is told to answer."""
+from collections import deque
+
+from copied import rows_of
+from roam_live.copy_rows import Rows
+from roam_live.copy_search import matches
+from roam_live.kept_rows import BufferNote, Snapshot
+
+
+class PlayedKept:
+    """What it keeps of panes, of each the rows that left and those of its screen."""
+
+    def __init__(self, text, size, first=0):
+        lines = rows_of(text, size[1])
+        self.lines = [b" "] * max(0, size[0] - len(lines)) + lines
+        self.first, self.size = first, size
+        self.texts: list = []
+        self.asked: list = []
+        self.released: list = []
+        self.on_more = lambda pane, life, count: None
+        # Whether it answers at once, and what it hasn't answered; whether it lends snapshots, and keeps buffers.
+        self.is_quick, self.waiting = True, deque()
+        self.lends = self.keeps = True
+        # No answer has more rows.
+        self.most = 2000
+
+    def end(self):
+        """The number behind that of the last row that left."""
+        return self.first + len(self.lines) - self.size[0]
+
+    def answer(self, does):
+        """Answers now, or later."""
+        if self.is_quick:
+            does()
+        else:
+            self.waiting.append(does)
+
+    def answers(self, count=99):
+        """Answers what waits."""
+        for _ in range(min(count, len(self.waiting))):
+            self.waiting.popleft()()
+
+    def snapshot(self, pane, life, told):
+        """Lends a snapshot."""
+        self.asked.append(("snapshot", pane, life))
+        screen = self.lines[-self.size[0] :]
+        found = Snapshot(pane, life, self.first, self.end(), screen) if self.lends else None
+        self.answer(lambda: told(found))
+
+    def rows(self, pane, life, first, count, told):
+        """Lends rows."""
+        self.asked.append(("rows", first, count))
+        begin = max(first, self.first)
+        lines = self.lines[begin - self.first : begin - self.first + min(count, self.most)] if self.lends else []
+        self.answer(lambda: told(begin, lines))
+
+    def find(self, pane, life, first, back, text, told):
+        """Finds a text."""
+        self.asked.append(("find", first, back, text))
+        rows = Rows(self.first, self.first + len(self.lines), self.size[1])
+        rows.put(self.first, self.lines)
+        numbers = range(first - 1, rows.first - 1, -1) if back else range(first + 1, rows.end)
+        found = next((row for row in numbers if any(match[0][0] == row for match in matches(rows, row, text))), None)
+        self.answer(lambda: told(found))
+
+    def release(self, pane, life):
+        """Lets a snapshot go."""
+        self.released.append((pane, life))
+
+    def add_buffer(self, text, told):
+        """Keeps a buffer."""
+        if self.keeps:
+            self.texts.append(text)
+        self.answer(lambda: told(len(self.texts) - 1 if self.keeps else None))
+
+    def buffers(self, told):
+        """Tells which there are."""
+        notes = [BufferNote(number, len(text), text[:40].decode("utf-8", "replace")) for number, text in enumerate(self.texts)][::-1]
+        self.answer(lambda: told(notes if self.keeps else None))
+
+    def buffer(self, number, told):
+        """Tells one."""
+        self.answer(lambda: told(self.texts[number] if number < len(self.texts) else None))

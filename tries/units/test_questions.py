@@ -1,0 +1,95 @@
+"""What the programs of panes ask of their terminals, the answers, and the colours that a person's terminal tells."""
+import unittest
+
+from aids import Case
+from roam_live.colours import ASKED, Colours, colour_of, told_in
+from roam_live.keys import Key, Keys
+from roam_live.program import TOOLS
+from roam_live.questions import VERSION, holds_frames, question_in
+
+ANSWERS = ("\x1b]10;rgb:ffff/ffff/ffff\x07", "\x1b]11;rgb:1e/1E/2e\x1b\\")
+
+
+class Answered(Case):
+    """Lines of `panes`, and what is typed for them."""
+
+    def test_answers(self):
+        """Each question has its answer, by what is known; a colour that isn't known has none, and nor has what is no question."""
+        colours = Colours()
+        colours.take("colour background 1e1e/1e1e/2e2e")
+        for line, wanted, unheld in (
+                ("asks 1 7 version", f"\x1bP>|roam {VERSION}\x1b\\", None),
+                ("asks 1 7 pastes", "\x1b[?2004;2$y", None), ("asks 1 7 pastes set", "\x1b[?2004;1$y", None),
+                ("asks 1 7 frames", "\x1b[?2026;2$y", "\x1b[?2026;0$y"), ("asks 1 7 frames set", "\x1b[?2026;1$y", "\x1b[?2026;0$y"),
+                ("asks 1 7 background", "\x1b]11;rgb:1e1e/1e1e/2e2e\x1b\\", None),
+                ("asks 1 7 background bell", "\x1b]11;rgb:1e1e/1e1e/2e2e\x07", None),
+                ("asks 1 7 foreground", "", None)):
+            question = question_in(line)
+            self.assertEqual((question.pane, question.life), (1, 7))
+            self.assertEqual(question.answer(colours, True).decode(), wanted, line)
+            self.assertEqual(question.answer(colours, False).decode(), wanted if unheld is None else unheld, line)
+        for line in ("", "asks", "asks 1 7", "asks 1 x version", "asks 1 7 name", "asks 1 7 version set", "asks 1 7 pastes bell", "modes 1 7",
+                     "asks 1 7 pastes set set", "asks \u0661 7 version"):
+            self.assertIsNone(question_in(line), line)
+
+    def test_version(self):
+        """The version that is told is that of the program."""
+        source = (TOOLS.parent / "crates/roam_command/src/commands.rt").read_text(encoding="utf-8")
+        self.assertIn(f'.version("{VERSION}")', source)
+
+    def test_frames(self):
+        """Whether a server holds frames together is told by its words, and not known where these can't be read."""
+        folder = self.made_folder()
+        self.patch("roam_live.questions.pathlib.Path", side_effect=lambda path: folder / path.split("/")[2])
+        for process, words, wanted in ((7, b"roam\0serve\0--as-meant\0--dir\0D\0", True), (8, b"roam\0serve\0--dir\0--as-meanti\0", False)):
+            (folder / str(process)).write_bytes(words)
+            self.assertEqual(holds_frames(process), wanted)
+        self.assertEqual((holds_frames(9), holds_frames(None)), (False, False))
+
+
+class Told(unittest.TestCase):
+    """What a terminal tells of its colours."""
+
+    def test_colours(self):
+        """A colour has four digits a part, whatever it was told by; what is none is nothing."""
+        for words, wanted in (("rgb:f/8/0", "ffff/8888/0000"), ("rgb:ff/80/00", "ffff/8080/0000"), ("rgb:fff/800/001", "ffff/8007/0010"),
+                              ("rgb:FFFF/0a0B/0000", "ffff/0a0b/0000"), ("rgba:ff/80/00/80", "ffff/8080/0000"), ("rgb:ff/80", ""),
+                              ("rgb:ff/80/00/80", ""), ("rgba:ff/80/00", ""), ("rgb:fffff/0/0", ""), ("rgb://", ""), ("", ""), ("#ffffff", ""),
+                              ("rgb:+f/0/0", ""), ("rgb:0x/0/0", "")):
+            self.assertEqual(colour_of(words), wanted, words)
+        self.assertEqual([told_in(text) for text in ANSWERS], [("foreground", "ffff/ffff/ffff"), ("background", "1e1e/1e1e/2e2e")])
+        self.assertEqual([told_in(text) for text in ("\x1b]10;rgb:a\x07", "\x1b]12;rgb:f/f/f\x07", "x")], [None] * 3)
+        self.assertEqual(ASKED, b"\x1b]10;?\x1b\\\x1b]11;?\x1b\\")
+
+    def test_lines(self):
+        """Lines tell them, the last holds, and others are none."""
+        colours = Colours()
+        for line, wanted in (("colour foreground ffff/0000/1111", True), ("colour foreground 0000/0000/1111", True),
+                             ("colour foreground", False),
+                             ("colour cursor ffff/0000/1111", False), ("colour background ff/00/11", False),
+                             ("colour background FFFF/0000/1111", False), ("colour background ffff/0000/1111 x", False), ("colours", False)):
+            self.assertEqual(colours.take(line), wanted, line)
+        self.assertEqual(colours.lines(), ["colour foreground 0000/0000/1111"])
+
+    def test_typed(self):
+        """Answers are taken out of what is typed, wherever the stream is cut and however long the rest takes, and nothing else is."""
+        stream = f"a{ANSWERS[0]}\x1b[A{ANSWERS[1]}\x1bb"
+        for cut in range(len(stream) + 1):
+            keys = Keys()
+            found = keys.fed(stream[:cut].encode())
+            found += keys.fed(stream[cut:].encode())
+            self.assertEqual([key.name for key in found], ["a", "colour", "up", "colour", "\x1b", "b"], cut)
+            self.assertEqual([key.text for key in found if key.name == "colour"], list(ANSWERS))
+        for begun, waits in (("\x1b]", True), ("\x1b]1", True), ("\x1b]11;", False), ("\x1b]11;rgb:1e/1E", False),
+                             ("\x1b]11;rgb:1e/1E/2e\x1b", False)):
+            keys = Keys()
+            self.assertEqual((keys.fed(begun.encode()), keys.waits()), ([], waits), begun)
+
+    def test_others(self):
+        """What only begins as an answer is typed as it is, as Alt and a bracket; one that is pasted is text."""
+        for text in ("\x1b]x", "\x1b]12;rgb:f/f/f\x07", "\x1b]11;rgb:f/f/f\x1bx", "\x1b]11;rgb:zz/f/f\x07", "\x1b]11;" + "f" * 40 + "\x07"):
+            keys = Keys()
+            found = keys.fed(text.encode()) + keys.ended()
+            self.assertEqual(("".join(key.text for key in found), [key for key in found if key.name == "colour"]), (text, []), text)
+        keys = Keys()
+        self.assertIn(Key("text", ANSWERS[0]), keys.fed(f"\x1b[200~{ANSWERS[0]}\x1b[201~".encode()))

@@ -1,0 +1,196 @@
+"""The filter of rows as a process: records to it and from it, cut anywhere, and its end in each way."""
+import os
+import signal
+import sys
+import time
+
+from aids import Case, StillLoop
+from filtered import FAKE, played
+from roam_live.loops import Loop
+from roam_live.row_filter import BATCH, ENDS, GATHERS, LONGEST_LINE, MOST_RECORD, BadRecord, RowFilter, RowRecords, spawned
+
+PRINTED = b"rows 0 2 7\n a\n+bc\nlost 3 17\ncleared 1023\nscreen 2 0 0\nrows 1 1 2\n \nscreen 4 1 9\n \x1b[1mrow\n"
+RECORDS = [("rows", 0, 2, b" a\n+bc\n"), ("lost", 3, 17, b""), ("cleared", 1023, 0, b""), ("screen", 2, 0, b""), ("rows", 1, 1, b" \n"),
+           ("screen", 4, 1, b" \x1b[1mrow\n")]
+
+
+class Printed(Case):
+    """Records that it prints."""
+
+    def test_cut(self):
+        """They come in any pieces."""
+        for cut in range(len(PRINTED) + 1):
+            records = RowRecords()
+            self.assertEqual([tuple(one) for one in records.fed(PRINTED[:cut]) + records.fed(PRINTED[cut:])], RECORDS, cut)
+        records = RowRecords()
+        self.assertEqual([tuple(one) for at in range(len(PRINTED)) for one in records.fed(PRINTED[at : at + 1])], RECORDS)
+
+    def test_nonsense(self):
+        """What is no record, or one that can't be."""
+        for printed in (b"\n", b"hello\n", b"rows 1 2\n", b"rows 1 2 3 4\n", b"rows 1024 1 2\n \n", b"rows -1 1 2\n \n", b"lost 1\n",
+                        b"cleared 1 2\n", b"cleared  1\n", b"rows 1 1 1\n ", b"rows 1 2 3\n  \n", b"rows 1 1 3\n \n ", b"lost 1 x\n",
+                        b"rows 1 0 1\nx", f"rows 1 1 {MOST_RECORD + 1}\n".encode(), b"lost 1 " + b"9" * 16 + b"\n", b"lost " * 30,
+                        b"\xff" * LONGEST_LINE, "rows \u0661 1 2\n".encode(), b"ROWS 1 1 2\n \n"):
+            with self.assertRaises(BadRecord, msg=printed):
+                records = RowRecords()
+                records.fed(printed[:5])
+                records.fed(printed[5:])
+
+
+class Handed(Case):
+    """Records that it is handed, and the ends of one that is played by hand."""
+
+    def setUp(self):
+        self.loop = StillLoop(lambda: self.now)
+        self.fake = played(self)[0]
+        self.records, self.ends, self.writes = [], [], 0
+        self.filter = RowFilter(self.loop, ["none"], lambda record: self.records.append(tuple(record)), self.wrote,
+                                lambda why, status: self.ends.append((why, status)))
+        self.addCleanup(self.filter.end, "the test ends")
+
+    def wrote(self):
+        """Counts that something was written."""
+        self.writes += 1
+
+    def test_joined(self):
+        """What is written for one terminal goes as one record, and stays before what comes behind it."""
+        self.filter.add("pane 1 2 4")
+        for data in (b"ab", b"c\n"):
+            self.filter.add_bytes(1, data)
+        self.filter.add_bytes(2, b"d")
+        self.filter.add("screen 2")
+        self.filter.add_bytes(1, b"e")
+        self.assertEqual(self.filter.size(), len(b"pane 1 2 4\nbytes 1 4\nabc\nbytes 2 1\ndscreen 2\n" + b"e"))
+        self.loop.turns(2)
+        self.assertEqual(self.fake.taken(), b"pane 1 2 4\nbytes 1 4\nabc\nbytes 2 1\ndscreen 2\nbytes 1 1\ne")
+        self.assertEqual((self.filter.size(), self.writes), (0, 1))
+
+    def test_full(self):
+        """What it doesn't take waits, and goes in order."""
+        data = bytes(range(256)) * 4096
+        for at in range(0, len(data), 4096):
+            self.filter.add_bytes(1, data[at : at + 4096])
+        self.loop.turns(40)
+        self.assertGreater(self.filter.size(), 0)
+        found = b""
+        for _ in range(60):
+            found += self.fake.taken()
+            self.now += GATHERS
+            self.loop.turns(2)
+        self.assertTrue(found == b"bytes 1 %d\n" % len(data) + data)
+
+    def test_gathered(self):
+        """What is written waits a little for more; not where there is much of it, or something else is to go."""
+        self.filter.add_bytes(1, b"a")
+        self.loop.turns(2)
+        self.assertEqual(self.fake.taken(), b"")
+        self.assertAlmostEqual(self.loop.waited, GATHERS)
+        self.filter.add_bytes(1, b"b")
+        self.now += GATHERS
+        self.loop.turns(2)
+        self.assertEqual(self.fake.taken(), b"bytes 1 2\nab")
+        self.filter.add_bytes(1, b"x" * BATCH)
+        self.loop.turns(2)
+        self.assertEqual(len(self.fake.taken()), len(f"bytes 1 {BATCH}\n") + BATCH)
+        self.now += GATHERS
+        self.loop.turns(2)
+        self.filter.add_bytes(1, b"c")
+        self.filter.add("screen 1")
+        self.loop.turns(2)
+        self.assertEqual(self.fake.taken(), b"bytes 1 1\ncscreen 1\n")
+
+    def test_printed(self):
+        """What it prints comes."""
+        self.fake.prints(PRINTED[:50])
+        self.loop.turns()
+        self.fake.prints(PRINTED[50:])
+        self.loop.turns()
+        self.assertEqual(self.records, RECORDS)
+
+    def test_nonsense(self):
+        """One that prints nonsense is ended, and what came before it is told."""
+        self.fake.prints(b"rows 1 1 2\n \nnonsense\nrows 1 1 2\n \n")
+        self.loop.turns()
+        self.assertEqual(self.records, [])
+        self.assertEqual(self.ends, [("it printed what is no record", None)])
+        self.filter.write = self.fail
+        self.loop.turns(3)
+
+    def test_ended(self):
+        """One that prints no more has ended; one that takes no more too, and what it said is told."""
+        self.fake.end()
+        self.loop.turns(2)
+        self.assertEqual(self.ends, [("it ended", None)])
+        other = played(self, 1, b"roam: line 3: bad record\x1b[2J\nmore\n")[0]
+        one = RowFilter(self.loop, ["none"], self.fail, self.wrote, lambda why, status: self.ends.append((why, status)))
+        os.close(other.input)
+        other.open.discard(other.input)
+        one.add("pane 1 2 4")
+        self.loop.turns(2)
+        self.assertEqual(self.ends[1:], [("roam: line 3: bad record?[2J; more", None)])
+
+
+class Spawned(Case):
+    """A real process."""
+
+    def until(self, test):
+        """Takes turns until something holds."""
+        end = time.monotonic() + 10
+        while not test() and time.monotonic() < end:
+            self.loop.turn()
+        self.assertTrue(test())
+
+    def spawn(self, words):
+        """A filter."""
+        self.loop, self.records, self.ends = Loop(), [], []
+        self.loop.each(lambda: self.loop.clock() + 0.02)
+        one = RowFilter(self.loop, words, lambda record: self.records.append(tuple(record)), lambda: None,
+                        lambda why, status: self.ends.append((why, status)))
+        self.addCleanup(one.signal_kill)
+        return one
+
+    def test_filters(self):
+        """Rows are printed that leave; it ends with its input, and nothing of it is left."""
+        ends = os.listdir("/proc/self/fd")
+        one = self.spawn(FAKE)
+        one.add("pane 7 2 4")
+        one.add_bytes(7, b"a\r\nb\r\nc\r\nd")
+        one.add("screen 7")
+        self.until(lambda: len(self.records) == 2)
+        self.assertEqual(self.records, [("rows", 7, 2, b" a\n b\n"), ("screen", 7, 2, b" c\n d\n")])
+        one.end("it is needed no more")
+        self.until(lambda: self.ends)
+        self.assertEqual(self.ends, [("it is needed no more", 0)])
+        self.assertEqual(os.listdir("/proc/self/fd"), ends)
+
+    def test_killed(self):
+        """One that is killed, one that ends by itself with words, one that prints no more and stays, one that isn't there."""
+        one = self.spawn(FAKE)
+        os.kill(one.process, signal.SIGKILL)
+        self.until(lambda: self.ends)
+        self.assertEqual(self.ends, [("it ended", -signal.SIGKILL)])
+        self.spawn([sys.executable, "-S", "-E", "-c", "import sys; sys.exit('no such command')"])
+        self.until(lambda: self.ends)
+        self.assertEqual(self.ends, [("no such command", 1)])
+        one = self.spawn([sys.executable, "-S", "-E", "-c", "import os, time; os.close(1); time.sleep(60)"])
+        begin = time.monotonic()
+        self.until(lambda: self.ends)
+        self.assertEqual(self.ends, [("it ended", -signal.SIGKILL)])
+        self.assertLess(time.monotonic() - begin, ENDS + 2)
+        before = os.listdir("/proc/self/fd")
+        with self.assertRaises(OSError):
+            self.spawn(["/no/such/program"])
+        self.assertEqual(os.listdir("/proc/self/fd"), before)
+
+    def test_descriptors(self):
+        """A process has its three ends and no other of this one, and isn't taken for a program of a pane."""
+        self.environment(ROAM_PANE="other:3", KEPT="one")
+        told = "import os; print(os.environ.get('ROAM_PANE'), os.environ['KEPT'], *os.listdir('/proc/self/fd'))"
+        process, ends = spawned([sys.executable, "-S", "-E", "-c", told])
+        os.waitpid(process, 0)
+        pane, kept, *said = os.read(ends[1], 4096).split()
+        self.assertEqual((pane, kept), (b"None", b"one"))
+        self.assertFalse({str(end).encode() for end in ends} & set(said), said)
+        for end in ends:
+            self.assertFalse(os.get_inheritable(end))
+            os.close(end)

@@ -1,0 +1,237 @@
+"""Rows that are kept as pieces: the last of each pane, whole and in order, within limits, and what is looked for in them."""
+import random
+import time
+import unittest
+
+from roam_live.row_pieces import BESIDE, LOST_ROWS, LOST_SOME, KeptRange, Piece, RowsRoom, Search, all_of, characters
+
+
+def rows_of(*texts):
+    """Rows with these texts as a filter prints them; one that begins with `+` goes on in the next."""
+    return "".join(f"{'' if text.startswith('+') else ' '}{text}\n" for text in texts).encode()
+
+
+def kept(room, *pieces, pane=1):
+    """A pane's rows, of pieces of texts."""
+    rows = room.pane(pane, 1)
+    for texts in pieces:
+        rows.add(len(texts), rows_of(*texts))
+    return rows
+
+
+def all_rows(rows):
+    """All rows that are kept."""
+    first, found = rows.range().rows(0, 1 << 30, 1 << 30, 1 << 30)
+    return first, [row.decode() for row in found]
+
+
+class Kept(unittest.TestCase):
+    """Which rows are kept."""
+
+    def test_last(self):
+        """The last so many, whole and in order, however they come."""
+        numbers = [str(number) for number in range(1, 5001)]
+        for size in (1, 7, 300, 5000):
+            rows = kept(RowsRoom(1000), *(numbers[at : at + size] for at in range(0, 5000, size)))
+            self.assertEqual((rows.first, rows.end), (4000, 5000))
+            self.assertEqual(all_rows(rows), (4000, [f" {number}" for number in numbers[4000:]]))
+
+    def test_joined(self):
+        """Small pieces are joined to larger ones, but to none that a snapshot holds, and no rows to a row that tells of a loss."""
+        room = RowsRoom(1000)
+        rows = kept(room, *(["x" * 98] for _ in range(200)))
+        self.assertEqual([len(piece.data) // 100 for piece in rows.pieces], [82, 82, 36])
+        snapshot = room.snapshot(rows, 1, rows_of("s"))
+        rows.add(1, rows_of("a"))
+        rows.add(1, rows_of("b"))
+        rows.lose(None)
+        rows.add(1, rows_of("c"))
+        self.assertEqual([piece.count for piece in rows.pieces], [82, 82, 36, 2, 1, 1])
+        self.assertEqual((snapshot.end, len(snapshot.rows(0, 999)[1])), (201, 201))
+
+    def test_asked(self):
+        """Rows are told as far as they are there, no more than so many rows, nor bytes, but one at least."""
+        rows = kept(RowsRoom(10), [str(number) for number in range(15)], ["x" * 100, "y" * 100])
+        among = rows.range()
+        self.assertEqual((among.first, among.end), (7, 17))
+        for asked, told in (((0, 2), (7, [b" 7", b" 8"])), ((14, 9), (14, [b" 14", b" " + b"x" * 100, b" " + b"y" * 100])),
+                            ((17, 1), (17, [])), ((99, 1), (17, [])), ((3, 0), (7, [])), ((7, 9, 2), (7, [b" 7", b" 8"])),
+                            ((15, 9, 99, 10), (15, [b" " + b"x" * 100])), ((13, 9, 99, 10), (13, [b" 13", b" 14"]))):
+            self.assertEqual(among.rows(*asked), told)
+
+    def test_bytes(self):
+        """The oldest pieces of all panes go first, where they are too many bytes; pieces that were read before are as they were."""
+        room = RowsRoom(1000, 20 * (BESIDE + 9002))
+        one, other = room.pane(1, 1), room.pane(2, 1)
+        for number in range(15):
+            for rows in (one, other):
+                rows.add(1, rows_of(f"{number}".ljust(9000, "x")))
+        self.assertLessEqual(room.kept, room.most_bytes)
+        self.assertEqual([(rows.first, rows.end, len(rows.pieces)) for rows in (one, other)], [(5, 15, 10), (5, 15, 10)])
+        room.drop(other)
+        self.assertEqual(room.kept, 10 * (BESIDE + 9002))
+        room.drop(one)
+        self.assertEqual((room.kept, room.held), (0, 0))
+
+    def test_cleared(self):
+        """None is kept of what came before; numbers go on."""
+        rows = kept(RowsRoom(10), ["a", "b"])
+        rows.clear()
+        self.assertEqual((rows.first, rows.end, rows.room.kept), (2, 2, 0))
+        rows.add(1, rows_of("c"))
+        self.assertEqual(all_rows(rows), (2, [" c"]))
+
+    def test_lost(self):
+        """A row says that rows are lost, and how many where that is known; what is lost together is told by one."""
+        rows = kept(RowsRoom(10), ["a"])
+        rows.lose(3)
+        rows.lose(4)
+        rows.add(1, rows_of("b"))
+        rows.lose(1)
+        rows.lose(None)
+        rows.lose(2)
+        self.assertEqual(all_rows(rows), (0, [" a", LOST_ROWS.format(7)[:-1], " b", LOST_SOME[:-1]]))
+        rows.clear()
+        rows.lose(5)
+        self.assertEqual(all_rows(rows), (4, [LOST_ROWS.format(5)[:-1]]))
+
+    def test_account(self):
+        """What is counted is what is there, whatever is done."""
+        random.seed(3)
+        room = RowsRoom(50, 60_000, 20_000)
+        panes = [room.pane(pane, 1) for pane in range(1, 4)]
+        held = []
+        for _ in range(3000):
+            rows = random.choice(panes)
+            does = random.randrange(10)
+            if does < 6:
+                texts = ["x" * random.choice((1, 10, 3000))] * random.randrange(1, 5)
+                rows.add(len(texts), rows_of(*texts))
+            elif does == 6:
+                rows.lose(random.choice((None, 2)))
+            elif does == 7:
+                held.append(room.snapshot(rows, 1, rows_of("x" * random.randrange(2000))))
+            elif does == 8 and held:
+                room.release(held.pop(random.randrange(len(held))))
+            elif random.random() < 0.05:
+                rows.clear()
+            pieces = {id(piece): piece for rows in panes for piece in rows.pieces}
+            alone = {id(piece): piece for one in room.snapshots for piece in one.pieces if id(piece) not in pieces}
+            self.assertEqual(room.kept, sum(piece.charge() for piece in pieces.values()))
+            self.assertEqual(room.held, sum(piece.charge() for piece in alone.values()))
+            self.assertLessEqual(room.kept + room.held, 60_000)
+            self.assertLessEqual(room.held, 20_000)
+            for rows in panes:
+                first, found = rows.range().rows(0, 99)
+                self.assertEqual((first, first + len(found)), (rows.first, rows.end))
+
+
+class Snapshots(unittest.TestCase):
+    """A pane's rows at one moment."""
+
+    def test_stays(self):
+        """What is kept then, and the screen's rows behind it, stay until it is released, whatever comes."""
+        room = RowsRoom(3)
+        rows = kept(room, ["a", "b", "c"])
+        snapshot = room.snapshot(rows, 2, rows_of("s", "t"))
+        rows.add(3, rows_of("d", "e", "f"))
+        rows.lose(None)
+        self.assertEqual(snapshot.rows(0, 9), (0, [b" a", b" b", b" c", b" s", b" t"]))
+        self.assertEqual((snapshot.first, snapshot.kept_end, snapshot.end), (0, 3, 5))
+        rows.clear()
+        self.assertEqual(snapshot.rows(2, 9), (2, [b" c", b" s", b" t"]))
+        self.assertGreater(room.held, 0)
+        room.release(snapshot)
+        room.release(snapshot)
+        self.assertEqual((room.kept, room.held), (0, 0))
+
+    def test_held(self):
+        """Snapshots that hold too much are lost, the oldest first, and so is one that alone holds more than may be."""
+        room = RowsRoom(10, 1 << 20, 3000)
+        rows = kept(room, ["a"])
+        snapshots = [room.snapshot(rows, 1, rows_of("x" * 1000)) for _ in range(4)]
+        self.assertEqual([one.is_lost for one in snapshots], [True, True, False, False])
+        self.assertEqual(snapshots[0].rows(0, 9)[1], [])
+        self.assertTrue(room.snapshot(rows, 1, rows_of("x" * 3000)).is_lost)
+        self.assertEqual((room.held, room.snapshots), (0, []))
+
+
+class Sought(unittest.TestCase):
+    """What is looked for."""
+
+    def found(self, among, start, is_back, text):
+        """The row in which a text is found."""
+        search = Search(among, start, is_back, text)
+        all_of(search)
+        return search.found
+
+    def test_characters(self):
+        """Styles are between characters, and none of these."""
+        self.assertEqual(characters(b" a\x1b[1;31mb\x1b[0m\n+\x1b[38:2::1:2:3mm\n"), " ab\n+m\n")
+        self.assertEqual(characters("\u00e9\u4e00".encode() + b"\xff"), "\u00e9\u4e00\ufffd")
+
+    def test_rows(self):
+        """The next row behind a number, or before it, by smart case."""
+        among = kept(RowsRoom(99), ["Alpha", "beta"], ["\x1b[1mal\x1b[0mpha", "gamma"]).range()
+        for start, is_back, text, row in ((0, False, "alpha", 2), (-1, False, "alpha", 0), (-1, False, "Alpha", 0),
+                                          (0, False, "Alpha", None),
+                                          (4, True, "alpha", 2), (2, True, "alpha", 0), (0, True, "alpha", None), (9, True, "a", 3),
+                                          (1, False, "ET", None), (0, False, "1m", None), (3, False, "a", None)):
+            self.assertEqual(self.found(among, start, is_back, text), row, (start, is_back, text))
+
+    def test_joined(self):
+        """Rows that went on are one text, over pieces too; the row is that in which it begins."""
+        texts = ["+ab", "+cd", "+", "ef", "ab"]
+        for cut in range(1, 5):
+            among = KeptRange(0, 5, [Piece(0, cut, rows_of(*texts[:cut])), Piece(cut, 5 - cut, rows_of(*texts[cut:]))])
+            for start, is_back, text, row in ((-1, False, "bc", 0), (-1, False, "bcdef", 0), (0, False, "bc", None), (5, True, "de", 1),
+                                              (5, True, "ab", 4), (4, True, "ab", 0), (-1, False, "fa", None), (2, True, "ef", None),
+                                              (5, True, "ef", 3), (1, True, "abcdef", 0)):
+                self.assertEqual(self.found(among, start, is_back, text), row, (cut, start, is_back, text))
+
+    def test_first(self):
+        """What isn't kept any more isn't found, though its piece is there."""
+        room = RowsRoom(2)
+        rows = room.pane(1, 1)
+        rows.add(4, rows_of("x1", "x2", "y", "z"))
+        self.assertEqual(self.found(rows.range(), 9, True, "x"), None)
+        self.assertEqual(self.found(KeptRange(1, 4, rows.pieces), 9, True, "x"), 1)
+
+    def test_any(self):
+        """As by a plain definition, on rows by chance."""
+        random.seed(5)
+        for _ in range(300):
+            texts = ["+" * random.randrange(2) + "".join(random.choices("abB", k=random.randrange(4))) for _ in range(12)]
+            cuts = sorted(random.sample(range(1, 12), 3))
+            pieces = [Piece(a, b - a, rows_of(*texts[a:b])) for a, b in zip([0, *cuts], [*cuts, 12])]
+            text = "".join(random.choices("abB", k=random.randrange(1, 6)))
+            start, is_back = random.randrange(-1, 13), bool(random.randrange(2))
+            self.assertEqual(self.found(KeptRange(0, 12, pieces), start, is_back, text), plain(texts, start, is_back, text), (texts, text))
+
+    def test_quick(self):
+        """10,000 rows are looked through in much less than 50 ms."""
+        rows = kept(RowsRoom(10_000), *([f"{number} {'some text ' * 5}" for number in range(at, at + 300)] for at in range(0, 12000, 300)))
+        best = 1.0
+        for _ in range(5):
+            begin = time.process_time()
+            self.assertIsNone(self.found(rows.range(), rows.end, True, "none of these"))
+            best = min(best, time.process_time() - begin)
+        self.assertLess(best, 0.05)
+
+
+def plain(texts, start, is_back, text):
+    """What is found, by the definition alone."""
+    fold = str.lower if text == text.lower() else str
+    found = []
+    for row in range(len(texts)):
+        # The text from this row on, as far as rows went on.
+        joined, place = fold(texts[row].lstrip("+")), row
+        own = len(joined)
+        while texts[place].startswith("+") and place + 1 < len(texts):
+            place += 1
+            joined += fold(texts[place].lstrip("+"))
+        at = joined.find(text)
+        if 0 <= at < own:
+            found.append(row)
+    rows = [row for row in found if (row < start if is_back else row > start)]
+    return (max(rows) if is_back else min(rows)) if rows else None
