@@ -7,8 +7,9 @@ import time
 from collections.abc import Callable
 
 from roam_live import terminal
-from roam_live.bindings import NEWEST, Typing, help_with, spelled
-from roam_live.choosing import Choosing
+from roam_live.asked_line import LEAVES, TAKES, AskedLine
+from roam_live.bindings import NEWEST, PICKS, Typing, help_with, spelled
+from roam_live.choosing import Choosing, ChoosingWindow
 from roam_live.copying import Copying, CopyEvent
 from roam_live.display import NO_SIZE, Display
 from roam_live.keys import Key, Keys
@@ -22,12 +23,14 @@ from roam_live.program import has_others
 from roam_live.programs import told
 from roam_live.following import PanesFollower
 from roam_live.places import BESIDE, MOVES, Places
+from roam_live.shells_link import LEAVE_OTHERS
 
 TYPE_CHECKING = False
 if TYPE_CHECKING:
     from roam_live.any_session import AnySession
     from roam_live.bindings import Mode
     from roam_live.shells_link import ShellsLink
+    from roam_live.window_wishes import WindowWishes
 
 # An escape that nothing follows for so many seconds is the key.
 ESCAPE_WAIT = 0.025
@@ -36,7 +39,10 @@ ESCAPE_WAIT = 0.025
 KEYS = ("char ", "key ")
 
 # The wishes that are granted while something stands in the session's place. Nothing is typed then, since nobody would see where it goes.
-UNDER_COVER = ("detach", "suspend", "repaint", "help", "no", "scrolled")
+UNDER_COVER = ("detach", "suspend", "repaint", "help", "no", "scrolled", "picked", "line")
+
+# What the wishes begin with that are for a window: to go there, which is granted in any case, or what changes it.
+GOES, WINDOW = "go ", "window "
 
 # So many seconds a line stands that tells how the session is made as large as the terminal, or why it isn't.
 FITS_TOLD = 3.0
@@ -51,8 +57,26 @@ REFUSES = 2.5
 PASTE_TOLD = 3.0
 NO_ANSWER = "nothing is pasted: a question was there"
 
+# What is told of a paste that is begun in a window that is gone before its end.
+WINDOW_GONE = "nothing is pasted: its window is gone"
+
+# So many seconds others have for leaving, and a line stands that tells how many did.
+LEAVES_IN = 2.0
+OTHERS_STAY = "the others can't be detached: what keeps the shells doesn't answer, or is an earlier roam's"
+
+# What waits in the loop for a window, and is nothing in another.
+OF_WINDOW = ("fit", "others", "size", "given", "motion", "border", "untold")
+
 # For so many seconds a session is new, and goes by its terminal's size, whatever that is: a window may get its size once it is there.
 NEW = 2.0
+
+
+# No key at all.
+NO_KEY = Key("", "")
+
+
+def nothing() -> None:
+    """Does nothing."""
 
 
 class Commands:
@@ -79,6 +103,12 @@ class Commands:
         self.showed_all = False
         self.copying, self.choosing = Copying(self, loop), Choosing(self)
         display.moved = self.fit_drawn
+        # The windows of the session, and a list of them, where it may have several.
+        self.windows: WindowWishes | None = None
+        self.choosing_window: ChoosingWindow | None = None
+        # What is done where a question is answered by yes; and the line that is asked for, with what is done with it.
+        self.asks: Callable[[], object] = nothing
+        self.asked_line: tuple[AskedLine, Callable[[str], object]] | None = None
         self.pastes = Pastes(link, panes, shells, loop, self.unpasted, lambda line: display.tell(line, PASTE_TOLD))
         # The session's size and the labels of its panes, as they were told last.
         self.known: tuple[terminal.Size, str] = (NO_SIZE, "")
@@ -103,8 +133,10 @@ class Commands:
             self.loop.later("escape", ESCAPE_WAIT, lambda: self.typed(self.keys.ended()))
 
     def typed(self, keys: list[Key]) -> None:
-        """Takes keys."""
-        for key in keys:
+        """Takes keys; those behind one that goes to another window, or opens one, are for that."""
+        for place, key in enumerate(keys):
+            if self.windows and self.windows.takes(self, keys[place:]):
+                break
             if key.name == COLOUR or key.name == MOUSE and self.typing.mode != self.typing.pasting:
                 self.reported(key)
                 continue
@@ -125,18 +157,23 @@ class Commands:
 
     def take(self, key: Key) -> None:
         """Takes a key. Under a cover nothing is typed; the prefix means there what it always does."""
-        if self.copying.takes(key) or self.choosing.takes(key):
+        if self.typing.ends_picking(key, time.monotonic()):
+            self.display.end_told()
+        if self.copying.takes(key) or self.choosing.takes(key) or self.choosing_window and self.choosing_window.takes(key):
             return
         before = self.typing.mode
         acts, wish = self.typing.asked(key, time.monotonic(), self.display.outer.size()[0])
         self.take_pasted(key, before)
         if self.paused:
             is_pasted = before == self.typing.pasting
+            if wish.startswith(GOES):
+                self.grant(wish, key)
+                return
             self.leave("[left]" if wish == "detach" or key.name in ("\x03", "q") and not is_pasted else None)
             return
         if self.display.cover:
             acts = [act for act in acts if act == NEWEST]
-            wish = "no" if wish == "yes" else wish if wish in UNDER_COVER else ""
+            wish = "no" if wish == "yes" else wish if wish in UNDER_COVER or wish.startswith(GOES) else ""
         self.act(*acts)
         self.grant(wish, key)
 
@@ -153,7 +190,7 @@ class Commands:
 
     def is_full(self) -> bool:
         """Whether so much waits behind a paste, or for rows, that nothing more is to come."""
-        return self.pastes.is_full() or self.copying.is_full()
+        return self.pastes.is_full() or self.copying.is_full() or self.windows is not None and self.windows.is_full()
 
     def unpasted(self) -> str:
         """Why nothing is pasted now; nothing where it is."""
@@ -182,7 +219,7 @@ class Commands:
                 self.move(word, int(pane) if word == "focus" else 0)
         if any(act.startswith(MOVES) for act in acts):
             self.copying.focus_moved(acts)
-            self.choosing.close()
+            self.close_lists()
         if acts and acts[-1].startswith(KEYS):
             self.note_key()
 
@@ -241,6 +278,35 @@ class Commands:
         """Does what is left to do where the person leaves."""
         self.act(*self.typing.left())
 
+    # ---- from window to window
+
+    def has_windows(self, windows: WindowWishes) -> None:
+        """Has windows that are known here."""
+        self.windows, self.choosing_window = windows, ChoosingWindow(self, windows)
+
+    def part(self) -> None:
+        """Does what is left to do where the person goes to another window: what was drawn, and waited for, is this window's."""
+        if self.typing.is_scrolling():
+            self.end_scroll()
+        self.left()
+        self.copying.close()
+        self.close_lists()
+        self.pointing.end_drag()
+        self.pastes.break_off()
+        self.given = None
+        for name in OF_WINDOW:
+            self.loop.drop(name)
+
+    def follow_on(self, before: Commands, showed_all: bool) -> None:
+        """Goes on in this window with what the person has begun elsewhere: an escape, a paste, a question or a line that is asked for. The
+        window may have been shown whole as it was left."""
+        self.keys, self.typing, self.prefix, self.help = before.keys, before.typing, before.prefix, before.help
+        self.asks, self.asked_line, self.pointing.is_on = before.asks, before.asked_line, before.pointing.is_on
+        self.display.moved = self.fit_drawn
+        self.is_fitted, self.showed_all = False, showed_all
+        if self.typing.mode == self.typing.pasting:
+            self.pastes.begin(WINDOW_GONE)
+
     def end_scroll(self) -> None:
         """Ends the scroll mode, where the newest rows are."""
         self.act(*self.typing.left())
@@ -261,12 +327,17 @@ class Commands:
             self.display.show(self.help)
         elif wish.startswith("copy"):
             self.copy(wish)
+        elif wish == "row":
+            self.switch_row()
+        elif wish.startswith((GOES, WINDOW)):
+            if self.windows:
+                self.windows.grant(wish)
         elif wish == "unknown":
             self.display.tell(f"{self.prefix} {spelled(key.name)} means nothing; {self.prefix} ? shows the keys")
         elif wish and not self.link.watches:
-            self.change(wish)
+            self.change(wish, key)
 
-    def change(self, wish: str) -> None:
+    def change(self, wish: str, key: Key = NO_KEY) -> None:
         """Does what somebody who only watches may not."""
         if wish == "scroll":
             self.display.tell(f"{self.typing.view} rows back: PgUp PgDn up down g G scroll, q ends it", None)
@@ -276,14 +347,79 @@ class Commands:
             self.close()
         elif wish == "mouse":
             self.pointing.switch()
+        elif wish == "panes":
+            self.display.tell(f"{self.display.labels}: a digit goes to the pane of this number", PICKS)
+        elif wish == "leave others":
+            self.leave_others()
+        elif wish == "line":
+            self.type_line(key)
         elif wish in ("paste", "choose"):
             self.copying.close()
             self.choosing.ask(is_newest=wish == "paste")
         elif wish in BESIDE:
             self.go(wish)
-        elif wish in ("yes", "no", "scrolled"):
-            self.act(*(["close"] if wish == "yes" else []))
+        elif wish in ("yes", "no"):
+            self.answer(wish == "yes")
+        elif wish in ("scrolled", "picked"):
             self.display.end_told()
+
+    # ---- questions
+
+    def ask(self, text: str, does: Callable[[], object]) -> None:
+        """Asks a question, and has something done where the next key is y."""
+        self.asks = does
+        self.display.ask(text)
+        self.typing.ask()
+
+    def answer(self, is_yes: bool) -> None:
+        """Does what was asked, or not."""
+        does, self.asks = self.asks, nothing
+        self.display.end_question()
+        if is_yes:
+            does()
+
+    def ask_line(self, asked: AskedLine, does: Callable[[str], object]) -> None:
+        """Asks for a line, and has something done with what is typed there."""
+        self.asked_line, self.typing.mode = (asked, does), self.typing.line
+        self.display.ask(asked.line(), is_typed=True)
+
+    def type_line(self, key: Key) -> None:
+        """Takes a key of the line that is asked for: one that ends it, or that edits it; of a paste the text."""
+        if not self.asked_line:
+            return
+        asked, does = self.asked_line
+        if key.name in LEAVES or key.name in TAKES:
+            self.asked_line, self.typing.mode = None, self.typing.plain
+            self.display.end_question()
+            if key.name in TAKES:
+                does(asked.text)
+            return
+        if key.name == "text":
+            asked.add(key.text)
+        else:
+            asked.edit(key.name)
+        self.display.ask(asked.line(), is_typed=True)
+
+    # ---- others, and the last row
+
+    def leave_others(self) -> None:
+        """Has all other terminals at the session detached."""
+        if not self.shells or not self.shells.peer:
+            self.display.tell(OTHERS_STAY, LEAVES_IN)
+            return
+        self.shells.ask(LEAVE_OTHERS)
+        self.loop.later("others leave", LEAVES_IN, lambda: self.display.tell(OTHERS_STAY, LEAVES_IN))
+
+    def others_left(self, count: str) -> None:
+        """Tells how many others are detached."""
+        self.loop.drop("others leave")
+        self.display.tell(f"{count} other terminal{'' if count == '1' else 's'} detached" if count.isdigit() else OTHERS_STAY, LEAVES_IN)
+
+    def switch_row(self) -> None:
+        """Hides the last row, or shows it again: the session has the row, as by another size of the terminal."""
+        self.resized()
+        self.display.switch_row()
+        self.fit()
 
     # ---- rows that are kept
 
@@ -291,6 +427,14 @@ class Commands:
         """Has what is drawn over a pane go by where that is now."""
         self.copying.fit()
         self.choosing.fit()
+        if self.choosing_window:
+            self.choosing_window.fit()
+
+    def close_lists(self) -> None:
+        """Closes what may be chosen from."""
+        self.choosing.close()
+        if self.choosing_window:
+            self.choosing_window.close()
 
     def copy(self, wish: str) -> None:
         """Opens copy mode in the pane in focus, a page up or in its search where that is asked; where no rows are kept the view that all
@@ -298,7 +442,7 @@ class Commands:
         begins = {"copy page": [CopyEvent(lambda mode: mode.perform("page-up"))],
                   "copy search": [CopyEvent(lambda mode: mode.ask_search())]}.get(wish, [])
         places = self.places()
-        self.choosing.close()
+        self.close_lists()
         if self.copying.is_on():
             self.copying.add(*begins)
         elif places and places.focus:
@@ -320,7 +464,7 @@ class Commands:
 
     def ask_size(self) -> None:
         """Gives the session this terminal's size, where it may have it: what is wider than that is cut for good."""
-        size = self.display.outer.size()
+        size = self.display.room()
         if self.link.watches:
             return
         if not terminal.is_large_enough(size):
@@ -363,7 +507,7 @@ class Commands:
             self.loop.later("fit", FITS_AGAIN, self.fit_first)
             return
         else:
-            self.is_fitted = self.session_size() != NO_SIZE or not terminal.is_large_enough(self.display.outer.size())
+            self.is_fitted = self.session_size() != NO_SIZE or not terminal.is_large_enough(self.display.room())
         self.fit()
 
     def is_fresh(self) -> bool:
@@ -391,7 +535,7 @@ class Commands:
     def fit(self) -> None:
         """Fits the session to this terminal, as far as that may be: a new session goes by each size. Who else is there has to be known for
         the rest, and may be told soon."""
-        size, own = self.given or self.session_size(), terminal.largest(self.display.outer.size())
+        size, own = self.given or self.session_size(), terminal.largest(self.display.room())
         if self.shells:
             self.shells.say_here()
         if self.is_fresh():
@@ -448,8 +592,7 @@ class Commands:
             self.act("close")
         else:
             runs = told({pane: busy[pane]}) if busy and pane else f"whatever runs in {f'pane {pane}' if pane else 'this pane'}"
-            self.display.tell(f"close {runs}? y closes it", None)
-            self.typing.ask()
+            self.ask(f"close {runs}? y closes it", lambda: self.act("close"))
 
     def go(self, way: str) -> None:
         """Puts the pane on a side in focus; the next one where no rectangle is known."""

@@ -107,6 +107,10 @@ class Loop:
         """Has something done before each wait; it tells the moment by which it has to be done again, or None."""
         self.before.append(does)
 
+    def cease(self, does: Callable[[], float | None]) -> None:
+        """Has something done no more before each wait."""
+        self.before = [one for one in self.before if one != does]
+
     def do_due(self) -> None:
         """Does what is due."""
         now = self.clock()

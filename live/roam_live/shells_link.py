@@ -17,6 +17,9 @@ TYPE_CHECKING = False
 if TYPE_CHECKING:
     from roam_live.terminal import Size
 
+# What a terminal says to have all others at the session leave it, and what is told then: to each that it is to leave, and how many do.
+LEAVE, LEAVE_OTHERS, LEFT = "leave", "leave others", "left"
+
 # What a keeper tells of a text that it was given, in words behind the text's name where it refuses it; and by what another is known.
 HELD, PUT, LOST, REFUSED = ANSWERS = ("held", "put", "lost", "refused")
 KEEPER = "keeper"
@@ -59,6 +62,9 @@ class ShellsLink(Following):
         self.giving: dict[str, bytes | int] = {}
         self.given: dict[str, None] = {}
         self.answers: Callable[[str, str, str], object] = lambda name, word, more: None
+        # What is called where this terminal is to leave, and with how many others do, where it had them do so.
+        self.leaves: Callable[[], object] = lambda: None
+        self.others_left: Callable[[str], object] = lambda count: None
         # The lines by which this terminal brings what new panes have, once to each keeper: behind a cut another may have brought since.
         self.brings: list[str] = []
         # The colours of this terminal, as far as it told them, and what of that the keeper wasn't told: each is told them once.
@@ -73,6 +79,16 @@ class ShellsLink(Following):
         self.said, self.reader = "", AnswerReader()
         self.say_here()
         self.ask(WHO)
+
+    def follow_on(self, before: ShellsLink) -> None:
+        """Knows what the keeper was told by an earlier connection of this terminal, which brings nothing twice to one."""
+        self.keeper, self.brings, self.colours, self.untold = before.keeper, before.brings, before.colours, before.untold
+
+    def rename(self, again: str) -> None:
+        """Calls the moment otherwise at which the connection is had again."""
+        if self.again in self.loop.due:
+            self.loop.due[again] = self.loop.due.pop(self.again)
+        self.again = again
 
     def is_connecting(self) -> bool:
         """Whether a connection may be there soon: none is, as where the keeper was launched just before, and few were tried in a row."""
@@ -131,6 +147,10 @@ class ShellsLink(Following):
                 self.answered(name, word, more)
             elif word == KEEPER:
                 self.meet(rest)
+            elif line == LEAVE:
+                self.leaves()
+            elif word == LEFT:
+                self.others_left(rest)
             else:
                 self.others.take(line)
         if self.others.is_whole:

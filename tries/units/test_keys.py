@@ -25,7 +25,8 @@ KEYS = (
 
 # What is typed, and the acts and the wish of the last key.
 ASKED = (
-    (b"\x02%", "", "split right"), (b'\x02"', "", "split down"), (b"\x02x", "", "close"), (b"\x02o", "next", ""), (b"\x027", "focus 7", ""),
+    (b"\x02%", "", "split right"), (b'\x02"', "", "split down"), (b"\x02x", "", "close"), (b"\x02o", "next", ""), (b"\x027", "", "go 7"),
+    (b"\x02q", "", "panes"), (b"\x02q7", "focus 7", "picked"),
     (b"\x02\x1b[A", "", "up"), (b"\x02\x1b[D", "", "left"), (b"\x02\x1b[1;5C", "grow 1", ""), (b"\x02\x1b[1;5A", "grow -1", ""),
     (b"\x02\x1b[1;5C\x1b[1;5C", "grow 1", ""), (b"\x02\x02", "char 2", ""), (b"\x02d", "", "detach"), (b"\x02r", "", "repaint"),
     (b"\x02?", "", "help"), (b"\x02Z", "", "unknown"), (b"\x02[", "", "scroll"), (b"\x02[\x1b[5~", "view 12", "scroll"),
@@ -138,9 +139,15 @@ class Asked(unittest.TestCase):
     def test_wishes(self):
         for text, wish in WISHES:
             self.assertEqual(asked_by(Typing(), b"\x02" + text)[-1], ([], wish), text)
-        for pane in range(1, 10):
-            self.assertEqual(asked_by(Typing(), b"\x02%d" % pane)[-1], ([f"focus {pane}"], ""))
-        self.assertEqual(asked_by(Typing(), b"\x020")[-1], ([], "unknown"))
+        for digit in range(10):
+            self.assertEqual(asked_by(Typing(), b"\x02%d" % digit)[-1], ([], f"go {digit or 10}"))
+            typing, key = Typing(), Key(str(digit), str(digit))
+            asked_by(typing, b"\x02q", 1.0)
+            # A digit is a pane's for three seconds, where it can be one.
+            self.assertEqual([typing.mode == typing.picking, typing.ends_picking(key, 3.9)], [True, digit == 0])
+            typing = Typing()
+            asked_by(typing, b"\x02q", 1.0)
+            self.assertEqual((typing.ends_picking(key, 4.0), typing.mode), (True, typing.plain))
 
     def test_copies(self):
         """Copy mode, its search, and pastes of what was copied are wishes of the front end's own."""
