@@ -29,7 +29,11 @@ class AnySession(Kept, Protocol):
 
     @property
     def folder(self) -> pathlib.Path | None:
-        """Where front ends are noted, and bells and the panes are told; None where no folder is known."""
+        """Where bells and the panes are told; None where no folder is known."""
+
+    @property
+    def common(self) -> pathlib.Path | None:
+        """Where front ends are noted: the folder of the session of which this is a window, or the same."""
 
     def read(self) -> None:
         """Reads anew what is noted of it."""

@@ -260,7 +260,7 @@ def follow(session: AnySession, watches: bool, prefix: str, guessing: str,
     note = None
     try:
         has_mouse, has_clips = wants_mouse(), sets_clipboard()
-        note = noted_front_end(session.folder, "watches" if watches else "edits")
+        note = noted_front_end(session.common, "watches" if watches else "edits")
         return FrontEnd(session, watches, prefix, guessing, is_new, is_whole=is_whole, has_mouse=has_mouse, has_clips=has_clips).run()
     finally:
         session.close()

@@ -16,7 +16,7 @@ class PortSession:
 
     def __init__(self, home: Home, folder: str | None) -> None:
         self.home = home
-        self.folder = pathlib.Path(folder) if folder else None
+        self.folder = self.common = pathlib.Path(folder) if folder else None
         self.own = tempfile.mkdtemp(prefix="roam-terminals-")
         self.terminals = pathlib.Path(self.own, "terminals")
         self.start: subprocess.Popen[bytes] | None = None
