@@ -190,5 +190,5 @@ class BellFollower:
 
     def close(self) -> None:
         """Follows them no more."""
-        self.loop.cease(self.connect)
+        self.loop.end_each(self.connect)
         self.lost()

@@ -165,9 +165,9 @@ def is_relayed(folder: str | os.PathLike[str]) -> bool:
 def brings_to(session: AnySession, watches: bool) -> list[str]:
     """Renews the link of a session, and gives the lines by which this terminal brings its values; nothing by one that only watches, or to
     a session of another machine, to which the far end brings what it has there."""
-    if watches or session.folder is None or session.served != "server" or is_relayed(session.folder):
+    if watches or session.folder is None or session.common is None or session.served != "server" or is_relayed(session.folder):
         return []
-    renew_agent(session.folder)
+    renew_agent(session.common)
     return value_lines(BRINGS, own_values())
 
 
@@ -207,7 +207,7 @@ def shell_lines(session: FolderSession) -> list[str]:
     import shlex
 
     values = asked_values(session)
-    link = link_of(session.folder)
+    link = link_of(session.common)
     if os.path.lexists(link):
         values[AGENT] = link
     return [f"export {name}={shlex.quote(value)}" if value else f"unset {name}" for name, value in values.items()]

@@ -522,14 +522,14 @@ class Commands:
     def has_others(self) -> bool:
         """Whether somebody else types, as the keeper of the shells tells it; else by the notes in the session's folder."""
         told = self.shells.has_others() if self.shells else None
-        return has_others(self.session.folder) if told is None else told
+        return has_others(self.session.common) if told is None else told
 
     def is_alone(self) -> bool:
         """Whether it is known that nobody else types: where no keeper tells it, it isn't known of another machine's session, nor without a
         folder."""
         told = self.shells.has_others() if self.shells else None
         if told is None:
-            return self.session.folder is not None and self.session.served == "server" and not has_others(self.session.folder)
+            return self.session.common is not None and self.session.served == "server" and not has_others(self.session.common)
         return not told
 
     def fit(self) -> None:

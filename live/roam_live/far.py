@@ -16,7 +16,7 @@ from roam_live.loops import Loop, is_taken
 from roam_live.program import Fault, connected_now, noted_front_end, opened_process
 from roam_live.relayed import ENDED, KILLED, LEAVES, WANTS, RelayStream, Waiting
 from roam_live.sealed import PORTS, udp_end
-from roam_live.sessions import FolderSession
+from roam_live.sessions import window_in
 from roam_live.streams import CARRIES, SHELLS
 from roam_live.watches import ShellsWatch
 from roam_live.ways import Ways, finish
@@ -41,7 +41,7 @@ class Far:
         if asked.server:
             self.loop.add(opened_process(asked.server), self.tell_end)
         # Nobody else may be there to see the shells' end.
-        self.place = FolderSession(asked.dir, server=asked.server) if asked.server and asked.dir else None
+        self.place = window_in(asked.dir, asked.server) if asked.server and asked.dir else None
         self.shells = ShellsWatch(self.place, self.loop) if self.place else None
         self.waiting = Waiting()
         self.sockets: dict[int, socket.socket | Carrier] = {}
@@ -233,7 +233,7 @@ class Far:
             return
         self.is_counted = is_there
         if is_there:
-            self.client = noted_front_end(self.asked.dir)
+            self.client = noted_front_end(self.place.common if self.place else self.asked.dir)
         elif self.client:
             with contextlib.suppress(OSError):
                 self.client.unlink()

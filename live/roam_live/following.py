@@ -130,6 +130,11 @@ class Following:
             self.peer.close()
             self.peer = None
 
+    def end(self) -> None:
+        """Follows no more."""
+        self.leave()
+        self.loop.drop(self.again)
+
     def connect(self) -> None:
         """Connects. What is told then is all anew, and what was asked is asked again by who needs it."""
         try:
@@ -145,10 +150,14 @@ class KeeperFollowing(Following):
     so, and what is wrong is told in words, once, and that it is over."""
 
     def __init__(self, path: str, loop: Loop, hears: Callable[[list[str]], object], loses: Callable[[], object],
-                 tells: Callable[[str], None] = say) -> None:
+                 tells: Callable[[str], None] = say, peer: socket.socket | None = None) -> None:
         super().__init__(lambda: connected_now(path), loop, self.heard, loses)
         self.takes, self.tells, self.told = hears, tells, ""
-        peer = connected(path)
+        self.quiet = "panes are quiet"
+        if peer:
+            # Other windows have such moments too.
+            self.again, self.quiet = f"{self.again} {path}", f"{self.quiet} {path}"
+        peer = peer or connected(path)
         # The process that serves, where the system tells it here.
         self.server = SocketPeer.of(peer).process
         self.begin(peer)
@@ -160,11 +169,16 @@ class KeeperFollowing(Following):
             self.ask(KEEPER)
             self.ask(ASIDE)
             self.ask(ASKS)
-        self.loop.later("panes are quiet", QUIET, lambda: self.tell(TELLS_NOTHING))
+        self.loop.later(self.quiet, QUIET, lambda: self.tell(TELLS_NOTHING))
+
+    def end(self) -> None:
+        """Follows no more."""
+        self.loop.drop(self.quiet)
+        super().end()
 
     def heard(self, lines: list[str]) -> None:
         """Takes lines that came."""
-        self.loop.drop("panes are quiet")
+        self.loop.drop(self.quiet)
         if self.told:
             self.told = ""
             self.tells("the panes are followed again")
@@ -172,7 +186,7 @@ class KeeperFollowing(Following):
 
     def lost(self, why: str) -> None:
         """Lets go of a connection, and tells why where that isn't over soon; of a server that is gone another tells."""
-        self.loop.drop("panes are quiet")
+        self.loop.drop(self.quiet)
         if self.faults and not self.is_gone:
             self.tell(why)
         super().lost(why)
@@ -298,8 +312,8 @@ class PanesFollower:
 
     def close(self) -> None:
         """Follows them no more."""
-        self.following.leave()
-        for name in (self.following.again, "panes stand", "clips again"):
+        self.following.end()
+        for name in ("panes stand", "clips again"):
             self.loop.drop(name)
 
     def say(self, words: str) -> None:

@@ -14,7 +14,7 @@ from roam_live.display import Display
 from roam_live.following import AWAITED, PanesFollower
 from roam_live.links import LAST_WAIT, Keeper, StartLink
 from roam_live.loops import Loop
-from roam_live.program import Fault, noted_front_end, opened_process, read, woken
+from roam_live.program import Fault, noted_front_end, read, woken
 from roam_live.shells_link import ShellsLink
 from roam_live.visits import Parting, Visit
 from roam_live.watches import ShellsWatch
@@ -57,12 +57,11 @@ class FrontEnd:
         self.left_at: float | None = None
         self.status = 0
         self.wakeup = woken(signal.SIGWINCH, signal.SIGCONT, signal.SIGTSTP, *LEAVING)
-        served = session.process(session.served)
-        self.server = opened_process(served) if served else None
         self.shells = ShellsWatch(session, self.loop, lambda line: self.display.tell(line, LOSS_TOLD))
         self.display = Display(self.loop, self.say)
         self.parting = Parting(self.loop)
-        self.visit = self.begun(*self.first_window())
+        self.visit = self.begun(session)
+        self.watch_server()
         self.visit.shells.brings = brings_to(session, watches)
         self.windows = WindowWishes(self, self.loop)
         self.commands.has_windows(self.windows)
@@ -103,13 +102,24 @@ class FrontEnd:
         """What keys mean in the window."""
         return self.visit.commands
 
-    def first_window(self) -> tuple[int, AnySession]:
-        """The window where the person is first, the one with the least number; 0 and the session where it has no windows."""
-        for number in self.session.windows():
-            window = self.session.window(number)
-            if window:
-                return number, window
-        return 0, self.session
+    def watch_server(self) -> None:
+        """Sees the end of the server of the window where the person is."""
+        visit = self.visit
+        visit.watch(self.loop, lambda: self.server_ended(visit))
+
+    def server_ended(self, visit: Visit) -> None:
+        """Goes on in another window where the server of this one has ended; where there is none the session has."""
+        visit.watch_no_more(self.loop)
+        if not (visit.number and self.windows.leave(visit.number)):
+            self.leave(*visit.session.ending())
+
+    def reached(self, number: int) -> AnySession | None:
+        """The window of a number, where one is there that isn't about to be ended."""
+        try:
+            window = self.visit.session.window(number)
+        except Fault:
+            return None
+        return window if window.ending()[1] else None
 
     def followed(self, session: AnySession) -> PanesFollower:
         """What follows the panes of a window."""
@@ -124,14 +134,14 @@ class FrontEnd:
         return BellFollower(session.folder, self.loop, lambda pane: self.commands.ring(pane),
                             lambda words: self.display.tell(words, LOSS_TOLD))
 
-    def begun(self, number: int, session: AnySession) -> Visit:
+    def begun(self, session: AnySession) -> Visit:
         """A visit to a window."""
         loop, display = self.loop, self.display
         link, panes = StartLink(session.terminals, self.watches, self.guessing), self.followed(session)
         shells = ShellsLink(session.folder, loop, display.outer.size, self.watches, lambda: commands.others_told())
         shells.leaves, shells.others_left = lambda: self.leave(DETACHED), lambda count: self.commands.others_left(count)
         commands = Commands(session, panes, link, display, loop, self.leave, self.is_new, self.is_whole, shells)
-        return Visit(number, session, link, Keeper(session, link, panes.is_full), panes, shells, self.heard_bells(session), commands)
+        return Visit(session, link, Keeper(session, link, panes.is_full), panes, shells, self.heard_bells(session), commands)
 
     def forget(self, number: int) -> None:
         """Waits for nothing more of a window that is gone."""
@@ -140,9 +150,7 @@ class FrontEnd:
     def go(self, number: int) -> None:
         """Goes to another window, which is shown in place of this one: what was typed here goes on its way. Fault tells why that can't
         be."""
-        session = self.session.window(number)
-        if not session:
-            raise Fault(f"there is no window {number}")
+        session = self.visit.session.window(number)
         before, visit = self.visit, self.parting.taken(number)
         before.showed_all = self.display.shows_all()
         self.parting.add(before)
@@ -150,10 +158,11 @@ class FrontEnd:
             visit.take_up(self.followed(session), self.heard_bells(session))
         else:
             self.is_new = lambda places: False
-            visit = self.begun(number, session)
+            visit = self.begun(session)
             visit.shells.follow_on(before.shells)
             visit.commands.has_windows(self.windows)
         self.visit = visit
+        self.watch_server()
         visit.commands.follow_on(before.commands, visit.showed_all)
         self.display.begin_window()
         if self.link.peer:
@@ -164,8 +173,6 @@ class FrontEnd:
     def join(self) -> None:
         """Has the loop see the session's end, signals, what is typed, and what the terminal takes."""
         outer = self.display.outer
-        if self.server is not None:
-            self.loop.add(self.server, lambda: self.leave(*self.session.ending()))
         self.loop.add(self.wakeup, self.signalled)
         self.loop.add(0, self.typed, hears=lambda: len(self.link.waiting) < TYPED_LIMIT and not self.commands.is_full())
         self.loop.add(outer.end, None, self.show, has_more=outer.has_more)
@@ -340,7 +347,7 @@ class FrontEnd:
             self.display.outer.enter()
             self.ask_colours()
             self.connect()
-            if self.server is None:
+            if self.visit.server is None:
                 self.loop.later("probe", PROBES, self.probe)
             while self.left is None or self.hands_over():
                 self.turn()
@@ -363,7 +370,7 @@ def follow(session: AnySession, watches: bool, prefix: str, guessing: str,
     note = None
     try:
         has_mouse, has_clips = wants_mouse(), sets_clipboard()
-        note = noted_front_end(session.folder, "watches" if watches else "edits")
+        note = noted_front_end(session.common, "watches" if watches else "edits")
         return FrontEnd(session, watches, prefix, guessing, is_new, is_whole=is_whole, has_mouse=has_mouse, has_clips=has_clips).run()
     finally:
         session.close()

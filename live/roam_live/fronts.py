@@ -27,14 +27,16 @@ APART = 0.5
 class Fronts:
     """Looks up what runs in front while somebody wants it, and tells it by a call: a pane's number, its life, and a printable name."""
 
-    def __init__(self, loop: Loop, tells: Callable[[int, int, str], object]) -> None:
+    def __init__(self, loop: Loop, tells: Callable[[int, int, str], object], leads: str = "") -> None:
         self.loop, self.tells = loop, tells
+        # What moments are called begins so, where other windows have such too.
+        self.leads = leads
         self.is_wanted = False
         self.looked: dict[int, float] = {}
 
     def touched(self, pane: LookedUp, soon: float = SOON) -> None:
         """Takes note that something was typed or written in a pane."""
-        name = f"front {pane.number}"
+        name = f"{self.leads}front {pane.number}"
         if self.is_wanted and name not in self.loop.due:
             moment = max(self.loop.clock() + soon, self.looked.get(pane.number, -math.inf) + APART)
             self.loop.at(name, moment, lambda: self.look(pane))
@@ -48,5 +50,5 @@ class Fronts:
 
     def drop(self, number: int) -> None:
         """Forgets a pane that is gone."""
-        self.loop.drop(f"front {number}")
+        self.loop.drop(f"{self.leads}front {number}")
         self.looked.pop(number, None)

@@ -1,6 +1,7 @@
 """What a process waits for: ends that come and go, with what is done there, and moments."""
 from __future__ import annotations
 
+import math
 import select
 import selectors
 import time
@@ -20,6 +21,9 @@ if TYPE_CHECKING:
     Does = Callable[[], object]
 
 READ, WRITE = selectors.EVENT_READ, selectors.EVENT_WRITE
+
+# The system's select takes descriptors below this.
+MOST_SELECTED = 1024
 
 
 def always() -> bool:
@@ -47,6 +51,19 @@ def comes(end: End, seconds: float) -> bool:
 def is_taken(end: End, seconds: float) -> bool:
     """Whether an end takes something within so many seconds."""
     return bool(ready(end, WRITE, seconds))
+
+
+def polled(reads: list[int], writes: list[int], seconds: float | None) -> dict[int, int]:
+    """The events that these ends have within so many seconds, also of those that are more than may be selected."""
+    poll = select.poll()
+    for end in {*reads, *writes}:
+        poll.register(end, (select.POLLIN if end in reads else 0) | (select.POLLOUT if end in writes else 0))
+    found = {}
+    for end, events in poll.poll(None if seconds is None else math.ceil(seconds * 1000)):
+        is_odd = events & ~(select.POLLIN | select.POLLOUT)
+        found[end] = ((READ if end in reads and (events & select.POLLIN or is_odd) else 0)
+                      | (WRITE if end in writes and (events & select.POLLOUT or is_odd) else 0))
+    return found
 
 
 class LoopEnd:
@@ -107,9 +124,10 @@ class Loop:
         """Has something done before each wait; it tells the moment by which it has to be done again, or None."""
         self.before.append(does)
 
-    def cease(self, does: Callable[[], float | None]) -> None:
-        """Has something done no more before each wait."""
-        self.before = [one for one in self.before if one != does]
+    def end_each(self, does: Callable[[], float | None]) -> None:
+        """What isn't needed any more isn't done before each wait."""
+        if does in self.before:
+            self.before.remove(does)
 
     def do_due(self) -> None:
         """Does what is due."""
@@ -130,6 +148,8 @@ class Loop:
                 reads.append(number)
             if events & WRITE:
                 writes.append(number)
+        if max([*reads, *writes], default=0) >= MOST_SELECTED:
+            return polled(reads, writes, seconds)
         # This needs no descriptor of its own, takes any file, and as many as there are where the limit was lowered since.
         readable, writable, _ = select.select(reads, writes, (), seconds)
         found = dict.fromkeys(readable, READ)

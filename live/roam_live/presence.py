@@ -2,13 +2,23 @@
 from __future__ import annotations
 
 import os
+import time
 from collections import namedtuple
+from collections.abc import Callable
 
 # The word by which a terminal says that it is there, or that its size is another; and that by which it asks to be told of the others.
 HERE, WHO = "here", "who"
 
 # What is told then: that another is there, or has another size, that it has left, and, behind these, how many others there are.
 THERE, GONE, OTHERS = "there", "gone", "others"
+
+# The word by which it is asked which terminals are there, of all windows; that by which each is told, that behind which one is told to leave,
+# and what that is told.
+CLIENTS, CLIENT, LEAVE = "clients", "client", "leave"
+
+# So many seconds a terminal that left is taken for the same that comes again, as to another window; and so many are known.
+STAYS = 5.0
+MOST_ATTENDED = 256
 
 # The longest name of a terminal, what one does, and the highest numbers of its rows and columns, and of terminals.
 LONGEST_NAME = 64
@@ -59,6 +69,31 @@ def terminal_name() -> str:
         path = "?"
     name = f"{os.uname().nodename[:32]}:{path[-31:]}"
     return "".join(letter if "!" <= letter <= "~" else "?" for letter in name)
+
+
+class Attended:
+    """Since when terminals are at a session, by the clock of the day: one that goes from window to window stays."""
+
+    def __init__(self, clock: Callable[[], float] = time.time) -> None:
+        self.clock = clock
+        # Since when each is there, and when it left, where it did.
+        self.since: dict[str, tuple[float, float | None]] = {}
+
+    def comes(self, name: str, now: float) -> int:
+        """Takes note of a terminal that comes, and tells since when it is there."""
+        since, left = self.since.get(name, (self.clock(), None))
+        if left is not None and now > left + STAYS:
+            since = self.clock()
+        self.since.pop(name, None)
+        self.since[name] = since, None
+        while len(self.since) > MOST_ATTENDED:
+            del self.since[next(iter(self.since))]
+        return int(since)
+
+    def leaves(self, name: str, now: float) -> None:
+        """Takes note of one that left."""
+        if name in self.since:
+            self.since[name] = self.since[name][0], now
 
 
 class ToldOthers:

@@ -11,13 +11,22 @@ from roam_live.words import printable
 # What a pane may lose without a question.
 SHELLS = {"sh", "ash", "bash", "dash", "zsh", "fish", "ksh", "mksh", "csh", "tcsh", "nu", "xonsh", "elvish", "rc", "es"}
 
+# What tells a program in a pane which pane that is: the folder of its window, and its number there.
+PANE = "ROAM_PANE"
+
 # The places of a process's foreground group behind its name in /proc, from 0.
 FOREGROUND = 5
 
 
-def busy_panes(shells: int) -> dict[int, str] | None:
-    """The panes in which another program than a shell has the terminal, and its name, by the process that keeps the shells; None where
-    the system doesn't tell, or tells of such a program and not in which pane it is."""
+def busy_panes(shells: int, folder: str = "") -> dict[int, str] | None:
+    """The panes in which another program than a shell has the terminal, and its name, by the process that keeps the shells: of one
+    window, where its folder is named. None where the system doesn't tell, or tells of such a program and not in which pane it is."""
+    busy = busy_programs(shells)
+    return None if busy is None else {pane: name for (where, pane), name in busy.items() if folder in ("", where)}
+
+
+def busy_programs(shells: int) -> dict[tuple[str, int], str] | None:
+    """The same of all windows, by their folders and the panes there."""
     try:
         own = pathlib.Path(f"/proc/{shells}/task/{shells}/children").read_text(encoding="utf-8").split()
     except OSError:
@@ -29,22 +38,37 @@ def busy_panes(shells: int) -> dict[int, str] | None:
             if pane is None:
                 return None
             found[pane] = name
-    # What is to become a pane's command isn't that yet.
-    found.pop(0, None)
+    # What is to become a pane's command isn't that yet, and other processes are none.
+    found.pop(NOWHERE, None)
     return found
 
 
-def pane_of(process: str) -> int | None:
-    """The pane of a process, by its environment: 0 where that names none, or the process has ended, and None where it can't be read."""
+# The pane of a process that is in none.
+NOWHERE = "", 0
+
+
+def pane_of(process: str) -> tuple[str, int] | None:
+    """The pane of a process, and the folder of its window, by its environment: nowhere where that names none, or the process has ended, and
+    None where it can't be read."""
     try:
         words = pathlib.Path(f"/proc/{process}/environ").read_bytes().split(b"\0")
     except PermissionError:
         return None
     except OSError:
-        return 0
-    with contextlib.suppress(ValueError):
-        return next((int(word.rpartition(b":")[2]) for word in words if word.startswith(b"ROAM_PANE=")), 0)
-    return 0
+        return NOWHERE
+    leads = f"{PANE}=".encode()
+    return next((pane_in(os.fsdecode(word[len(leads) :])) for word in words if word.startswith(leads)), NOWHERE)
+
+
+def pane_in(value: str) -> tuple[str, int]:
+    """The folder and the pane that a value of the environment names; nowhere where it names none."""
+    folder, _, pane = value.rpartition(":")
+    return (folder, int(pane)) if pane.isascii() and pane.isdigit() and len(pane) == 1 and pane != "0" else NOWHERE
+
+
+def own_pane() -> tuple[str, int]:
+    """The pane in which this process runs, and the folder of its window; nowhere where it runs in none."""
+    return pane_in(os.environ.get(PANE, ""))
 
 
 def foreground(process: str) -> str:
@@ -96,3 +120,8 @@ def is_shell(name: str) -> bool:
 def told(busy: dict[int, str]) -> str:
     """Which programs run in which panes, in words."""
     return " and ".join(f"{name} in pane {pane}" for pane, name in sorted(busy.items()))
+
+
+def told_in_windows(busy: dict[tuple[int, int], str]) -> str:
+    """Which programs run in which panes of which windows, in words."""
+    return " and ".join(f"{name} in pane {pane} of window {window}" for (window, pane), name in sorted(busy.items()))

@@ -12,7 +12,8 @@ from roam_live.brought import bring
 from roam_live.choices import wants_udp
 from roam_live.program import TOOLS
 from roam_live.relayed import greeting, read_greeting
-from roam_live.sessions import NearSession, FolderSession, base
+from roam_live.sessions import NearSession, FolderSession, base, check_name
+from roam_live.targets import session_of, target_of
 
 TYPE_CHECKING = False
 if TYPE_CHECKING:
@@ -83,15 +84,17 @@ def is_first_start(places: Places | None) -> bool:
 def carry(name: str, launched: Callable[[FolderSession], bool]) -> int:
     """Carries a session's datagrams over standard input and output. One that the other end knew and that has ended isn't launched anew;
     whether another runs, or was begun halfway, a call tells under its lock. What sshd set here is brought to the session."""
-    wanted = read_greeting(0)
-    session = FolderSession.named(name)
+    wanted, target = read_greeting(0), target_of(name)
+    check_name(target.name)
+    session = session_of(target)
     if wanted == "-":
         with session.locked():
             if not launched(session):
                 session.launch()
-    elif not session.find() or session.id() != wanted:
+    elif not session.find() or all(window.id() != wanted for window in session.windows()):
         os.write(1, greeting("0"))
         return 0
-    bring(session)
-    words = [str(TOOLS / "relay"), "--far", "--greeted", "--server", str(session.process("server")), "--dir", str(session.folder), "-"]
+    window = next((one for one in session.windows() if one.id() == wanted), None) or session.window(target.window)
+    bring(window)
+    words = [str(TOOLS / "relay"), "--far", "--greeted", "--server", str(window.process("server")), "--dir", str(window.folder), "-"]
     return os.execv(words[0], words)

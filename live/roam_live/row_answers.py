@@ -3,7 +3,7 @@ from __future__ import annotations
 
 from collections.abc import Callable
 
-from roam_live.row_keeping import KeptPane, RowKeeper
+from roam_live.row_keeping import KeptPane, RowKeeper, pane_key, pane_of_key
 from roam_live.row_pieces import KeptRange, Search, Snapshot
 
 # So many seconds are spent at once on what is looked for, and so many pass between two lines that tell how many rows came.
@@ -30,8 +30,10 @@ class RowAsker:
     it didn't ask for, and one is for an answer that came later than the question, behind which its next question is taken."""
 
     def __init__(self, keeper: RowKeeper, answer: Callable[[bytes], object], tells: Callable[[str], object],
-                 goes_on: Callable[[], object]) -> None:
+                 goes_on: Callable[[], object], window: int = 0) -> None:
         self.keeper, self.answer, self.tells, self.goes_on = keeper, answer, tells, goes_on
+        # The window whose panes are meant.
+        self.window = window
         self.snapshot: Snapshot | None = None
         # How many rows are known to have come since, and when that may be told again.
         self.more, self.more_due = 0, 0.0
@@ -71,12 +73,16 @@ class RowAsker:
         """Answers with a line, and bytes behind it."""
         self.answer(f"{line}\n".encode() + data)
 
+    def key(self, pane: int) -> int:
+        """The number of a pane among those of all windows."""
+        return pane_key(self.window, pane)
+
     def range(self, pane: int, life: int) -> KeptRange | None:
         """The rows that are meant: those of the snapshot that is held, else those that are kept now."""
         held = self.snapshot
-        if held and (held.pane, held.life) == (pane, life):
+        if held and (held.pane, held.life) == (self.key(pane), life):
             return None if held.is_lost else held
-        kept = self.keeper.pane(pane, life)
+        kept = self.keeper.pane(self.key(pane), life)
         return kept.rows.range() if kept else None
 
     def count(self, pane: int, life: int) -> None:
@@ -115,7 +121,7 @@ class RowAsker:
         """Asks for a snapshot, which is told once it is there; it takes the place of another."""
         self.let_go()
         self.awaited, self.is_asking = self.awaited + 1, True
-        self.keeper.ask_snapshot(pane, life, lambda snapshot: self.take_snapshot(pane, life, snapshot))
+        self.keeper.ask_snapshot(self.key(pane), life, lambda snapshot: self.take_snapshot(pane, life, snapshot))
         self.is_asking = False
 
     def take_snapshot(self, pane: int, life: int, snapshot: Snapshot | None) -> None:
@@ -136,7 +142,7 @@ class RowAsker:
 
     def release(self, pane: int, life: int) -> None:
         """Lets a snapshot go."""
-        if self.snapshot and (self.snapshot.pane, self.snapshot.life) == (pane, life):
+        if self.snapshot and (self.snapshot.pane, self.snapshot.life) == (self.key(pane), life):
             self.let_go()
 
     def let_go(self) -> None:
@@ -148,7 +154,7 @@ class RowAsker:
     def log(self, pane: int, life: int, first: int) -> None:
         """Tells each row from a number on as it comes, until the pane is gone; the last screen too then."""
         self.unlog()
-        self.logged = self.keeper.pane(pane, life)
+        self.logged = self.keeper.pane(self.key(pane), life)
         if self.logged:
             self.logged.logs += 1
             self.keeper.logs += 1
@@ -194,7 +200,7 @@ class RowAsker:
         if now < self.more_due:
             return self.more_due
         self.more, self.more_due = kept.rows.end - held.kept_end, now + TELLS_MORE
-        self.tells(f"more {held.pane} {held.life} {self.more}")
+        self.tells(f"more {pane_of_key(held.pane)[1]} {held.life} {self.more}")
         return None
 
     def tell_logged(self) -> bool:
@@ -206,12 +212,12 @@ class RowAsker:
         first, found = rows.range().rows(self.next_row, rows.end) if rows.end > self.next_row else (0, [])
         if found:
             self.next_row = first + len(found)
-            self.say_rows(rows.pane, rows.life, first, found)
+            self.say_rows(pane_of_key(rows.pane)[1], rows.life, first, found)
             return True
         self.is_late = False
         if logged.is_gone or logged.has_last and self.next_row == rows.end:
             self.unlog()
-            self.say(f"log {rows.pane} {rows.life} {END}")
+            self.say(f"log {pane_of_key(rows.pane)[1]} {rows.life} {END}")
         return False
 
     def close(self) -> None:

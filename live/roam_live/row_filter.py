@@ -10,6 +10,7 @@ from collections.abc import Callable
 
 from roam_live.loops import Loop, always
 from roam_live.program import read, write
+from roam_live.programs import PANE
 from roam_live.words import one_line
 
 # No terminal of the filter has another size than one from the first to the second of these.
@@ -34,9 +35,6 @@ GATHERS = 0.01
 
 # A pipe to it and from it holds so many bytes, where the system allows that.
 PIPE_SIZE = 1 << 20
-
-# What tells a program in a pane which pane that is.
-PANE = "ROAM_PANE"
 
 # It prints no more: so many seconds it has for ending then, and so often it is looked whether it did.
 ENDS = 1.0

@@ -46,6 +46,20 @@ NOT_RUN = "no rows of history are kept: {}; tried again"
 EARLIER = "no rows of history are kept: the program is an earlier one"
 
 
+# A session has nine panes a window at most, so that this many numbers are each one's.
+APART = 10
+
+
+def pane_key(window: int, pane: int) -> int:
+    """The number of a window's pane among the panes of all: itself where a session has one window that has no number."""
+    return window * APART + pane
+
+
+def pane_of_key(key: int) -> tuple[int, int]:
+    """The window, and the pane there, of such a number."""
+    return divmod(key, APART)
+
+
 def chosen_rows() -> tuple[int, str]:
     """How many rows are kept of a pane, by ROAM_HISTORY; and what is wrong with that, where something is: then as many as by default."""
     try:

@@ -10,13 +10,15 @@ import pathlib
 import re
 import signal
 import stat
-from collections.abc import Iterable
+from collections.abc import Iterable, Iterator
 
 from roam_live.brought import LINK
 from roam_live.processes import Processes
 from roam_live.program import (TOOLS, Fault, begun, count_front_ends, end_words, is_listened, is_own_folder, is_stopped, note_end,
                                program, replace_text, say)
 from roam_live.places import ASKED, MOST_STARTS, Places, asked_places
+from roam_live.window_lines import MOST_WINDOWS, name_in
+from roam_live.window_processes import NUMBER, WINDOWS, WINDOWS_VERSION, note_ends, numbers_in
 
 NAME = re.compile(r"[A-Za-z0-9_-]{1,32}")
 
@@ -70,7 +72,8 @@ def base() -> pathlib.Path:
 def session_named(name: str) -> FolderSession:
     """The session of a name: one of this machine, or what stands here for one of another."""
     if not NEAR_NAME.fullmatch(name):
-        return FolderSession.named(name)
+        check_name(name)
+        return session_in(base() / name)
     session = NearSession(base() / name, name)
     if not session.folder.is_dir():
         raise Fault(f"no session {name} is here")
@@ -80,8 +83,24 @@ def session_named(name: str) -> FolderSession:
 def sessions_here() -> list[FolderSession]:
     """The sessions of which there are folders, by name: those of other machines behind those of this one."""
     folders = sorted(path for path in base().iterdir() if path.is_dir() and len(str(path / "terminals")) <= LONGEST_PATH)
-    own = [FolderSession(path) for path in folders if NAME.fullmatch(path.name)]
+    own = [session_in(path) for path in folders if NAME.fullmatch(path.name)]
     return own + [NearSession(path) for path in folders if NEAR_NAME.fullmatch(path.name)]
+
+
+def session_in(folder: pathlib.Path) -> FolderSession:
+    """The session of a folder: one with windows, but where an earlier roam's is there, which has one and no others."""
+    earlier = FolderSession(folder)
+    if (earlier.state or {}).get("version", WINDOWS_VERSION) != WINDOWS_VERSION or os.path.lexists(folder / "clients"):
+        return earlier
+    return Session(folder)
+
+
+def window_in(folder: str | os.PathLike[str], server: int | None = None) -> FolderSession:
+    """What is served in a folder: a window of a session, where it is that of one, or a session of one window."""
+    path = pathlib.Path(folder).absolute()
+    if path.parent.name == WINDOWS and NUMBER.fullmatch(path.name) and NAME.fullmatch(path.parent.parent.name):
+        return Window(Session(path.parent.parent), int(path.name), server)
+    return FolderSession(folder, server=server)
 
 
 def check_name(name: str) -> None:
@@ -97,7 +116,8 @@ class FolderSession(Processes):
     known.
     """
 
-    # The socket at which the process of each role listens.
+    # What its note is like, and the socket at which the process of each role listens.
+    version = VERSION
     sockets = {"server": "clients", "shells": "bells", "terminals": "terminals"}
 
     def __init__(self, folder: str | os.PathLike[str], name: str | None = None, server: int | None = None) -> None:
@@ -105,6 +125,9 @@ class FolderSession(Processes):
         self.name = name or self.folder.name
         # Whether its processes were found by its sockets.
         self.is_found = False
+        # Where front ends are noted, and what is one for all windows; and the number of the window, where it is one of several.
+        self.common = self.folder
+        self.number = 0
         self.terminals = self.folder / "terminals"
         if len(str(self.terminals)) > LONGEST_PATH:
             raise Fault(f"{self.folder} is too long for a socket's path")
@@ -117,6 +140,22 @@ class FolderSession(Processes):
 
     def __str__(self) -> str:
         return f"in {self.folder}"
+
+    # ---- its windows
+
+    def windows(self) -> list[FolderSession]:
+        """Its windows, in order: itself, where it has no others."""
+        return [self]
+
+    def window(self, number: int | None = None) -> FolderSession:
+        """A window by its number, else the one where somebody was last; Fault where it isn't there."""
+        if number not in (None, 1):
+            raise Fault(f"session {self.name} has one window, as an earlier roam's, and no window {number}")
+        return self
+
+    def whole_session(self) -> FolderSession:
+        """The session of which this is a window, or itself."""
+        return self
 
     # ---- what is known of it
 
@@ -154,6 +193,11 @@ class FolderSession(Processes):
                 shells = self.listener(self.sockets["shells"])
         return None if shells is None else busy_panes(shells)
 
+    def busy_programs(self) -> dict[tuple[int, int], str] | None:
+        """The same by windows and panes; 0 is the one of a session that has no others."""
+        busy = self.busy()
+        return None if busy is None else {(0, pane): name for pane, name in busy.items()}
+
     def ending(self) -> tuple[str, int]:
         """What is said where the process that serves it has ended, and the status: who ends it on purpose notes so before."""
         if self.met and self.ended() == end_words(*self.met):
@@ -174,7 +218,7 @@ class FolderSession(Processes):
 
     def demand_age(self) -> None:
         """Refuses one that an earlier roam began."""
-        if self.runs("server") and (self.state or {}).get("version") != VERSION:
+        if self.runs("server") and (self.state or {}).get("version") != self.version:
             raise Fault(f"session {self.name} was begun by an earlier roam, and is left to it: `mux kill {self.name}` ends it")
 
     # ---- whether it is there
@@ -193,7 +237,7 @@ class FolderSession(Processes):
                 with contextlib.suppress(Fault):
                     found[role] = self.listener(self.sockets[role])
         command = command_of(found.get("shells"), self.folder)
-        self.state = {"version": VERSION, "command": command, **{role: [one, begun(one)] for role, one in found.items() if one}}
+        self.state = {"version": self.version, "command": command, **{role: [one, begun(one)] for role, one in found.items() if one}}
         self.is_found = True
         return self.runs()
 
@@ -233,7 +277,7 @@ class FolderSession(Processes):
     def spawn_terminals(self) -> None:
         """Spawns the client start of this machine's terminals."""
         self.terminals.unlink(missing_ok=True)
-        self.state = self.state or {"version": VERSION}
+        self.state = self.state or {"version": self.version}
         self.spawned("terminals", [program(), "attach", "--dir", str(self.folder), "--terminals", str(self.terminals)])
 
     def demand_room(self) -> None:
@@ -320,10 +364,8 @@ class FolderSession(Processes):
         """What `mux ls` says of it."""
         places = self.places()
         size = "{} by {}".format(*places.size()) if places else "-"
-        count = count_front_ends(self.folder)
-        panes = "? panes" if not places else "1 pane" if len(places.rects) == 1 else f"{len(places.rects)} panes"
         more = f", {places.starts} of {MOST_STARTS} starts" if places and places.starts > MANY_STARTS else ""
-        return f"{self.name:12} {size:12} {panes:8} {count} terminal{'' if count == 1 else 's'}{more}{self.lacking()}"
+        return f"{listed(self.name, size, len(places.rects) if places else None, count_front_ends(self.common))}{more}{self.lacking()}"
 
     def lacking(self) -> str:
         """What `mux ls` says of what keeps the shells, where that doesn't run."""
@@ -333,11 +375,275 @@ class FolderSession(Processes):
         return ", what keeps its shells is stopped" if is_stopped(shells) else ""
 
 
+class Session(FolderSession):
+    """A session with windows: its note has the keeper of its shells, which has the rest."""
+
+    served = "shells"
+    sockets = {"shells": "shells"}
+    version = WINDOWS_VERSION
+
+    def __init__(self, folder: str | os.PathLike[str]) -> None:
+        super().__init__(folder)
+        self.folder_of_windows = self.folder / WINDOWS
+        if len(str(self.folder_of_windows / str(MOST_WINDOWS) / "terminals")) > LONGEST_PATH:
+            raise Fault(f"{self.folder} is too long for a socket's path")
+
+    # ---- its windows
+
+    def all_windows(self) -> list[Window]:
+        """The windows of which there are folders, in order, whether they run or not."""
+        return [Window(self, number) for number in numbers_in(str(self.folder_of_windows))]
+
+    def windows(self) -> list[FolderSession]:
+        """The windows that run, in order."""
+        return [window for window in self.all_windows() if window.find()]
+
+    def window(self, number: int | None = None) -> FolderSession:
+        """A window by its number, else the one where somebody was last; Fault where it isn't there."""
+        there = self.windows()
+        found = [window for window in there if window.number == (self.last() if number is None else number)]
+        if not found and (number is not None or not there):
+            raise Fault(f"session {self.name} has no window{'' if number is None else f' {number}'}")
+        return (found or there)[0]
+
+    def last(self) -> int:
+        """The window where somebody was last, as far as that is noted."""
+        with contextlib.suppress(OSError, ValueError):
+            return int((self.folder_of_windows / "last").read_text(encoding="ascii")[:9])
+        return 0
+
+    # ---- whether it is there
+
+    def runs(self, role: str | None = None) -> bool:
+        """Whether the process of a role runs; where none is named, whether a window does, or what keeps them."""
+        return super().runs(role) or role is None and any(window.runs() for window in self.all_windows())
+
+    def listener(self, name: str) -> int | None:
+        """The process that listens at a socket of this name of any window; None where none does."""
+        for number in numbers_in(str(self.folder_of_windows)):
+            found = super().listener(f"{WINDOWS}/{number}/{name}")
+            if found is not None:
+                return found
+        return None
+
+    def find(self) -> bool:
+        """Whether it runs: as is noted, or else as the processes tell that answer at its sockets. Where the note is lost, as to a cleaner of
+        old files, its processes are known again from then on."""
+        if self.process(self.served):
+            return True
+        with contextlib.suppress(Fault):
+            keeper = self.listener(self.sockets[self.served])
+            if keeper is not None:
+                command = command_of(keeper, self.folder)
+                self.state = {"version": self.version, "command": command, self.served: [keeper, begun(keeper)]}
+                self.is_found = True
+                return True
+        return bool(self.windows())
+
+    def is_ready(self) -> bool:
+        """Whether a window is there, with what keeps its shells and a start that takes terminals."""
+        return any(is_listened(window.terminals) and is_listened(window.folder / "shells") for window in self.windows())
+
+    # ---- what belongs to it
+
+    def launch(self, command: Iterable[str] = ()) -> None:
+        """Launches what keeps its windows, which opens the first, with a command in place of each shell; all or nothing."""
+        self.clean()
+        self.state = {"version": self.version, "command": list(command)}
+        before = self.logged()
+        with self.whole():
+            self.spawn_shells()
+            self.wait_for("shells", before, self.is_ready)
+
+    def spawn_shells(self, more: Iterable[str] = ()) -> None:
+        """Spawns what keeps its windows."""
+        self.state = self.state or {"version": self.version, "command": []}
+        words = [str(TOOLS / "pane_shells"), "--windows", *more, str(self.folder), *self.state.get("command", ())]
+        self.spawned("shells", words)
+
+    def demand_shells(self) -> None:
+        """Sees that what keeps its windows runs, and one of them is there."""
+        if not self.runs("shells"):
+            before = self.logged()
+            self.spawn_shells()
+            self.wait_for("shells", before, self.is_ready)
+
+    def demand_terminals(self, earlier: int | None = None) -> None:
+        """Sees that the start of the window runs where somebody was last."""
+        self.window().demand_terminals(earlier)
+
+    def revive_shells(self) -> bool:
+        """Spawns what keeps its windows anew where it has ended, and takes them over; tells whether it runs."""
+        with contextlib.suppress(BlockingIOError), self.locked(may_wait=False):
+            if not self.runs("shells") and self.find():
+                self.spawn_shells()
+        return self.runs("shells")
+
+    def busy(self) -> dict[int, str] | None:
+        """What runs in the panes of its windows is told by these."""
+        return {}
+
+    def busy_programs(self) -> dict[tuple[int, int], str] | None:
+        """The windows and panes in which another program than a shell runs, and its name; None where that isn't known."""
+        from roam_live.programs import busy_programs
+
+        keeper = self.process("shells")
+        busy = busy_programs(keeper) if keeper else {}
+        numbers = {str(window.folder): window.number for window in self.all_windows()}
+        return None if busy is None else {(numbers.get(folder, 0), pane): name for (folder, pane), name in busy.items()}
+
+    # ---- its end
+
+    @contextlib.contextmanager
+    def whole(self) -> Iterator[None]:
+        """Ends what is spawned inside, where not all of it could be, with what that has spawned."""
+        with super().whole():
+            try:
+                yield
+            except BaseException:
+                self.end_all()
+                raise
+
+    def note_end(self) -> None:
+        """Notes that its windows' servers are about to be ended on purpose."""
+        note_ends(str(self.folder), [end_words(*window.met) for window in self.all_windows() if window.runs() and window.met])
+
+    def end_all(self) -> None:
+        """Ends the keeper, which ends the windows, and those that it left."""
+        self.note_end()
+        self.end(self.served)
+        for window in self.all_windows():
+            window.end_all()
+
+    def clean(self) -> None:
+        """Removes what a session that doesn't run any more left, but for its log and the note of its end."""
+        for window in self.all_windows():
+            window.clean()
+        (self.folder_of_windows / "last").unlink(missing_ok=True)
+        with contextlib.suppress(OSError):
+            self.folder_of_windows.rmdir()
+        super().clean()
+
+    # ---- what `mux ls` says
+
+    def line(self) -> str:
+        """What `mux ls` says of it: the size of the window where somebody was last, the panes of all, and where there are several which."""
+        windows = self.windows()
+        places = {window.number: window.places() for window in windows}
+        shown = places.get(self.last()) or next(iter(places.values()), None)
+        size = "{} by {}".format(*shown.size()) if shown else "-"
+        panes = None if None in places.values() or not places else sum(len(one.rects) for one in places.values() if one)
+        starts = [f", {one.starts} of {MOST_STARTS} starts" for one in places.values() if one and one.starts > MANY_STARTS]
+        named = " ".join(f"{window.number}:{window.title()}" if window.title() else f"{window.number}" for window in windows)
+        more = f", {len(windows)} windows: {named}" if len(windows) > 1 else ""
+        return f"{listed(self.name, size, panes, count_front_ends(self.folder))}{''.join(starts[:1])}{more}{self.lacking()}"
+
+
+class Window(FolderSession):
+    """A window of a session: its server and its start, as they are noted in its folder. Its lock, its log, and what keeps its shells are the
+    session's."""
+
+    version = WINDOWS_VERSION
+
+    def __init__(self, session: Session, number: int, server: int | None = None) -> None:
+        super().__init__(session.folder_of_windows / str(number), f"{session.name}:{number}", server)
+        self.session, self.number = session, number
+        self.common, self.log = session.folder, session.log
+
+    def whole_session(self) -> FolderSession:
+        """The session of which this is a window."""
+        return self.session
+
+    def windows(self) -> list[FolderSession]:
+        """The windows of its session that run."""
+        return self.session.windows()
+
+    def window(self, number: int | None = None) -> FolderSession:
+        """A window of its session by its number, else this one."""
+        return self if number in (None, self.number) else self.session.window(number)
+
+    def title(self) -> str:
+        """What it is called; nothing where it has no name."""
+        try:
+            return name_in((self.folder / "name").read_text(encoding="utf-8")[:512].strip()) or ""
+        except (OSError, ValueError):
+            return ""
+
+    # ---- what is known of it
+
+    def process(self, role: str) -> int | None:
+        """The process of a role; None where none runs."""
+        if role == "shells":
+            self.session.read()
+            return self.session.process(role)
+        return super().process(role)
+
+    def find(self) -> bool:
+        """Whether it runs: as is noted, or as the process tells that answers at its socket."""
+        return super().find()
+
+    def busy(self) -> dict[int, str] | None:
+        """The panes in which another program than a shell runs, and its name."""
+        from roam_live.programs import busy_panes
+
+        keeper = self.process("shells")
+        return busy_panes(keeper, str(self.folder)) if keeper else {}
+
+    def ending(self) -> tuple[str, int]:
+        """What is said where its server has ended, and the status."""
+        if self.met and end_words(*self.met) in self.session.ended().splitlines():
+            return "[the session has ended]", 0
+        return f"[the server was killed, or has failed, and its session is gone; {self.log} may tell why]", 1
+
+    def note_end(self) -> None:
+        """Notes that its server is about to be ended on purpose."""
+        if self.runs() and self.met:
+            note_ends(str(self.common), [end_words(*self.met)])
+
+    # ---- what belongs to it
+
+    def taken_lock(self, may_wait: bool) -> int:
+        """The session's lock, once this process has it."""
+        return self.session.taken_lock(may_wait)
+
+    def launch(self, command: Iterable[str] = ()) -> None:
+        """Refuses: what keeps the session's windows opens them."""
+        raise Fault(f"session {self.session.name}: what keeps its windows opens them")
+
+    def demand_shells(self) -> None:
+        """Sees that what keeps the session's windows runs."""
+        self.session.read()
+        self.session.demand_shells()
+
+    def revive_shells(self) -> bool:
+        """Spawns what keeps the session's windows anew, where it has ended; tells whether it runs."""
+        return self.session.revive_shells()
+
+    def end_all(self) -> None:
+        """Ends its processes."""
+        for role in ("server", "terminals"):
+            self.end(role)
+
+    def clean(self) -> None:
+        """Removes what it left, with its folder."""
+        super().clean()
+        (self.folder / "name").unlink(missing_ok=True)
+        with contextlib.suppress(OSError):
+            self.folder.rmdir()
+
+
 class NearSession(FolderSession):
     """A session of another machine: a relay stands here for its server."""
 
     served = "relay"
     sockets = {"relay": "clients", "terminals": "terminals"}
+
+    def window(self, number: int | None = None) -> FolderSession:
+        """Its one window: which of the other machine's it is was said where it was attached to."""
+        if number is not None:
+            raise Fault(f"session {self.name} is of another machine: other windows of it can't be had here yet, but by `mux ssh HOST "
+                        f"NAME:{number}`")
+        return self
 
     def launch(self, command: Iterable[str] = ()) -> None:
         """Refuses: how ssh is called isn't known."""
@@ -383,6 +689,12 @@ class NearSession(FolderSession):
         if (self.folder / "ended").exists():
             return "[the session has ended]", 0
         return f"[the relay has ended; {self.log} tells why]", 1
+
+
+def listed(name: str, size: str, panes: int | None, terminals: int) -> str:
+    """What `mux ls` says of any session; panes that aren't known are None."""
+    has = "? panes" if panes is None else "1 pane" if panes == 1 else f"{panes} panes"
+    return f"{name:12} {size:12} {has:8} {terminals} terminal{'' if terminals == 1 else 's'}"
 
 
 def command_of(shells: int | None, folder: pathlib.Path) -> list[str]:

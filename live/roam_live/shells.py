@@ -13,19 +13,21 @@ from roam_live.colours import Colours
 from roam_live.given import KEPT, LOST, GivenText, GivenTexts
 from roam_live.listeners import Listener
 from roam_live.loops import Loop
-from roam_live.presence import WHO, presence_said
+from roam_live.presence import CLIENTS, LEAVE, WHO, Attended, Presence, presence_said
 from roam_live.program import Fault, read, reason, say, write
 from roam_live.row_answers import RowAsker
-from roam_live.shells_peers import MOST_WAITING, Giving, ShellsPeer
+from roam_live.shells_peers import MOST_WAITING, Giving, ShellsPeer, client_line
 from roam_live.texts import cleaned, random_name
 
 TYPE_CHECKING = False
 if TYPE_CHECKING:
     from roam_live.row_keeping import RowKeeper
     from roam_live.row_pieces import PaneRows
+    from roam_live.window_lines import WindowLines
 
-# So many are connected at most: front ends of this machine and of others.
+# So many are connected at most to the socket of a window, front ends of this machine and of others; and to those of all windows.
 MOST_PEERS = 64
+MOST_PEERS_OF_ALL = 256
 
 # No line that comes has so many bytes.
 LONGEST_LINE = 256
@@ -51,17 +53,19 @@ BUFFER_LIST = "buffer list"
 
 BAD_LINE = "bad line"
 
+# How one asks which terminals are there, and has one of them told to leave.
+LEAVES = re.compile(r"leave (\d{1,9})", re.ASCII)
 
-class ShellsSocket:
-    """The socket: lines of those who connect, and lines back. Where it can't be had that is told, and nobody is known to be there. A call
-    is for one more who asks what runs in front in the panes; rows are asked of who keeps them."""
 
-    def __init__(self, folder: str | os.PathLike[str], loop: Loop, asked_commands: Callable[[], object] = lambda: None,
-                 rows: RowKeeper | None = None) -> None:
-        self.loop, self.asked_commands, self.rows = loop, asked_commands, rows
+class CommonShells:
+    """What is one at the sockets `shells` of all windows: the name by which the keeper is known, texts that are pasted, buffers, what was
+    brought, colours, the rows that are kept, and who is connected anywhere. Where windows can be opened there are lines for that."""
+
+    def __init__(self, loop: Loop, rows: RowKeeper | None = None) -> None:
+        self.loop, self.rows = loop, rows
         if rows:
             rows.logs_came, rows.waits_for_logs = self.tell_logged, self.has_full_log
-        self.peers: list[ShellsPeer] = []
+        self.sockets: list[ShellsSocket] = []
         self.last = 0
         # By it those who come again know whether this is the keeper that was there before.
         self.name = random_name()
@@ -69,6 +73,74 @@ class ShellsSocket:
         self.brought = Brought()
         self.buffers = Buffers()
         self.colours = Colours()
+        self.attended = Attended()
+        self.lines: WindowLines | None = None
+
+    def peers(self) -> list[ShellsPeer]:
+        """All who are connected."""
+        return [peer for one in self.sockets for peer in one.peers]
+
+    def next_number(self) -> int:
+        """The number of one who came: no other has it."""
+        self.last += 1
+        return self.last
+
+    def tell_text(self, name: str, word: str) -> None:
+        """Tells what became of a text to who gave it, or asked for it."""
+        for one in self.sockets:
+            one.tell_text(name, word)
+
+    def tell_logged(self, rows: PaneRows) -> None:
+        """Tells those who write down the rows of a pane that some came."""
+        for peer in self.peers():
+            if peer.asker and peer.asker.logged and peer.asker.logged.rows is rows and not peer.is_full():
+                peer.asker.tell_logged()
+
+    def has_full_log(self) -> bool:
+        """Whether somebody who writes rows down doesn't take them and is waited for: for a second, and not again until he has all."""
+        now, found = self.loop.clock(), False
+        for peer in self.peers():
+            if not peer.logs() or not peer.is_full():
+                peer.awaited_until = 0.0
+            elif peer.asker and not peer.asker.is_late:
+                if not peer.awaited_until:
+                    peer.awaited_until = now + LOG_WAIT
+                    self.loop.later(f"log of {peer.number}", LOG_WAIT, lambda: None)
+                peer.asker.is_late = now >= peer.awaited_until
+                found = found or not peer.asker.is_late
+        return found
+
+    def clients(self) -> list[str]:
+        """The lines that tell which terminals are there, at any window."""
+        found = [(peer, one.window) for one in self.sockets for peer in one.peers if peer.presence]
+        lines = [client_line(peer, window or 1) for peer, window in sorted(found, key=lambda there: there[0].number)]
+        return [*lines, f"{CLIENTS} {len(lines)}"]
+
+    def leave(self, number: int) -> bool:
+        """Has a terminal told to leave; whether there is one of that number."""
+        for one in self.sockets:
+            for peer in [peer for peer in one.peers if peer.number == number and peer.presence]:
+                one.send(peer, [LEAVE])
+                return True
+        return False
+
+    def close(self) -> None:
+        """Does nothing more for anybody."""
+        for one in list(self.sockets):
+            one.close()
+
+
+class ShellsSocket:
+    """The socket of a window: lines of those who connect, and lines back. Where it can't be had that is told, and nobody is known to be
+    there. A call is for one more who asks what runs in front in the panes; what is one for all windows is had of who has that."""
+
+    def __init__(self, folder: str | os.PathLike[str], loop: Loop, asked_commands: Callable[[], object] = lambda: None,
+                 common: CommonShells | None = None, window: int = 0) -> None:
+        self.loop, self.asked_commands, self.window = loop, asked_commands, window
+        self.common = common or CommonShells(loop)
+        self.common.sockets.append(self)
+        self.rows, self.texts, self.buffers = self.common.rows, self.common.texts, self.common.buffers
+        self.peers: list[ShellsPeer] = []
         # Whether something is new of who is there.
         self.is_new = False
         self.listener: Listener | None = None
@@ -81,16 +153,15 @@ class ShellsSocket:
 
     def has_room(self) -> bool:
         """Whether another may connect."""
-        return len(self.peers) < MOST_PEERS
+        return len(self.peers) < MOST_PEERS and len(self.common.peers()) < MOST_PEERS_OF_ALL
 
     def take(self, end: socket.socket) -> None:
         """Takes one who came."""
-        self.last += 1
-        peer = ShellsPeer(end, self.last)
+        peer = ShellsPeer(end, self.common.next_number())
         self.peers.append(peer)
         if self.rows:
             peer.asker = RowAsker(self.rows, lambda data: self.answer(peer, data), lambda line: self.send(peer, [line]),
-                                  lambda: self.take_lines(peer))
+                                  lambda: self.take_lines(peer), self.window)
         self.loop.add(end, lambda: self.hear(peer), lambda: self.write(peer), has_more=lambda: peer.waiting,
                       hears=lambda: not peer.is_busy())
 
@@ -127,10 +198,10 @@ class ShellsSocket:
         """Takes a line of one who is there."""
         presence, gives, asks = presence_said(line), GIVE.fullmatch(line), ASK.fullmatch(line)
         if presence:
-            peer.presence, self.is_new = presence, True
+            self.comes(peer, presence)
         elif line == WHO:
             peer.asks = self.is_new = True
-            self.send(peer, [f"keeper {self.name}"])
+            self.send(peer, [f"keeper {self.common.name}"])
         elif line == COMMANDS:
             peer.asks_commands = True
             self.asked_commands()
@@ -140,11 +211,36 @@ class ShellsSocket:
             peer.wants(asks[1])
             self.send(peer, [f"{self.texts.state(asks[1])} {asks[1]}"])
         elif line == BROUGHT:
-            self.send(peer, self.brought.lines())
-        elif self.take_buffer_line(peer, line) or peer.asker and peer.asker.take(line):
+            self.send(peer, self.common.brought.lines())
+        elif self.take_buffer_line(peer, line) or peer.asker and peer.asker.take(line) or self.take_client_line(peer, line):
             pass
-        elif peer.watches() or not (self.brought.take(line) or self.colours.take(line)):
+        elif self.common.lines and self.common.lines.take(self, peer, line):
+            pass
+        elif peer.watches() or not (self.common.brought.take(line) or self.common.colours.take(line)):
             self.send(peer, [BAD_LINE])
+
+    # ---- who is there
+
+    def comes(self, peer: ShellsPeer, presence: Presence) -> None:
+        """Takes note of a terminal that is here, or has another size."""
+        if not peer.presence:
+            peer.since = self.common.attended.comes(presence.name, self.loop.clock())
+            if self.common.lines:
+                self.common.lines.comes(self.window)
+        peer.presence, self.is_new = presence, True
+
+    def has_terminals(self) -> bool:
+        """Whether a terminal is here."""
+        return any(peer.presence for peer in self.peers)
+
+    def take_client_line(self, peer: ShellsPeer, line: str) -> bool:
+        """Takes a line about the terminals of all windows, and tells whether it is one: who only watches has nobody leave."""
+        leaves = LEAVES.fullmatch(line)
+        if line == CLIENTS:
+            self.answer(peer, "".join(f"{one}\n" for one in self.common.clients()).encode())
+        elif leaves and not peer.watches():
+            self.send(peer, [f"left {leaves[1]}" if self.common.leave(int(leaves[1])) else "left none"])
+        return bool(line == CLIENTS or leaves and not peer.watches())
 
     # ---- texts that are given
 
@@ -237,26 +333,6 @@ class ShellsSocket:
             dues += [peer.asker.turn(now, not peer.is_full())] if peer.asker else []
         return min((due for due in dues if due is not None), default=None)
 
-    def tell_logged(self, rows: PaneRows) -> None:
-        """Tells those who write down the rows of a pane that some came."""
-        for peer in list(self.peers):
-            if peer.asker and peer.asker.logged and peer.asker.logged.rows is rows and not peer.is_full():
-                peer.asker.tell_logged()
-
-    def has_full_log(self) -> bool:
-        """Whether somebody who writes rows down doesn't take them and is waited for: for a second, and not again until he has all."""
-        now, found = self.loop.clock(), False
-        for peer in self.peers:
-            if not peer.logs() or not peer.is_full():
-                peer.awaited_until = 0.0
-            elif peer.asker and not peer.asker.is_late:
-                if not peer.awaited_until:
-                    peer.awaited_until = now + LOG_WAIT
-                    self.loop.later(f"log of {peer.number}", LOG_WAIT, lambda: None)
-                peer.asker.is_late = now >= peer.awaited_until
-                found = found or not peer.asker.is_late
-        return found
-
     def has_asked_commands(self) -> bool:
         """Whether somebody is there who asked what runs in front in the panes."""
         return any(peer.asks_commands for peer in self.peers)
@@ -278,7 +354,7 @@ class ShellsSocket:
         go."""
         peer.waiting += data
         peer.answers += len(data)
-        if sum(one.answers for one in self.peers) > MOST_ANSWERS:
+        if sum(one.answers for one in self.common.peers()) > MOST_ANSWERS:
             self.drop(peer)
         elif peer in self.peers and f"unread by {peer.number}" not in self.loop.due:
             self.loop.later(f"unread by {peer.number}", UNREAD, lambda: self.drop_unread(peer))
@@ -312,6 +388,8 @@ class ShellsSocket:
             self.loop.remove(peer.end)
             peer.end.close()
             self.peers.remove(peer)
+            if peer.presence:
+                self.common.attended.leaves(peer.presence.name, self.loop.clock())
             self.is_new = self.is_new or peer.presence is not None
 
     def close(self) -> None:
@@ -320,3 +398,8 @@ class ShellsSocket:
             self.drop(peer)
         if self.listener:
             self.listener.close()
+            self.listener = None
+        self.loop.end_each(self.tell_news)
+        self.loop.end_each(self.tell_rows)
+        if self in self.common.sockets:
+            self.common.sockets.remove(self)

@@ -3,7 +3,7 @@ from __future__ import annotations
 
 import socket
 
-from roam_live.presence import GONE, OTHERS, THERE, Presence
+from roam_live.presence import CLIENT, GONE, OTHERS, THERE, Presence
 
 TYPE_CHECKING = False
 if TYPE_CHECKING:
@@ -43,12 +43,17 @@ class ShellsPeer:
         self.end, self.number = end, number
         self.came, self.waiting = bytearray(), bytearray()
         self.presence: Presence | None = None
+        # Since when that is so, in seconds since the epoch.
+        self.since = 0
         # Whether it asked who else is there; and the others, as it was told last.
         self.asks = False
         self.told: dict[int, Presence] | None = None
         # The same of what runs in front in panes.
         self.asks_commands = False
         self.commands: dict[int, tuple[int, str]] = {}
+        # Whether it asked for windows; and how many it has asked to be opened that aren't yet.
+        self.asks_windows = False
+        self.opening = 0
         # The text that it gives now, and the names of those of which it wants to know what becomes of them.
         self.giving: Giving | None = None
         self.names: dict[str, None] = {}
@@ -87,3 +92,10 @@ class ShellsPeer:
         lines = [f"{GONE} {number}" for number in told or () if number not in others]
         lines += [f"{THERE} {number} {one}" for number, one in others.items() if (told or {}).get(number) != one]
         return [*lines, f"{OTHERS} {len(others)}"] if lines or told is None else []
+
+
+def client_line(peer: ShellsPeer, window: int) -> str:
+    """The line that tells who asks of a terminal that is there."""
+    there = peer.presence
+    assert there
+    return f"{CLIENT} {peer.number} {there.name} {there.rows} {there.cols} {window} {peer.since} {there.kind}"

@@ -1,6 +1,7 @@
-"""A session, or a pane of one, as the words of `mux` name it: NAME, or NAME.P."""
+"""A session, a window or a pane of one, as the words of `mux` name it: `NAME[:K][.P]`, of which each part may be missing."""
 from __future__ import annotations
 
+import os
 import re
 import time
 from collections import namedtuple
@@ -8,6 +9,7 @@ from collections import namedtuple
 from roam_live.loops import comes
 from roam_live.places import ASIDE, ASKED, BEHIND, BRACKETED, ToldPanes
 from roam_live.program import Fault, Lines, connected_in, read, runs_program
+from roam_live.programs import own_pane
 
 TYPE_CHECKING = False
 if TYPE_CHECKING:
@@ -16,23 +18,58 @@ if TYPE_CHECKING:
     from roam_live.places import Places
     from roam_live.sessions import FolderSession
 
-PANE = re.compile(r"(?P<name>.+)\.(?P<pane>[1-9])")
+# The name of a session, or of what stands here for one of another machine, which may be missing; a window of it, and a pane.
+WORD = re.compile(r"(?P<name>ssh:[^:]+:[^:.]+(?::[0-9a-f]{8})?|[^:.]*)(?::(?P<window>[1-9]\d?))?(?:\.(?P<pane>[1-9]))?|:", re.ASCII)
 
 # So many seconds a server has for closing a pane.
 CLOSES = 5.0
 
+NOWHERE = "this is no pane of a session, so one has to be named"
 
-class Target(namedtuple("Target", "name pane")):
-    """A session's name, and the number of a pane of it, or 0."""
+
+class Target(namedtuple("Target", "name window pane")):
+    """A session's name, nothing where that in which this process runs is meant, and the numbers of a window and of a pane of it: None and
+    0 where none is named."""
 
     name: str
+    window: int | None
     pane: int
 
 
 def target_of(word: str) -> Target:
-    """What a word names: no name of a session has a dot and a digit at its end."""
-    found = PANE.fullmatch(word)
-    return Target(found["name"], int(found["pane"])) if found else Target(word, 0)
+    """What a word names: no name of a session of this machine has a colon or a dot."""
+    found = WORD.fullmatch(word)
+    if not found:
+        return Target(word, None, 0)
+    return Target(found["name"] or "", int(found["window"]) if found["window"] else None, int(found["pane"] or 0))
+
+
+def session_of(target: Target) -> FolderSession:
+    """The session that is named, or the one in which this process runs."""
+    from roam_live.sessions import session_named, window_in
+
+    folder = own_pane()[0]
+    if target.name:
+        return session_named(target.name)
+    if not folder:
+        raise Fault(NOWHERE)
+    return window_in(folder).whole_session()
+
+
+def window_of(session: FolderSession, target: Target) -> FolderSession:
+    """The window that is named of a session which runs: where none is, that in which this process runs, else that where somebody was
+    last."""
+    from roam_live.sessions import window_in
+
+    folder = own_pane()[0]
+    if target.window is None and folder and is_in(folder, session):
+        return session.window(window_in(folder).number or None)
+    return session.window(target.window)
+
+
+def is_in(folder: str, session: FolderSession) -> bool:
+    """Whether a folder is that of a session, or of a window of it."""
+    return os.path.abspath(folder) == str(session.folder) or os.path.abspath(folder).startswith(f"{session.folder}/w/")
 
 
 def pane_places(session: FolderSession, pane: int) -> Places:

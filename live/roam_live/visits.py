@@ -2,7 +2,11 @@
 taken that was typed in it."""
 from __future__ import annotations
 
+import os
+from collections.abc import Callable
+
 from roam_live.loops import Loop
+from roam_live.program import opened_process
 
 TYPE_CHECKING = False
 if TYPE_CHECKING:
@@ -17,18 +21,38 @@ if TYPE_CHECKING:
 class Visit:
     """The connections of a front end to one window."""
 
-    def __init__(self, number: int, session: AnySession, link: StartLink, keeper: Keeper, panes: PanesFollower, shells: ShellsLink,
+    def __init__(self, session: AnySession, link: StartLink, keeper: Keeper, panes: PanesFollower, shells: ShellsLink,
                  bells: BellFollower, commands: Commands) -> None:
-        self.number, self.session, self.link, self.keeper, self.panes = number, session, link, keeper, panes
+        self.session, self.link, self.keeper, self.panes = session, link, keeper, panes
         self.shells, self.bells, self.commands = shells, bells, commands
+        self.number = session.number
+        # What tells of the end of the server, where its process is known.
+        self.server: int | None = None
         # Whether all of the window was shown as it was left: it follows the terminal then, once the person is there again.
         self.showed_all = False
+
+    # ---- the server
+
+    def watch(self, loop: Loop, ends: Callable[[], object]) -> None:
+        """Sees the end of the window's server, where its process is known."""
+        process = self.session.process(self.session.served)
+        self.server = opened_process(process) if process else None
+        if self.server is not None:
+            loop.add(self.server, ends)
+
+    def watch_no_more(self, loop: Loop) -> None:
+        """Sees that end no more."""
+        if self.server is not None:
+            loop.remove(self.server)
+            os.close(self.server)
+            self.server = None
 
     # ---- left, and taken up again
 
     def part(self, loop: Loop) -> None:
         """Follows the window no more, but for what was typed in it."""
         self.commands.part()
+        self.watch_no_more(loop)
         self.panes.close()
         self.bells.close()
         self.shells.rename(f"follow shells of {self.number}")
@@ -54,8 +78,7 @@ class Visit:
         if self.link.peer:
             loop.remove(self.link)
         self.link.close()
-        self.shells.leave()
-        loop.drop(self.shells.again)
+        self.shells.end()
         loop.drop(self.again())
 
     def again(self) -> str:

@@ -42,6 +42,9 @@ if TYPE_CHECKING:
         def go(self, number: int) -> None:
             """Goes to another window; Fault tells why that can't be."""
 
+        def reached(self, number: int) -> AnySession | None:
+            """The window of a number, where one is there that isn't about to be ended."""
+
         def forget(self, number: int) -> None:
             """Waits for nothing more of a window that is gone."""
 
@@ -168,13 +171,22 @@ class WindowWishes:
     def gone(self, number: int) -> None:
         """Goes where the person was before, where the window is gone in which he is; else to the one with the nearest number. The last
         one's end is the session's."""
-        numbers = self.numbers()
-        self.visited = [one for one in self.visited if one in numbers]
-        if number == self.here() and numbers:
-            self.go_to(self.last() or min(numbers, key=lambda one: (abs(one - number), one)))
-            self.visited = [one for one in self.visited if one != number]
-            self.front.display.tell(f"window {number} is gone", SAID)
+        self.visited = [one for one in self.visited if one in self.numbers()]
+        if number == self.here():
+            self.leave(number)
         self.front.forget(number)
+
+    def leave(self, number: int) -> bool:
+        """Goes where the person was before a window that is gone, or to the one with the nearest number; whether there is one."""
+        others = [one for one in self.numbers() if one != number]
+        nearest = sorted(others, key=lambda one: (abs(one - number), one))
+        for one in [*(one for one in reversed(self.visited) if one in others), *nearest]:
+            if self.front.reached(one):
+                self.go_to(one)
+                self.visited = [before for before in self.visited if before != number]
+                self.front.display.tell(f"window {number} is gone", SAID)
+                return True
+        return False
 
     # ---- what is asked
 

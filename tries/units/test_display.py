@@ -85,7 +85,7 @@ class AnySession:
     served = "server"
 
     def __init__(self, folder=None):
-        self.folder = folder or "/nowhere"
+        self.folder = self.common = folder or "/nowhere"
         self.told = None
 
     def busy(self):

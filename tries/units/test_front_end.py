@@ -7,7 +7,7 @@ from contextlib import suppress
 from unittest import mock
 
 from aids import Case, StillLoop, closed, read_now, record
-from roam_live import display, front_end, links, mouse, pastes, terminal
+from roam_live import display, front_end, links, mouse, pastes, terminal, visits
 from roam_live.colours import ASKED
 from roam_live.front_end import FrontEnd
 from roam_live.program import Fault, begun
@@ -21,10 +21,10 @@ PANES = Places({1: Rect(1, 1, 23, 39), 2: Rect(1, 41, 11, 40), 3: Rect(13, 41, 1
 class AnySession:
     """A session that is played."""
 
-    served, name = "server", "main"
+    served, name, number = "server", "main", 0
 
     def __init__(self, folder):
-        self.folder = folder
+        self.folder = self.common = folder
         self.terminals = folder / "terminals"
         self.processes = {}
         self.told = places(24, 80)
@@ -47,10 +47,6 @@ class AnySession:
     def busy(self):
         """What runs in the panes."""
         return self.runs_busy
-
-    def windows(self):
-        """Which windows it has."""
-        return []
 
     def is_served(self):
         """Whether a server is there."""
@@ -390,8 +386,9 @@ class Loop(Fronts):
     def test_served(self):
         """The end of the server's process is the session's."""
         reader, writer = self.pipe()
-        self.front.server = reader
-        self.front.join()
+        self.place.processes["server"] = 1
+        with mock.patch.object(visits, "opened_process", return_value=reader):
+            self.front.watch_server()
         os.close(writer)
         self.turn(1)
         self.assertEqual((self.front.left, self.front.status), ("[the session has ended]", 0))

@@ -1,0 +1,180 @@
+"""What commands ask of the keeper of a session's windows: which there are, one more, another name, an end; and who is there."""
+from __future__ import annotations
+
+import os
+import time
+
+from roam_live.loops import comes
+from roam_live.presence import CLIENT, CLIENTS, presence_in
+from roam_live.program import Fault, Lines, connected_in, read, reason
+from roam_live.window_lines import (GONE, LONGEST_BYTES, LONGEST_NAME, OPENED, WINDOW, WINDOWS, name_in, name_word)
+from roam_live.words import printable
+
+TYPE_CHECKING = False
+if TYPE_CHECKING:
+    import socket
+
+    from roam_live.sessions import FolderSession
+
+# So many seconds the keeper has for taking a connection, and for what it is asked: a window has to be opened, or to end, in that time.
+CONNECTS = 1.0
+ANSWERS = 12.0
+
+# So many seconds terminals that are told to leave have for that.
+LEAVES = 5.0
+
+BAD_LINE = "bad line"
+EARLIER = "session {}: what keeps its shells is an earlier roam's, and has one window"
+
+
+class WindowsAsked:
+    """A connection to the keeper, at the socket of one window."""
+
+    def __init__(self, session: FolderSession) -> None:
+        self.session, self.lines = session, Lines()
+        self.told: list[str] = []
+        try:
+            self.peer: socket.socket = connected_in(session.folder / "shells", CONNECTS)
+        except OSError as fault:
+            raise Fault(f"session {session.name}: nobody keeps its shells: {reason(fault)}") from fault
+
+    def say(self, line: str) -> None:
+        """Says a line."""
+        try:
+            self.peer.sendall(f"{line}\n".encode())
+        except OSError as fault:
+            raise Fault(f"session {self.session.name}: what keeps its shells has ended") from fault
+
+    def until(self, *begins: str, seconds: float = ANSWERS) -> list[str]:
+        """The words of the first line that begins with one of these, behind which others stay; Fault where none comes in time, or it is
+        an earlier roam's."""
+        end = time.monotonic() + seconds
+        while True:
+            while self.told:
+                line = self.told.pop(0)
+                if line == BAD_LINE:
+                    raise Fault(EARLIER.format(self.session.name))
+                if line.split(" ")[0] in begins:
+                    return line.split(" ")
+            if not comes(self.peer, max(0.0, end - time.monotonic())):
+                raise Fault(f"session {self.session.name}: what keeps its shells doesn't answer")
+            piece = read(self.peer.fileno())
+            if piece == b"":
+                raise Fault(f"session {self.session.name}: what keeps its shells has ended")
+            self.told += self.lines.fed(piece or b"")
+
+    def clients(self) -> list[list[str]]:
+        """The words of the lines that tell which terminals are there, as far as they can be such."""
+        self.say(CLIENTS)
+        found = []
+        while True:
+            words = self.until(CLIENT, CLIENTS)
+            if words[0] == CLIENTS:
+                return found
+            if len(words) == 8 and all(word.isascii() and word.isdigit() for word in (words[1], *words[5:7])):
+                if presence_in([*words[2:5], words[7]]):
+                    found.append(words)
+
+
+def windows_of(session: FolderSession) -> list[tuple[int, str]]:
+    """The windows of a session by their numbers, with the names that they have; an earlier roam's has one."""
+    asked, found = WindowsAsked(session), []
+    asked.say(WINDOWS)
+    try:
+        while True:
+            words = asked.until(WINDOW, WINDOWS)
+            if words[0] == WINDOWS:
+                return found
+            if len(words) == 3 and words[1].isascii() and words[1].isdigit():
+                found.append((int(words[1]), name_in(words[2]) or ""))
+    except Fault:
+        if session.number:
+            raise
+        return [(1, "")]
+
+
+def list_windows(session: FolderSession) -> int:
+    """Prints a line for each window of a session: its number, its name or what runs in front in it, its size, and its panes."""
+    from roam_live.programs import told
+
+    for number, name in windows_of(session):
+        window = session.window(number)
+        places, busy = window.places(), window.busy()
+        size = "{} by {}".format(*places.size()) if places else "-"
+        panes = "? panes" if not places else "1 pane" if len(places.rects) == 1 else f"{len(places.rects)} panes"
+        runs = f", {told(busy)}" if busy else ""
+        print(printable(f"{number:2} {name or '-':16} {size:12} {panes}{runs}"))
+    return 0
+
+
+def new_window(session: FolderSession, name: str) -> int:
+    """Opens a window of a session, of the size of that at which this is asked, and prints its number."""
+    places = session.places()
+    asked = WindowsAsked(session)
+    asked.say("open {} {}".format(*(places.size() if places else (24, 80))))
+    words = asked.until(OPENED)
+    if len(words) != 2 or not words[1].isascii() or not words[1].isdigit():
+        raise Fault(f"session {session.whole_session().name}: no window is opened: {printable(' '.join(words[2:]))}")
+    if name:
+        rename(session.window(int(words[1])), name)
+    print(f"{session.whole_session().name}:{int(words[1])}")
+    return 0
+
+
+def rename(window: FolderSession, name: str) -> int:
+    """Gives a window a name, or none where that is empty."""
+    if not name.isprintable() or len(name) > LONGEST_NAME or len(name.encode("utf-8", "replace")) > LONGEST_BYTES:
+        raise Fault(f"a window's name has {LONGEST_NAME} printable characters at most, and {LONGEST_BYTES} bytes")
+    number = window.number or 1
+    asked = WindowsAsked(window)
+    asked.say(WINDOWS)
+    asked.until(WINDOWS)
+    asked.say(f"name {number} {name_word(name)}")
+    if asked.until(WINDOW, GONE)[0] == GONE:
+        raise Fault(f"session {window.whole_session().name} has no window {number}")
+    return 0
+
+
+def shut(window: FolderSession) -> int:
+    """Shuts a window, and returns once nothing of it is there."""
+    server = window.process("server")
+    asked = WindowsAsked(window)
+    asked.say(WINDOWS)
+    asked.until(WINDOWS)
+    asked.say(f"shut {window.number or 1}")
+    # The last one's end is the session's.
+    try:
+        asked.until(GONE)
+    except Fault:
+        if window.runs():
+            raise
+    end = time.monotonic() + ANSWERS
+    while (window.process("server") == server or os.path.exists(window.folder)) and time.monotonic() < end:
+        time.sleep(0.01)
+    if window.process("server") == server:
+        raise Fault(f"window {window.name} doesn't end")
+    return 0
+
+
+def list_clients(session: FolderSession) -> int:
+    """Prints a line for each terminal at a session: its number, name, size, window, since when, and whether it watches."""
+    for words in WindowsAsked(session).clients():
+        since = time.strftime("%Y-%m-%d %H:%M", time.localtime(min(int(words[6]), 1 << 40)))
+        watches = " watches" if words[7] == "watches" else ""
+        print(printable(f"{words[1]:>3} {words[2]:24} {words[3]} by {words[4]}, window {words[5]}, since {since}{watches}"))
+    return 0
+
+
+def detach_others(session: FolderSession) -> int:
+    """Has all terminals leave that are at a session, and returns once they did; tells how many stay."""
+    asked = WindowsAsked(session)
+    there = asked.clients()
+    for words in there:
+        asked.say(f"leave {words[1]}")
+        asked.until("left")
+    end = time.monotonic() + LEAVES
+    while there and time.monotonic() < end:
+        time.sleep(0.02)
+        numbers = {words[1] for words in asked.clients()}
+        there = [words for words in there if words[1] in numbers]
+    return len(there)

@@ -1,0 +1,317 @@
+"""A pane of a session at the keeper of its shells: the command on its pseudo-terminal, the pane's socket, and what waits for either."""
+from __future__ import annotations
+
+import contextlib
+import fcntl
+import os
+import signal
+import socket
+import struct
+import termios
+from collections.abc import Callable
+
+from roam_live import terminal
+from roam_live.bells import Bells
+from roam_live.brought import AGENT, NAMES, Brought, agent_in
+from roam_live.keypads import Keypad
+from roam_live.loops import Loop, always
+from roam_live.program import ASKS_WHY, UNREAD_LIMIT, connected_now, read, reason, say, write
+from roam_live.programs import PANE, group_in_front
+from roam_live.typed import TypedQueue
+
+# How many bytes may wait for a pane; no more of the command's are read then. What waits here and in the socket is what is still shown
+# of a command that has been interrupted, so it is little.
+LIMIT = 16384
+SOCKET_LIMIT = 8192
+
+# What tells of another terminal.
+FOREIGN = ("COLUMNS", "LINES", "TERMCAP", "TMUX", "TMUX_PANE", "STY", "WINDOWID", "VTE_VERSION", "XTERM_VERSION", "KONSOLE_VERSION",
+           "TERM_PROGRAM", "TERM_PROGRAM_VERSION")
+
+# What was typed before a shell is there again has come once nothing more comes for so many seconds: a client says again what wasn't taken.
+SETTLES = 0.5
+
+# So many seconds a server has until it reads what a pane's programs write.
+READ_WAIT = 3.0
+
+DROPPED = b"\r\n[a new shell; what was typed since the last one ended is dropped]\r\n"
+NOT_RUN = "[not run: {}; a key tries again]\r\n"
+
+# What a pane has whose shell can't be run.
+LAST_SHELL = "/bin/sh"
+
+
+class Options:
+    """What a keeper is asked for, of the panes in a folder: their command, the user's shell where none is named; the server's process,
+    where it is known; whether a command's end closes its pane, and whether another keeper was there before. Where they are those of a
+    window of a session, its number, and the session's own folder."""
+
+    def __init__(self, *, folder: str, command: list[str] | None = None, server: int | None = None, close: bool = False,
+                 again: bool = False, window: int = 0, common: str = "") -> None:
+        self.dir, self.server, self.close, self.again = folder, server, close, again
+        self.window, self.common = window, common or folder
+        self.command = command or [os.environ.get("SHELL") or LAST_SHELL]
+        self.instead = None if command else LAST_SHELL
+
+    def of_window(self, window: int, folder: str, server: int, again: bool) -> Options:
+        """The same, of the panes of a window."""
+        found = Options(folder=folder, server=server, close=True, again=again, window=window, common=self.common)
+        found.command, found.instead = self.command, self.instead
+        return found
+
+    def named(self, pane: int) -> str:
+        """A pane in words."""
+        return f"pane {pane} of window {self.window}" if self.window else f"pane {pane}"
+
+
+def surroundings(asked: Options, pane: int, brought: Brought) -> dict[str, str]:
+    """The environment of a pane's command, with what was brought to the session."""
+    kept = {name: value for name, value in os.environ.items() if name not in (*FOREIGN, *NAMES, ASKS_WHY)}
+    return {**kept, **terminal.names(), **brought.set_values(), AGENT: agent_in(asked.common), PANE: f"{asked.dir}:{pane}"}
+
+
+def entered(folder: str) -> dict[str, str]:
+    """What tells a pane's command of the folder that this process enters for it; nothing where that can't be entered."""
+    try:
+        os.chdir(folder)
+    except OSError:
+        return {}
+    return {"PWD": folder}
+
+
+def say_in(path: str, text: str) -> None:
+    """Says a line in a pane that has no shell: where another is connected there, or nothing can be had for it, it isn't said."""
+    with contextlib.suppress(OSError), connected_now(path) as peer:
+        peer.send(text.encode("utf-8", "replace"))
+
+
+class PaneCommand:
+    """A pane: its command on a pseudo-terminal, the pane's socket, and what waits for either.
+
+    It has no socket before it is connected, and no terminal before its command is run.
+    """
+
+    def __init__(self, asked: Options, loop: Loop, number: int, life: int, size: terminal.Size, is_again: bool, folder: str,
+                 typed: TypedQueue) -> None:
+        self.asked, self.loop, self.number, self.life, self.size, self.is_again = asked, loop, number, life, size, is_again
+        self.path = f"{asked.dir}/p{number}"
+        self.named = asked.named(number)
+        # Where its command begins.
+        self.folder = folder
+        self.peer: socket.socket | None = None
+        self.process: int | None = None
+        self.terminal: int | None = None
+        self.is_connected = self.is_told = False
+        self.to_pane, self.to_terminal = bytearray(), typed
+        # Whether something that was typed was dropped since its programs had read all.
+        self.is_dropping = False
+        self.has_ended = False
+        # How much was written there, and whether what was typed before another kept the shell may still come.
+        self.written = 0
+        self.is_settling = False
+        # When its close is asked for anew.
+        self.asked_until = 0.0
+        self.bells, self.has_rung = Bells(), False
+        self.keypad = Keypad()
+        # Whether something was typed or written since that was looked at; and whether something was written.
+        self.is_touched = self.has_news = False
+        # What new panes have of those who attached.
+        self.brought = Brought()
+        # What has it known what the server told of the panes before it handed out what was typed.
+        self.follows: Callable[[], object] = lambda: None
+        # What takes all that is written to the pane, for the rows that are kept, and whether it takes more now.
+        self.keeps: Callable[[bytes], object] = lambda data: None
+        self.hears: Callable[[], bool] = always
+
+    def connect(self, look: Callable[[], object]) -> None:
+        """Connects to the pane; a call is for when it can be looked whether the server reads what is written."""
+        self.peer = connected_now(self.path)
+        self.peer.setsockopt(socket.SOL_SOCKET, socket.SO_SNDBUF, SOCKET_LIMIT)
+        self.is_connected = True
+        # What is typed is read whatever waits: a command that doesn't read would stop the server else.
+        self.loop.add(self.peer, self.hear, self.write_pane, has_more=lambda: self.to_pane)
+        self.loop.later(f"look at {self.named}", READ_WAIT, look)
+
+    def settle(self) -> None:
+        """Waits until what was typed before has come, and drops it."""
+        self.is_settling = True
+        self.loop.later(f"settle {self.named}", SETTLES, self.settled)
+
+    def settled(self) -> None:
+        """Runs the command, since what was typed before has come."""
+        self.is_settling = False
+        self.show(DROPPED)
+        self.run()
+
+    def show(self, text: bytes) -> None:
+        """Has what is written to the pane wait for it, and kept."""
+        self.to_pane += text
+        self.keeps(text)
+
+    def run(self) -> None:
+        """Runs the command; where it can't be spawned a line in the pane says why."""
+        try:
+            self.process, self.terminal = terminal.forked(self.size)
+        except OSError as fault:
+            self.show(NOT_RUN.format(reason(fault)).encode())
+            return
+        if self.process == 0:
+            try:
+                environment = {**surroundings(self.asked, self.number, self.brought), **entered(self.folder)}
+                terminal.become(self.asked.command, environment, self.asked.instead)
+            finally:
+                os._exit(127)
+        os.set_inheritable(self.terminal, False)
+        os.set_blocking(self.terminal, False)
+        self.loop.add(self.terminal, self.hear_terminal, self.write_terminal, has_more=lambda: self.to_terminal,
+                      hears=lambda: len(self.to_pane) < LIMIT and self.hears())
+
+    def resize(self, size: terminal.Size) -> None:
+        """Tells the programs a new size."""
+        if size != self.size and self.terminal is not None:
+            with contextlib.suppress(OSError):
+                terminal.set_size(self.terminal, *size)
+        self.size = size
+
+    def close_terminal(self) -> None:
+        """Closes the terminal, which hangs up the programs that are left there."""
+        if self.terminal is not None:
+            self.loop.remove(self.terminal)
+            os.close(self.terminal)
+            self.terminal = None
+        self.to_terminal.clear()
+
+    def close_peer(self) -> None:
+        """Closes the connection to the pane, which takes no more."""
+        if self.peer:
+            self.loop.remove(self.peer)
+            self.peer.close()
+            self.peer = None
+        self.to_pane.clear()
+
+    def hang_up(self) -> None:
+        """Ends the pane's programs, and the connection to the pane."""
+        for what in ("look at", "settle", "close"):
+            self.loop.drop(f"{what} {self.named}")
+        self.close_terminal()
+        self.close_peer()
+        if self.process is not None and self.runs():
+            for number in (signal.SIGHUP, signal.SIGCONT):
+                # A process that has become another user's is hung up by its terminal alone.
+                with contextlib.suppress(OSError):
+                    os.kill(self.process, number)
+
+    def runs(self) -> bool:
+        """Whether its command was spawned, and hasn't ended."""
+        return self.process is not None and not self.has_ended
+
+    def ends(self) -> None:
+        """Takes what an ended command wrote last; what it left behind may write for ever, and is hung up."""
+        self.has_ended = True
+        while self.terminal is not None and len(self.to_pane) < LIMIT:
+            piece = read(self.terminal)
+            if not piece:
+                break
+            self.take(piece)
+        self.close_terminal()
+
+    def hear(self) -> None:
+        """Takes what was typed. Where no command could be spawned a key tries again."""
+        self.follows()
+        if not self.peer:
+            # By what was told the pane is gone.
+            return
+        typed = read(self.peer.fileno())
+        self.is_touched = self.is_touched or bool(typed)
+        if typed == b"":
+            self.close_peer()
+        elif self.is_settling:
+            self.settle()
+        elif self.terminal is not None:
+            self.wait_typed(typed or b"")
+        elif typed and self.process is None:
+            self.run()
+
+    def hear_terminal(self) -> None:
+        """Takes what the programs wrote, as far as there is room: a program that writes line by line hands out little at once."""
+        pieces: list[bytes] = []
+        room, written = LIMIT - len(self.to_pane), None
+        while self.terminal is not None and room > 0:
+            written = read(self.terminal)
+            if not written:
+                break
+            pieces.append(written)
+            room -= len(written)
+        if pieces:
+            self.take(b"".join(pieces))
+        if written == b"":
+            self.take(written)
+
+    def write_terminal(self) -> None:
+        """Writes what the programs take; what is gone takes no more."""
+        if self.terminal is not None:
+            self.to_terminal.write(self.terminal)
+            self.is_dropping = self.is_dropping and bool(self.to_terminal)
+
+    def write_pane(self) -> None:
+        """Writes what the pane takes now of what waits for it."""
+        waiting = len(self.to_pane)
+        if self.peer and not write(self.peer.fileno(), self.to_pane):
+            self.close_peer()
+        self.written += waiting - len(self.to_pane)
+
+    def is_unread(self) -> bool:
+        """Whether something was written to the pane, no more than the socket holds, and is there still."""
+        if not self.peer or not 0 < self.written <= 2 * SOCKET_LIMIT:
+            return False
+        with contextlib.suppress(OSError):
+            waiting: int = struct.unpack("i", fcntl.ioctl(self.peer, termios.TIOCOUTQ, bytes(4)))[0]
+            return waiting > 0
+        return False
+
+    def wait_typed(self, typed: bytes) -> None:
+        """Has what was typed wait for the programs. What they leave unread above a limit is dropped, which is told once until they have
+        read all."""
+        if not self.to_terminal.take(typed) and not self.is_dropping:
+            self.is_dropping = True
+            say(f"{self.named}: what is typed isn't read there; above {UNREAD_LIMIT} bytes it is dropped")
+
+    def in_front(self) -> list[int | None]:
+        """The processes by whose working folder a new pane's is chosen: the first of those in front here, and this pane's command."""
+        return [group_in_front(self.terminal), self.process] if self.terminal is not None else []
+
+    def take(self, written: bytes | None) -> None:
+        """Takes what the programs wrote; where none has the terminal any more it is closed."""
+        if written == b"":
+            self.close_terminal()
+        elif written:
+            self.is_touched = self.has_news = True
+            self.has_rung = self.bells.rung(written) or self.has_rung
+            self.keypad.fed(written)
+            self.show(written)
+
+
+class Spare:
+    """A descriptor that is kept for what has to be had where no other is left."""
+
+    def __init__(self) -> None:
+        self.end: int | None = None
+
+    def free(self) -> None:
+        """Gives it free."""
+        if self.end is not None:
+            os.close(self.end)
+            self.end = None
+
+    def keep(self) -> None:
+        """Has it again; OSError where none is to be had."""
+        if self.end is None:
+            self.end = os.open(os.devnull, os.O_RDONLY)
+
+
+def has_ended(process: int) -> bool:
+    """Whether a process of this tool has ended."""
+    try:
+        return os.waitpid(process, os.WNOHANG)[0] != 0
+    except ChildProcessError:
+        return True

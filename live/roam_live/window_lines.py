@@ -1,0 +1,135 @@
+"""The lines about windows at the keeper's sockets `shells`: which there are, what happens in them, and how one is opened, named and shut."""
+from __future__ import annotations
+
+import re
+
+TYPE_CHECKING = False
+if TYPE_CHECKING:
+    from collections.abc import Callable
+    from typing import Protocol
+
+    from roam_live.shells import ShellsSocket
+    from roam_live.shells_peers import ShellsPeer
+    from roam_live.terminal import Size
+
+    class WindowTable(Protocol):
+        """Who has the windows of a session."""
+
+        def named(self) -> dict[int, str]:
+            """The windows that are there, and their names."""
+
+        def open(self, size: Size, beside: int, told: Callable[[int, str], object]) -> None:
+            """Opens a window of a size, asked for at another; told with its number, or with 0 and why there is none."""
+
+        def rename(self, number: int, name: str) -> bool:
+            """Gives a window a name; whether it is there."""
+
+        def shut(self, number: int) -> bool:
+            """Ends a window; whether it is there."""
+
+        def came(self, number: int) -> None:
+            """Takes note that a terminal is at a window now."""
+
+# The words of lines that are said, and of those that are told.
+WINDOWS, WINDOW, GONE, OPENED, BELL, ACTIVITY = "windows", "window", "gone", "opened", "bell", "activity"
+
+# How one asks for a window to be opened, named and shut.
+OPEN = re.compile(r"open ([1-9]\d{0,4}) ([1-9]\d{0,4})", re.ASCII)
+NAME = re.compile(r"name ([1-9]\d?) (-|(?:[0-9a-f]{2}){1,119})", re.ASCII)
+SHUT = re.compile(r"shut ([1-9]\d?)", re.ASCII)
+
+# A session has so many windows at most, and a name so many characters, and bytes, which stand in a line in hexadecimal.
+MOST_WINDOWS = 99
+LONGEST_NAME = 64
+LONGEST_BYTES = 119
+
+# What a name is where a window has none.
+NO_NAME = "-"
+
+# One who asks may have so many opened at once.
+MOST_OPENING = 4
+
+WATCHES = "a terminal that only watches opens none"
+TOO_MANY = f"{MOST_OPENING} are being opened"
+
+
+def name_in(word: str) -> str | None:
+    """The name that a word tells, nothing for none; None where it can't be one."""
+    if word == NO_NAME:
+        return ""
+    try:
+        name = bytes.fromhex(word).decode("utf-8")
+    except ValueError:
+        return None
+    return name if name.isprintable() and 0 < len(name) <= LONGEST_NAME else None
+
+
+def name_word(name: str) -> str:
+    """The word that tells a name."""
+    return name.encode("utf-8", "replace").hex() or NO_NAME
+
+
+class WindowLines:
+    """The lines, at the sockets of all windows, for a table that has them: what one who only watches asks for isn't done."""
+
+    def __init__(self, table: WindowTable, sockets: list[ShellsSocket]) -> None:
+        self.table, self.sockets = table, sockets
+
+    def take(self, socket: ShellsSocket, peer: ShellsPeer, line: str) -> bool:
+        """Takes a line of one who is at a window, and tells whether it is one of these."""
+        opens, names, shuts = OPEN.fullmatch(line), NAME.fullmatch(line), SHUT.fullmatch(line)
+        if line == WINDOWS:
+            peer.asks_windows = True
+            told = [self.line(number) for number in sorted(self.table.named())]
+            socket.send(peer, [*told, f"{WINDOWS} {len(told)}"])
+        elif opens:
+            self.open(socket, peer, (int(opens[1]), int(opens[2])))
+        elif peer.watches():
+            return False
+        elif names and name_in(names[2]) is not None:
+            self.answer_gone(socket, peer, int(names[1]), self.table.rename(int(names[1]), name_in(names[2]) or ""))
+        elif shuts:
+            self.answer_gone(socket, peer, int(shuts[1]), self.table.shut(int(shuts[1])))
+        else:
+            return False
+        return True
+
+    def line(self, number: int) -> str:
+        """The line that tells a window."""
+        return f"{WINDOW} {number} {name_word(self.table.named().get(number, ''))}"
+
+    def answer_gone(self, socket: ShellsSocket, peer: ShellsPeer, number: int, is_there: bool) -> None:
+        """Tells one that the window isn't there of which he asked something."""
+        if not is_there:
+            socket.send(peer, [f"{GONE} {number}"])
+
+    def open(self, socket: ShellsSocket, peer: ShellsPeer, size: Size) -> None:
+        """Has a window opened, and answers once it is there, or can't be."""
+
+        def told(number: int, why: str) -> None:
+            peer.opening -= 1
+            if peer in socket.peers:
+                socket.send(peer, [f"{OPENED} {number}" if number else f"{OPENED} none {why}"])
+
+        refusal = WATCHES if peer.watches() else TOO_MANY if peer.opening >= MOST_OPENING else ""
+        peer.opening += 1
+        if refusal:
+            told(0, refusal)
+        else:
+            self.table.open(size, socket.window, told)
+
+    # ---- what is told
+
+    def tell(self, line: str) -> None:
+        """Tells a line to all who asked for windows."""
+        for socket in list(self.sockets):
+            for peer in [peer for peer in socket.peers if peer.asks_windows]:
+                socket.send(peer, [line])
+
+    def tell_window(self, number: int) -> None:
+        """Tells that a window is there, or has another name."""
+        self.tell(self.line(number))
+
+    def comes(self, number: int) -> None:
+        """Takes note that a terminal is at a window."""
+        self.table.came(number)

@@ -1,0 +1,347 @@
+"""The windows of a session at its keeper: each is a server with its start, in a folder of its own, and shells in its panes."""
+from __future__ import annotations
+
+import contextlib
+import os
+import signal
+import socket
+from collections.abc import Callable
+
+from roam_live.pane_commands import Options
+from roam_live.program import Fault, connected_now, read, reason, say
+from roam_live.programs import working_folder
+from roam_live.row_keeping import pane_of_key
+from roam_live.terminal import LEAST, size_act
+from roam_live.window_lines import ACTIVITY, BELL, GONE, MOST_WINDOWS, WindowLines
+from roam_live.window_processes import SERVER, TERMINALS, WindowProcesses, note_ends, numbers_in, windows_folder
+from roam_live.window_shells import Common, Shells
+
+TYPE_CHECKING = False
+if TYPE_CHECKING:
+    from roam_live.terminal import Size
+
+# What a window is: about to be there, there, or about to be gone.
+OPENING, THERE, ENDING = "opening", "there", "ending"
+
+# So often it is looked whether what was begun is there, or has ended, and so many seconds it has for that.
+STEP = 0.004
+OPENS = 10.0
+ENDS = 2.0
+AGAIN = 1.0
+
+# So many seconds lie between two lines that tell of one window that something was written, or of one pane that it rang.
+APART = 1.0
+
+FULL = f"a session has {MOST_WINDOWS} windows at most"
+OVER = "the session ends"
+
+
+class KeptWindow:
+    """A window: its processes, its panes once they are followed, its name, and who is told once it is there."""
+
+    def __init__(self, number: int, processes: WindowProcesses, told: Callable[[int, str], object]) -> None:
+        self.number, self.processes, self.told = number, processes, told
+        self.state = OPENING
+        self.name = processes.name()
+        self.shells: Shells | None = None
+        self.size: Size | None = None
+        # Where its first pane's command begins, and whether another keeper had it before.
+        self.begins_in, self.is_again = "", False
+        # Until when it has to be there, or gone.
+        self.until = 0.0
+        # When it may be told again that something was written there, and that a pane rang.
+        self.active_at = 0.0
+        self.rung_at: dict[int, float] = {}
+
+    def has_terminals(self) -> bool:
+        """Whether somebody is there."""
+        return self.shells is not None and self.shells.socket.has_terminals()
+
+
+class Windows:
+    """All windows of a session. The last one's end is the session's."""
+
+    def __init__(self, asked: Options, common: Common) -> None:
+        self.asked, self.common, self.loop = asked, common, common.loop
+        self.folder = windows_folder(asked.common)
+        self.windows: dict[int, KeptWindow] = {}
+        self.last = 0
+        self.lines = common.shells.lines = WindowLines(self, common.shells.sockets)
+        self.take_over()
+
+    # ---- what is asked
+
+    def named(self) -> dict[int, str]:
+        """The windows that are there, and their names."""
+        return {number: one.name for number, one in self.windows.items() if one.state == THERE}
+
+    def open(self, size: Size | None, beside: int, told: Callable[[int, str], object]) -> None:
+        """Opens a window, of a size where one is named, asked for at another; told with its number, or with 0 and why there is none."""
+        number = next((one for one in range(1, MOST_WINDOWS + 1) if one not in self.windows), 0)
+        if not number or self.common.is_over:
+            told(0, OVER if number else FULL)
+            return
+        window = KeptWindow(number, WindowProcesses(self.asked.common, number), told)
+        window.size = (max(size[0], LEAST[0]), max(size[1], LEAST[1])) if size else None
+        window.begins_in = self.folder_beside(beside)
+        self.windows[number] = window
+        self.begin(window)
+
+    def folder_beside(self, number: int) -> str:
+        """Where the first command of a window begins: where the program in front in the pane in focus of another is."""
+        shells = self.windows[number].shells if number in self.windows else None
+        pane = shells.panes.get(shells.focus) if shells else None
+        return working_folder(pane.in_front()) if pane else ""
+
+    def rename(self, number: int, name: str) -> bool:
+        """Gives a window a name; whether it is there."""
+        window = self.windows.get(number)
+        if not window or window.state != THERE:
+            return False
+        window.name = name
+        try:
+            window.processes.note_name(name)
+        except OSError as fault:
+            say(f"window {number}: its name isn't noted: {reason(fault)}")
+        self.lines.tell_window(number)
+        return True
+
+    def shut(self, number: int) -> bool:
+        """Ends a window; whether it is there."""
+        window = self.windows.get(number)
+        if not window or window.state != THERE:
+            return False
+        self.end(window, is_meant=True)
+        return True
+
+    def came(self, number: int) -> None:
+        """Takes note that a terminal is at a window now: who attaches without naming one goes there."""
+        if number != self.last:
+            self.last = number
+            with contextlib.suppress(OSError):
+                self.note_last()
+
+    def note_last(self) -> None:
+        """Notes at which window somebody was last."""
+        new = os.path.join(self.folder, f"last.{os.getpid()}")
+        with open(new, "w", encoding="ascii") as file:
+            file.write(f"{self.last}\n")
+        os.replace(new, os.path.join(self.folder, "last"))
+
+    # ---- how one is begun
+
+    def take_over(self) -> None:
+        """Goes on with the windows of a keeper that has ended, of which the servers run; what others left is removed."""
+        for number in numbers_in(self.folder):
+            processes = WindowProcesses(self.asked.common, number)
+            processes.find()
+            if not processes.runs(SERVER):
+                processes.end(signal.SIGKILL)
+                processes.clean()
+                continue
+            window = self.windows[number] = KeptWindow(number, processes, self.taken)
+            window.is_again = True
+            self.await_(window, OPENS)
+
+    def taken(self, number: int, why: str) -> None:
+        """Takes note of a window that was taken over, or couldn't be."""
+        if not number:
+            say(f"a window of an earlier keeper can't be gone on with: {why}")
+
+    def begin(self, window: KeptWindow) -> None:
+        """Begins a window with its server."""
+        try:
+            window.processes.make_folder()
+            self.common.hung.append(window.processes.spawn_server())
+        except (OSError, Fault) as fault:
+            self.fail(window, reason(fault))
+            return
+        self.await_(window, OPENS)
+
+    def await_(self, window: KeptWindow, seconds: float) -> None:
+        """Has the next step of a window tried until a moment."""
+        window.until = self.loop.clock() + seconds
+        self.step(window)
+
+    def step(self, window: KeptWindow) -> None:
+        """Does the next steps of a window that is about to be there."""
+        if window.state != OPENING:
+            return
+        processes = window.processes
+        try:
+            is_there = self.follow(window) and (window.is_again or self.has_start(window))
+        except (OSError, Fault) as fault:
+            self.fail(window, reason(fault))
+            return
+        if is_there:
+            self.opened(window)
+        elif not processes.runs(SERVER):
+            self.fail(window, "its server has ended")
+        elif self.loop.clock() < window.until:
+            self.loop.later(f"window {window.number} begins", STEP, lambda: self.step(window))
+        elif window.is_again:
+            # Its server may have been stopped.
+            self.loop.later(f"window {window.number} begins", AGAIN, lambda: self.step(window))
+        else:
+            self.fail(window, "its server or its client start doesn't come up")
+
+    def follow(self, window: KeptWindow) -> bool:
+        """Follows a window's panes, and has its start spawned, once its server is there; whether that is so."""
+        processes = window.processes
+        if window.shells:
+            return True
+        if not window.is_again and not os.path.exists(processes.path("session")):
+            return False
+        try:
+            peer = connected_now(processes.path("panes"))
+        except OSError:
+            return False
+        try:
+            if not processes.runs(TERMINALS):
+                self.common.hung.append(processes.spawn_start())
+            asked = self.asked.of_window(window.number, processes.folder, processes.server(), window.is_again)
+            size = (window.size[0] - 1, window.size[1]) if window.size else None
+            window.shells = Shells(asked, self.common, peer, size, window.begins_in)
+        except BaseException:
+            peer.close()
+            raise
+        return True
+
+    def has_start(self, window: KeptWindow) -> bool:
+        """Whether a window's start takes terminals, which has its size typed once it does, and its first command runs."""
+        try:
+            peer = connected_now(window.processes.path("terminals"))
+        except OSError:
+            if not window.processes.runs(TERMINALS):
+                raise Fault("its client start has ended") from None
+            return False
+        if window.size:
+            SizeAct(self.loop, peer, window.size)
+            window.size = None
+        else:
+            peer.close()
+        return window.shells is not None and window.shells.has_begun()
+
+    def opened(self, window: KeptWindow) -> None:
+        """Tells of a window that is there."""
+        window.state = THERE
+        self.loop.later(f"window {window.number} has its size", OPENS, lambda: window.shells and window.shells.await_no_more())
+        self.lines.tell_window(window.number)
+        window.told(window.number, "")
+
+    def fail(self, window: KeptWindow, why: str) -> None:
+        """Leaves nothing of a window that can't be there, and tells why."""
+        say(f"window {window.number} can't be opened: {why}")
+        told, window.told = window.told, lambda number, why: None
+        self.end(window, is_meant=True)
+        told(0, why)
+
+    # ---- how one ends
+
+    def end(self, window: KeptWindow, is_meant: bool) -> None:
+        """Ends a window: its programs are hung up, and its server and start ended, by force where they don't end in time."""
+        was_there = window.state == THERE
+        window.state = ENDING
+        self.loop.drop(f"window {window.number} begins")
+        if is_meant and window.processes.server():
+            note_ends(self.asked.common, [window.processes.ending()])
+        if was_there:
+            self.lines.tell(f"{GONE} {window.number}")
+        if window.shells:
+            window.shells.hang_up()
+        window.processes.end(signal.SIGTERM, SERVER)
+        window.until = self.loop.clock() + ENDS
+        self.step_end(window)
+
+    def step_end(self, window: KeptWindow) -> None:
+        """Waits for the end of a window's processes, and for what was last written there."""
+        now, processes = self.loop.clock(), window.processes
+        waits = [role for role in (SERVER, TERMINALS) if processes.runs(role)]
+        if waits and now >= window.until - ENDS / 2:
+            processes.end(signal.SIGKILL if now >= window.until else signal.SIGTERM)
+        leaves = any(pane_of_key(pane.rows.pane)[0] == window.number for pane in self.common.rows.leaving)
+        if waits or leaves and now < window.until - ENDS / 2:
+            self.loop.later(f"window {window.number} ends", STEP * 2, lambda: self.step_end(window))
+            return
+        if window.shells:
+            window.shells.close()
+        processes.clean()
+        del self.windows[window.number]
+        self.common.is_over = self.common.is_over or not self.windows
+
+    def end_all(self) -> None:
+        """Ends all windows, and waits for that, no longer than they have."""
+        for window in [one for one in self.windows.values() if one.state != ENDING]:
+            self.end(window, is_meant=True)
+        end = self.loop.clock() + 2 * ENDS
+        while self.windows and self.loop.clock() < end:
+            self.loop.turn()
+        with contextlib.suppress(OSError):
+            os.unlink(os.path.join(self.folder, "last"))
+        with contextlib.suppress(OSError):
+            os.rmdir(self.folder)
+
+    # ---- what is new
+
+    def turn(self) -> None:
+        """Waits until something can be done, does it, and tells what is new in windows."""
+        self.common.turn()
+        for window in [one for one in self.windows.values() if one.shells and one.state == THERE]:
+            self.tell_news(window)
+
+    def tell_news(self, window: KeptWindow) -> None:
+        """Tells what is new in a window: that panes rang, that something was written where nobody is, and that it is over."""
+        shells, now = window.shells, self.loop.clock()
+        if not shells:
+            return
+        for pane in shells.rung:
+            if now >= window.rung_at.get(pane, 0.0):
+                window.rung_at[pane] = now + APART
+                self.lines.tell(f"{BELL} {window.number} {pane}")
+        shells.rung.clear()
+        if shells.has_news and now >= window.active_at:
+            shells.has_news = False
+            if not window.has_terminals():
+                window.active_at = now + APART
+                self.lines.tell(f"{ACTIVITY} {window.number}")
+        if shells.is_over:
+            if not shells.is_meant:
+                self.common.tell(f"window {window.number}: its server was killed, or has failed")
+            self.end(window, is_meant=shells.is_meant)
+
+    def run(self) -> int:
+        """Keeps the windows until the last of them ends."""
+        try:
+            if not self.windows:
+                self.open(None, 0, self.first)
+            while not self.common.is_over:
+                self.turn()
+        finally:
+            self.end_all()
+            self.common.close()
+        return 0
+
+    def first(self, number: int, why: str) -> None:
+        """Takes note of the first window, without which there is no session."""
+        if not number:
+            raise Fault(f"no window can be opened: {why}")
+
+
+class SizeAct:
+    """A connection to a start, over which a size is typed: it is closed once the start has taken that."""
+
+    def __init__(self, loop: Loop, peer: socket.socket, size: Size) -> None:
+        self.loop, self.peer = loop, peer
+        try:
+            peer.send(f"{size_act(size)}\n".encode())
+            peer.shutdown(socket.SHUT_WR)
+        except OSError:
+            peer.close()
+            return
+        loop.add(peer, self.hear)
+
+    def hear(self) -> None:
+        """Passes over what is painted, until the start has closed it."""
+        if read(self.peer.fileno()) == b"":
+            self.loop.remove(self.peer)
+            self.peer.close()
