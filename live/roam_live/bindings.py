@@ -16,10 +16,10 @@ if TYPE_CHECKING:
 BINDINGS = {"o": "next", **{str(pane): f"focus {pane}" for pane in range(1, 10)}}
 WISHES = {"%": "split right", '"': "split down", "x": "close", "d": "detach", "r": "repaint", "?": "help", "up": "up", "down": "down",
           "left": "left", "right": "right", "\x1a": "suspend", "m": "mouse", "[": "copy", "prev": "copy page", "/": "copy search",
-          "]": "paste", "=": "choose"}
-GROWTH = {"C-right": "grow 1", "C-down": "grow 1", "C-left": "grow -1", "C-up": "grow -1"}
+          "]": "paste", "=": "choose", "z": "zoom", " ": "even", ";": "last"}
+BORDERS = {"C-right": "border right", "C-down": "border down", "C-left": "border left", "C-up": "border up"}
 
-# For so many seconds after a growth the next needs no prefix.
+# For so many seconds after a border was moved the next move needs no prefix.
 REPEATS = 0.5
 
 # The keys of the scroll mode: how far back each goes, in rows and in pages; and those that end it.
@@ -32,14 +32,17 @@ NEWEST = f"view -{MOST_VIEW}"
 
 HELP = """\
 C-b and then:
-  %        split the pane: the new one to the right
-  "        split the pane: the new one below
+  % "      split the pane: the new one to the right, or below
   x        close the pane
   o        the next pane
   1 to 9   the pane of this number
   arrows   the pane there
-  C-arrows grow the pane along its split (right, down), or shrink it (left,
-           up); again within half a second without C-b
+  C-arrows move the pane's border there, or where it has none that on the
+           other side; again within half a second without C-b
+  Space ;  even shares for all panes; the pane that was in focus before
+  z        zoom: this pane fills the terminal, until z or another pane has the
+           focus. All panes grow, so on the way back rows are cut on screens
+           (kept rows aren't), others see a part, and links carry more
   [ PgUp / copy mode: all rows that are kept; tmux's keys, vi's where EDITOR
            is: Space or C-Space selects, Return or M-w copies, q leaves
   ] =      paste what was copied last; choose what is pasted
@@ -104,7 +107,7 @@ class Typing:
         return self.scrolled(0, 1, rows) if is_page else ([], "scroll")
 
     def repeats(self, now: float) -> bool:
-        """Whether a growth needs no prefix."""
+        """Whether a move of a border needs no prefix."""
         return now < self.repeats_until
 
     def left(self) -> list[str]:
@@ -123,7 +126,7 @@ class Typing:
         if key.name == self.prefix:
             self.mode = self.prefixed
             return [], ""
-        if key.name in GROWTH and self.repeats(now):
+        if key.name in BORDERS and self.repeats(now):
             return self.prefixed(key, now, rows)
         return acts_of(key), ""
 
@@ -140,9 +143,9 @@ class Typing:
             return self.plain(key, now, rows)
         if key.name == self.prefix:
             return acts_of(key), ""
-        if key.name in GROWTH:
+        if key.name in BORDERS:
             self.repeats_until = now + REPEATS
-            return [GROWTH[key.name]], ""
+            return [], BORDERS[key.name]
         if key.name in BINDINGS:
             return [BINDINGS[key.name]], ""
         return [], WISHES.get(key.name, "unknown")

@@ -246,8 +246,8 @@ class FrontEnd:
         finally:
             self.commands.left()
             self.display.outer.leave(self.left and self.left + self.unpasted())
-            if self.left is not None:
-                self.link.part()
+            if self.left is not None and self.link.part():
+                self.commands.zooming.drop_note()
             self.link.close()
         return self.status
 

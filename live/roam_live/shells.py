@@ -18,6 +18,7 @@ from roam_live.program import Fault, read, reason, say, write
 from roam_live.row_answers import RowAsker
 from roam_live.shells_peers import MOST_WAITING, Giving, ShellsPeer
 from roam_live.texts import cleaned, random_name
+from roam_live.zoom_notes import NotedZoom
 
 TYPE_CHECKING = False
 if TYPE_CHECKING:
@@ -69,6 +70,7 @@ class ShellsSocket:
         self.brought = Brought()
         self.buffers = Buffers()
         self.colours = Colours()
+        self.zoom = NotedZoom()
         # Whether something is new of who is there.
         self.is_new = False
         self.listener: Listener | None = None
@@ -143,6 +145,8 @@ class ShellsSocket:
             self.send(peer, self.brought.lines())
         elif self.take_buffer_line(peer, line) or peer.asker and peer.asker.take(line):
             pass
+        elif not peer.watches() and self.zoom.take(peer.number, line):
+            self.is_new = True
         elif peer.watches() or not (self.brought.take(line) or self.colours.take(line)):
             self.send(peer, [BAD_LINE])
 
@@ -228,7 +232,7 @@ class ShellsSocket:
         self.is_new = False
         there = {peer.number: peer.presence for peer in self.peers if peer.presence}
         for peer in [peer for peer in self.peers if peer.asks]:
-            self.send(peer, peer.news({number: one for number, one in there.items() if number != peer.number}))
+            self.send(peer, peer.news({number: one for number, one in there.items() if number != peer.number}, self.zoom.line()))
 
     def tell_rows(self) -> float | None:
         """Goes on with what was asked of rows, and tells when that is due again."""
@@ -312,7 +316,7 @@ class ShellsSocket:
             self.loop.remove(peer.end)
             peer.end.close()
             self.peers.remove(peer)
-            self.is_new = self.is_new or peer.presence is not None
+            self.is_new = self.zoom.leave(peer.number) or self.is_new or peer.presence is not None
 
     def close(self) -> None:
         """Closes the socket, and removes it."""
