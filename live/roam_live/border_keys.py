@@ -21,6 +21,8 @@ MOST_LINES = 10
 # The side opposite to each.
 OPPOSITE = {"left": "right", "right": "left", "up": "down", "down": "up"}
 
+# So many seconds a line stands that tells why shares aren't even.
+TOLD = 3.0
 NO_BORDER = {"right": "pane {} has no border at its left or right", "down": "pane {} has no border above or below it"}
 NO_ROOM = "this border is as far as it can be"
 STUCK = "shares are even, but at borders with panes on both sides that are split themselves"
@@ -156,7 +158,7 @@ class BorderKeys:
             self.loop.later("even", SETTLES, self.settle)
             self.commands.act_together(*evened.acts, *self.back(places))
         elif evened.is_stuck:
-            self.commands.display.tell(STUCK)
+            self.commands.display.tell(STUCK, TOLD)
         elif is_first:
             self.commands.display.tell(EVEN)
 

@@ -110,7 +110,7 @@ def row_of(parts: Parts, way: str) -> list[Parts]:
 
 
 def shares(whole: int, least: list[int]) -> list[int]:
-    """A length in so many shares and a border between each two: equal ones, the first of them one longer where it doesn't come out, but none
+    """A length in so many shares and a border between each two: equal ones, the last of them one longer where it doesn't come out, but none
     shorter than it can be."""
     left, fixed = whole - len(least) + 1, [0] * len(least)
     while True:
@@ -121,8 +121,8 @@ def shares(whole: int, least: list[int]) -> list[int]:
             break
         for place in short:
             fixed[place] = least[place]
-    more = left - sum(fixed) - share * len(free)
-    return [length or share + (free.index(place) < more) for place, length in enumerate(fixed)]
+    less = len(free) - (left - sum(fixed) - share * len(free))
+    return [length or share + (free.index(place) >= less) for place, length in enumerate(fixed)]
 
 
 def growths(pane: int, by: int) -> list[str]:
