@@ -16,12 +16,13 @@ if TYPE_CHECKING:
 BINDINGS = {"o": "next"}
 WISHES = {"%": "split right", '"': "split down", "x": "close", "d": "detach", "r": "repaint", "?": "help", "up": "up", "down": "down",
           "left": "left", "right": "right", "\x1a": "suspend", "m": "mouse", "[": "copy", "prev": "copy page", "/": "copy search",
-          "]": "paste", "=": "choose", "c": "window new", "w": "window list", ",": "window name", "&": "window shut", "n": "go next",
-          "p": "go previous", "l": "go last", **{str(digit): f"go {digit or 10}" for digit in range(10)}, "q": "panes", "t": "row",
-          "D": "leave others"}
-GROWTH = {"C-right": "grow 1", "C-down": "grow 1", "C-left": "grow -1", "C-up": "grow -1"}
+          "]": "paste", "=": "choose", "z": "zoom", " ": "even", ";": "last", "c": "window new", "w": "window list", ",": "window name",
+          "&": "window shut", "n": "go next", "p": "go previous", "l": "go last",
+          **{str(digit): f"go {digit or 10}" for digit in range(10)}, "q": "panes", "t": "row", "D": "leave others"}
+BORDERS = {"C-right": "border right", "C-down": "border down", "C-left": "border left", "C-up": "border up"}
 
-# For so many seconds after a growth the next needs no prefix; and for so many after the wish for a pane by its number a digit is one.
+# For so many seconds after a border was moved the next move needs no prefix; and for so many after the wish for a pane by its number a digit
+# is one.
 REPEATS = 0.5
 PICKS = 3.0
 DIGITS = "123456789"
@@ -36,15 +37,16 @@ NEWEST = f"view -{MOST_VIEW}"
 
 HELP = """\
 C-b and then:
-  c        open a window: n p l and 1 to 9, 0 for 10, go to the next, the
-           one before, the last one and those of these numbers
+  c n p l  open a window; go to the next, the one before, the last one
+  1 to 9 0 the window of this number, 10; q and a digit: the pane of it
   w , &    choose a window from a list; name this one; shut it
-  % "      split the pane: the new one to the right; below
-  x        close the pane
-  o arrows the next pane; the pane there
-  q 1      the pane of this number: until now digits alone were panes
-  C-arrows grow the pane along its split (right, down), or shrink it (left,
-           up); again within half a second without C-b
+  % " x    split the pane: the new one to the right, or below; close the pane
+  o ;      the next pane, the one in focus before; arrows: the pane there
+  C-arrows move the pane's border there, or where it has none that on the
+           other side; again within half a second without C-b
+  z        zoom: this pane fills the terminal, until z or another pane has the
+           focus. All panes grow, so on the way back rows are cut on screens
+           (kept rows aren't), others see a part, and links carry more
   [ PgUp / copy mode: all rows that are kept; tmux's keys, vi's where EDITOR
            is: Space or C-Space selects, Return or M-w copies, q leaves
   ] =      paste what was copied last; choose what is pasted
@@ -54,7 +56,7 @@ C-b and then:
   C-z      suspend: the shell that this came from is there again, until `fg`
   r        size the session to this terminal, which cuts what is wider where
            that is smaller, and paint all anew
-  t        hide the last row, or show it again
+  t Space  hide the last row, or show it; even shares for all panes
   ?        these keys, until the next key
   C-b      C-b itself"""
 
@@ -126,7 +128,7 @@ class Typing:
         return self.scrolled(0, 1, rows) if is_page else ([], "scroll")
 
     def repeats(self, now: float) -> bool:
-        """Whether a growth needs no prefix."""
+        """Whether a move of a border needs no prefix."""
         return now < self.repeats_until
 
     def left(self) -> list[str]:
@@ -145,7 +147,7 @@ class Typing:
         if key.name == self.prefix:
             self.mode = self.prefixed
             return [], ""
-        if key.name in GROWTH and self.repeats(now):
+        if key.name in BORDERS and self.repeats(now):
             return self.prefixed(key, now, rows)
         return acts_of(key), ""
 
@@ -162,9 +164,9 @@ class Typing:
             return self.plain(key, now, rows)
         if key.name == self.prefix:
             return acts_of(key), ""
-        if key.name in GROWTH:
+        if key.name in BORDERS:
             self.repeats_until = now + REPEATS
-            return [GROWTH[key.name]], ""
+            return [], BORDERS[key.name]
         if key.name in BINDINGS:
             return [BINDINGS[key.name]], ""
         wish = WISHES.get(key.name, "unknown")

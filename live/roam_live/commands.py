@@ -9,9 +9,11 @@ from collections.abc import Callable
 from roam_live import terminal
 from roam_live.asked_line import LEAVES, TAKES, AskedLine
 from roam_live.bindings import NEWEST, PICKS, Typing, help_with, spelled
+from roam_live.border_keys import BorderKeys
 from roam_live.choosing import Choosing, ChoosingWindow
 from roam_live.copying import Copying, CopyEvent
 from roam_live.display import NO_SIZE, Display
+from roam_live.foci import Foci
 from roam_live.keys import Key, Keys
 from roam_live.links import StartLink
 from roam_live.loops import Loop
@@ -24,6 +26,7 @@ from roam_live.programs import told
 from roam_live.following import PanesFollower
 from roam_live.places import BESIDE, MOVES, Places
 from roam_live.shells_link import LEAVE_OTHERS
+from roam_live.zooming import Zooming
 
 TYPE_CHECKING = False
 if TYPE_CHECKING:
@@ -65,7 +68,10 @@ LEAVES_IN = 2.0
 OTHERS_STAY = "the others can't be detached: what keeps the shells doesn't answer, or is an earlier roam's"
 
 # What waits in the loop for a window, and is nothing in another.
-OF_WINDOW = ("fit", "others", "size", "given", "motion", "border", "untold")
+OF_WINDOW = ("fit", "others", "size", "given", "motion", "border", "untold", "even", "zoom", "zoom left")
+
+# What is told where no pane is known that was in focus before.
+NO_LAST = "no other pane was in focus"
 
 # For so many seconds a session is new, and goes by its terminal's size, whatever that is: a window may get its size once it is there.
 NEW = 2.0
@@ -102,6 +108,7 @@ class Commands:
         self.given: terminal.Size | None = None
         self.showed_all = False
         self.copying, self.choosing = Copying(self, loop), Choosing(self)
+        self.zooming, self.border_keys, self.foci = Zooming(self, loop), BorderKeys(self, loop), Foci(panes)
         display.moved = self.fit_drawn
         # The windows of the session, and a list of them, where it may have several.
         self.windows: WindowWishes | None = None
@@ -202,14 +209,18 @@ class Commands:
         """Has acts typed, by who doesn't only watch."""
         if self.link.watches:
             return
-        self.pastes.type(*acts)
+        self.pastes.type(*self.zooming.ended_by(acts))
         self.note_moves(*acts)
 
     def act_together(self, *acts: str) -> None:
         """Has acts typed in a line of their own, by who doesn't only watch: nothing comes between them."""
         if not self.link.watches:
-            self.pastes.type_together(*acts)
-            self.note_moves(*acts)
+            self.type_together(*self.zooming.ended_by(acts))
+
+    def type_together(self, *acts: str) -> None:
+        """Has acts typed in a line of their own, whatever is zoomed."""
+        self.pastes.type_together(*acts)
+        self.note_moves(*acts)
 
     def note_moves(self, *acts: str) -> None:
         """Takes note of those of these acts that move the focus, and of where the last one goes, where it is a key."""
@@ -243,7 +254,11 @@ class Commands:
             self.moved_to = None
         if self.given == self.session_size():
             self.forget_given()
+        self.foci.told()
         self.pointing.told()
+        self.border_keys.told()
+        self.zooming.told()
+        self.mend()
         self.fit_drawn()
         self.fit_first()
         self.show_known()
@@ -277,12 +292,17 @@ class Commands:
     def left(self) -> None:
         """Does what is left to do where the person leaves."""
         self.act(*self.typing.left())
+        self.zooming.leave()
 
     # ---- from window to window
 
     def has_windows(self, windows: WindowWishes) -> None:
         """Has windows that are known here."""
         self.windows, self.choosing_window = windows, ChoosingWindow(self, windows)
+
+    def follow_panes(self, panes: PanesFollower) -> None:
+        """Goes by what another tells of where the panes are."""
+        self.panes = self.pastes.panes = self.foci.panes = panes
 
     def part(self) -> None:
         """Does what is left to do where the person goes to another window: what was drawn, and waited for, is this window's."""
@@ -321,6 +341,7 @@ class Commands:
             # The signal comes as from elsewhere, once what was typed is taken.
             os.kill(os.getpid(), signal.SIGTSTP)
         elif wish == "repaint":
+            self.zooming.overrule_own()
             self.ask_size()
             self.display.resettle()
         elif wish == "help":
@@ -356,6 +377,12 @@ class Commands:
         elif wish in ("paste", "choose"):
             self.copying.close()
             self.choosing.ask(is_newest=wish == "paste")
+        elif wish == "zoom":
+            self.zooming.switch()
+        elif wish == "even" or wish.startswith("border"):
+            self.border_keys.ask(wish.split()[-1])
+        elif wish == "last":
+            self.go_back()
         elif wish in BESIDE:
             self.go(wish)
         elif wish in ("yes", "no"):
@@ -470,15 +497,31 @@ class Commands:
         if not terminal.is_large_enough(size):
             self.display.tell("a session has {} rows and {} columns at least".format(*terminal.LEAST))
             return
-        self.given = terminal.largest(size)
-        self.loop.later("given", REFUSES, self.refused)
+        self.give(terminal.largest(size))
+
+    def give(self, size: terminal.Size) -> None:
+        """Gives the session a size."""
         self.act(terminal.size_act(size))
+        self.expect(size)
+
+    def expect(self, size: terminal.Size) -> None:
+        """Takes it that the session gets a size that it is given."""
+        self.given = size
+        self.loop.later("given", REFUSES, self.refused)
+        self.zooming.overrule()
         self.show_known()
+
+    def mend(self) -> None:
+        """Gives the session the size back that it had before a zoom that a front end has left, and then the one that it has at this
+        terminal."""
+        if self.zooming.mend():
+            self.fit()
 
     def forget_given(self) -> None:
         """Waits no more for a size that was given."""
         self.given = None
         self.loop.drop("given")
+        self.display.release()
 
     def refused(self) -> None:
         """Tells where the session hasn't got the size that it was given, and has taken all that was typed."""
@@ -487,6 +530,7 @@ class Commands:
             return
         given, size = self.given, self.session_size()
         self.forget_given()
+        self.zooming.drop_note()
         self.show_known()
         if given and size not in (given, NO_SIZE):
             self.display.tell("its panes have no room in {} by {}".format(*given), FITS_TOLD)
@@ -538,13 +582,18 @@ class Commands:
         size, own = self.given or self.session_size(), terminal.largest(self.display.room())
         if self.shells:
             self.shells.say_here()
-        if self.is_fresh():
+        if self.zooming.is_on():
+            self.zooming.resized()
+        elif self.is_fresh():
             self.ask_size()
         elif not (self.link.watches or size in (NO_SIZE, own) or not terminal.is_large_enough(own)):
             if self.shells and self.shells.is_awaited():
                 self.loop.later("others", FITS_AGAIN, self.fit)
                 return
-            self.follow(size, own)
+            if not self.zooming.mend():
+                self.follow(size, own)
+                return
+            self.fit()
         self.showed_all = False
 
     def others_told(self) -> None:
@@ -552,17 +601,21 @@ class Commands:
         if "others" in self.loop.due:
             self.loop.drop("others")
             self.fit()
+        self.mend()
 
     def follow(self, size: terminal.Size, own: terminal.Size) -> None:
-        """Has the session grow to this terminal's size, where nobody else types; a lone terminal that showed all of it is followed to any
-        size. Nothing else makes one smaller."""
-        if own[0] < size[0] or own[1] < size[1]:
-            if self.showed_all and self.is_alone():
-                self.ask_size()
-        elif self.has_others():
-            self.display.tell(f"{size[0]} by {size[1]}, as another terminal has it; {self.prefix} r fits this one", FITS_TOLD)
-        else:
+        """Has the session follow this terminal from its size to another, where it does."""
+        if self.follows(size, own, self.showed_all):
             self.ask_size()
+        elif own[0] >= size[0] and own[1] >= size[1]:
+            self.display.tell(f"{size[0]} by {size[1]}, as another terminal has it; {self.prefix} r fits this one", FITS_TOLD)
+        self.showed_all = False
+
+    def follows(self, size: terminal.Size, own: terminal.Size, showed_all: bool) -> bool:
+        """Whether the session follows this terminal: it grows where nobody else types, and a lone terminal that showed all of it is followed to
+        any size. Nothing else makes one smaller, but the end of a zoom."""
+        is_smaller = own[0] < size[0] or own[1] < size[1]
+        return showed_all and self.is_alone() if is_smaller else not self.has_others()
 
     # ---- panes
 
@@ -575,7 +628,7 @@ class Commands:
 
     def split(self, wish: str) -> None:
         """Splits the pane in focus, or tells why that can't be done."""
-        places = self.places()
+        places = self.zooming.unzoomed(self.places())
         why = places.unsplit(wish.split()[1]) if places else ""
         if why:
             self.display.tell(why)
@@ -599,6 +652,16 @@ class Commands:
         places = self.places()
         if places and not places.focus:
             places = self.panes.places
+        places = self.zooming.unzoomed(places)
         pane = places.neighbour(way) if places else None
         if pane or not places:
             self.act(f"focus {pane}" if pane else "next")
+
+    def go_back(self) -> None:
+        """Puts the pane in focus that was before this one."""
+        places = self.places()
+        pane = self.foci.last(places.focus) if places else 0
+        if pane:
+            self.act(f"focus {pane}")
+        else:
+            self.display.tell(NO_LAST)

@@ -137,6 +137,11 @@ class Display:
         self.may_be_whole = False
         self.asked: terminal.Size | None = None
         self.painted_size, self.place = NO_SIZE, (0, 0)
+        # The rectangle of the session that alone is shown, where a pane is zoomed, and the corner that was asked for; and whether nothing new is
+        # shown until the session has the size that it is to have.
+        self.zoomed: Rect | None = None
+        self.corner: tuple[int, int] | None = None
+        self.is_held = False
         # Whether nothing that is painted may reach the terminal before all is painted anew.
         self.is_stale = True
         # What stands in place of the session; what is told in the last row; for how many seconds nothing was heard of the server; and the
@@ -147,9 +152,8 @@ class Display:
         # What a person is asked, above all that is told, and whether that is a line that is typed.
         self.question = ""
         self.is_typed = False
-        # Whether the pane in focus fills the terminal; the labels of the windows, and which of them is shown here; what stands at the end
-        # of the last row; and whether that row is hidden while nothing is drawn, so that one more of the session is shown.
-        self.is_zoomed = False
+        # The labels of the windows, and which of them is shown here; what stands at the end of the last row; and whether that row is hidden
+        # while nothing is drawn, so that one more of the session is shown.
         self.windows: tuple[list[str], int] = ([], 0)
         self.status = ""
         self.is_row_hidden = False
@@ -174,6 +178,7 @@ class Display:
     def begin(self) -> None:
         """Knows nothing of what a start paints that was just connected to: it paints the whole where it isn't asked for a part."""
         self.asked, self.painted_size, self.place = None, NO_SIZE, self.place if self.drawing else (0, 0)
+        self.corner = None
         self.is_stale, self.silent, self.line_put, self.is_masked = True, 0, None, False
 
     def know(self, size: terminal.Size, labels: str, may_be_whole: bool) -> None:
@@ -201,6 +206,8 @@ class Display:
         """The part of the session that is to be shown; None where that is the whole. The session's size may be told from another machine:
         whatever it is, what is asked for is a part that can be."""
         rows, cols = self.outer.size()
+        if self.zoomed:
+            return min(rows - self.has_row(), self.zoomed.rows), min(cols, self.zoomed.cols)
         size = self.size()
         if self.may_be_whole and self.has_row() and size[0] <= rows and size[1] <= cols:
             return None
@@ -217,7 +224,11 @@ class Display:
             return
         if self.cover.startswith(TOO_SMALL):
             self.cover, is_painted = "", True
-        if self.wanted() != self.asked or is_anew:
+        corner = (self.zoomed.row - 1, self.zoomed.col - 1) if self.zoomed else None
+        if self.is_held:
+            return
+        if (self.wanted(), corner) != (self.asked, self.corner) or is_anew:
+            self.corner = corner
             self.ask_part(self.wanted())
         elif is_painted and not self.cover:
             self.repaint()
@@ -227,7 +238,9 @@ class Display:
         """Asks for a part of the session, or for all of it: for that part with the cursor that is nearest to the first row and column, or,
         where something is drawn over it, for the one that is shown."""
         self.asked, self.is_stale = part, True
-        if part and self.drawing:
+        if part and self.corner:
+            self.says("part {} {} {} {}".format(*self.corner, *part))
+        elif part and self.drawing:
             rows, cols = self.size()
             top, left = (max(0, min(place, most)) for place, most in zip(self.place, (rows - 1 - part[0], cols - part[1])))
             self.says(f"part {top} {left} {part[0]} {part[1]}")
@@ -247,14 +260,31 @@ class Display:
     def shows_all(self) -> bool:
         """Whether all of the session is shown, as far as its size is known: its status row may be left out."""
         size = self.size()
-        return self.asked is None or size == NO_SIZE or self.asked == (size[0] - 1, size[1])
+        return self.zoomed is not None or self.asked is None or size == NO_SIZE or self.asked == (size[0] - 1, size[1])
+
+    # ---- a pane alone
+
+    def hold(self) -> None:
+        """Shows nothing new until the session has the size that it is to have: what stands there stays."""
+        self.is_held = self.is_stale = True
+
+    def release(self) -> None:
+        """Shows what there is again, where it was held."""
+        if self.is_held:
+            self.is_held = False
+            self.choose(is_anew=True)
+
+    def zoom(self, rect: Rect | None) -> None:
+        """Shows this rectangle of the session alone; None shows the session again."""
+        self.zoomed, self.is_held = rect, False
+        self.choose(is_anew=True)
 
     # ---- another window, and the last row
 
     def begin_window(self) -> None:
         """Knows nothing of the window where the person goes: what stands there is the other's until it is painted, or that takes long."""
         self.told_size = self.whole_size = NO_SIZE
-        self.place, self.labels, self.is_zoomed = (0, 0), "", False
+        self.place, self.labels, self.zoomed, self.is_held = (0, 0), "", None, False
         self.is_entering = True
         self.loop.later("entered", ENTERS, self.blank)
 
@@ -309,7 +339,7 @@ class Display:
         if self.asked is None:
             # A size that was told before isn't told again.
             self.whole_size = self.painted_size
-        if self.cover or not self.fits() or self.is_stale and not is_anew:
+        if self.cover or self.is_held or not self.fits() or self.is_stale and not is_anew:
             self.is_stale = True
             return
         drawing = self.drawing
@@ -439,7 +469,7 @@ class Display:
     def labels_line(self, width: int) -> str:
         """The labels of the panes and of the windows, and at the end of the row which key fits the session to this terminal, where it isn't
         all shown; else the status."""
-        panes = f"{self.labels.rstrip()} {ZOOMED}" if self.is_zoomed and self.labels else self.labels
+        panes = f"{self.labels.rstrip()} {ZOOMED}" if self.zoomed and self.labels else self.labels
         return row_text(panes, *self.windows, self.status if self.shows_all() else self.fits_line, width)
 
     def line_text(self, text: str, width: int) -> str:

@@ -356,7 +356,8 @@ class FrontEnd:
             self.display.outer.leave(self.left and self.left + self.unpasted())
             links = [self.link, *(visit.link for visit in self.parting.visits.values())]
             for link in links if self.left is not None else []:
-                link.part()
+                if link.part() and link is self.link:
+                    self.commands.zooming.drop_note()
             for link in links:
                 link.close()
         return self.status

@@ -18,6 +18,7 @@ from roam_live.program import Fault, read, reason, say, write
 from roam_live.row_answers import RowAsker
 from roam_live.shells_peers import MOST_WAITING, Giving, ShellsPeer, client_line
 from roam_live.texts import cleaned, random_name
+from roam_live.zoom_notes import NotedZoom
 
 TYPE_CHECKING = False
 if TYPE_CHECKING:
@@ -141,6 +142,8 @@ class ShellsSocket:
         self.common.sockets.append(self)
         self.rows, self.texts, self.buffers = self.common.rows, self.common.texts, self.common.buffers
         self.peers: list[ShellsPeer] = []
+        # What is noted of a zoom of this window.
+        self.zoom = NotedZoom()
         # Whether something is new of who is there.
         self.is_new = False
         self.listener: Listener | None = None
@@ -216,6 +219,8 @@ class ShellsSocket:
             pass
         elif self.common.lines and self.common.lines.take(self, peer, line):
             pass
+        elif not peer.watches() and self.zoom.take(peer.number, line):
+            self.is_new = True
         elif peer.watches() or not (self.common.brought.take(line) or self.common.colours.take(line)):
             self.send(peer, [BAD_LINE])
 
@@ -324,7 +329,7 @@ class ShellsSocket:
         self.is_new = False
         there = {peer.number: peer.presence for peer in self.peers if peer.presence}
         for peer in [peer for peer in self.peers if peer.asks]:
-            self.send(peer, peer.news({number: one for number, one in there.items() if number != peer.number}))
+            self.send(peer, peer.news({number: one for number, one in there.items() if number != peer.number}, self.zoom.line()))
 
     def tell_rows(self) -> float | None:
         """Goes on with what was asked of rows, and tells when that is due again."""
@@ -390,7 +395,7 @@ class ShellsSocket:
             self.peers.remove(peer)
             if peer.presence:
                 self.common.attended.leaves(peer.presence.name, self.loop.clock())
-            self.is_new = self.is_new or peer.presence is not None
+            self.is_new = self.zoom.leave(peer.number) or self.is_new or peer.presence is not None
 
     def close(self) -> None:
         """Closes the socket, and removes it."""

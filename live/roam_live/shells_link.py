@@ -10,8 +10,9 @@ from roam_live.following import LET_GO, Following
 from roam_live.kept_rows import BUFFER, AnswerReader, BadAnswer, RowsLink
 from roam_live.loops import Loop
 from roam_live.presence import HERE, WHO, Presence, ToldOthers, terminal_name
-from roam_live.program import connected_now, read
+from roam_live.program import connected_now, read, write
 from roam_live.texts import MOST_BYTES
+from roam_live.zoom_notes import NONE, ZOOM, ZOOMED, ZoomNote, zoomed_in
 
 TYPE_CHECKING = False
 if TYPE_CHECKING:
@@ -70,6 +71,9 @@ class ShellsLink(Following):
         # The colours of this terminal, as far as it told them, and what of that the keeper wasn't told: each is told them once.
         self.colours = Colours()
         self.untold: list[str] = []
+        # The zoom of this terminal, and the one that was told of, with the number of who made it, 0 where that has left.
+        self.zoom: ZoomNote | None = None
+        self.zoomed: tuple[int, ZoomNote | None] = (0, None)
         if folder:
             self.connect()
 
@@ -138,6 +142,13 @@ class ShellsLink(Following):
             self.ask(line)
         self.untold = [] if self.is_there else self.untold
 
+    def note_zoom(self, note: ZoomNote | None) -> None:
+        """Tells the keeper of this terminal's zoom, or that it is over: at once, where it takes it, since what comes of it goes elsewhere."""
+        self.zoom = note
+        if self.is_there and self.peer:
+            self.ask(f"{ZOOM} {note or NONE}")
+            write(self.peer.fileno(), self.waiting)
+
     def take(self, lines: list[str]) -> None:
         """Takes what was told."""
         for line in lines:
@@ -151,6 +162,8 @@ class ShellsLink(Following):
                 self.leaves()
             elif word == LEFT:
                 self.others_left(rest)
+            elif word == ZOOMED:
+                self.zoomed = zoomed_in(rest.split(" ")) or self.zoomed
             else:
                 self.others.take(line)
         if self.others.is_whole:
@@ -159,7 +172,7 @@ class ShellsLink(Following):
 
     def forget(self) -> None:
         """Knows no more who is there. Where no keeper was known before, none is there that takes texts."""
-        self.others, self.is_there = ToldOthers(), False
+        self.others, self.is_there, self.zoomed = ToldOthers(), False, (0, None)
         self.kept.forget()
         if not self.is_known:
             self.lose(UNTOLD)
@@ -176,6 +189,8 @@ class ShellsLink(Following):
             self.untold = self.colours.lines()
         self.keeper, self.is_there = name, True
         self.tell_colours()
+        if self.zoom:
+            self.ask(f"{ZOOM} {self.zoom}")
         if is_other:
             self.lose(LOST)
         for text, data in self.giving.items():

@@ -63,7 +63,7 @@ class Visit:
     def take_up(self, panes: PanesFollower, bells: BellFollower) -> None:
         """Follows the window again, by others who tell where the panes are, and of bells."""
         self.panes, self.bells = panes, bells
-        self.commands.panes = self.commands.pastes.panes = panes
+        self.commands.follow_panes(panes)
         self.keeper.is_full = panes.is_full
         self.shells.rename(type(self.shells).again)
 
@@ -71,6 +71,9 @@ class Visit:
         """Whether nothing that was typed there has to be taken still."""
         link, shells = self.link, self.shells
         is_taken = link.is_done() if link.peer else not link.waiting
+        if is_taken:
+            # The session has its size back.
+            self.commands.zooming.drop_note()
         return is_taken and not link.waiting and not self.commands.pastes.hands_over() and not (shells.peer and shells.waiting)
 
     def close(self, loop: Loop) -> None:

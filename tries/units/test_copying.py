@@ -482,8 +482,10 @@ class Meanwhile(Copied):
         person = self.person()
         self.assertEqual(person.types(b"\x02\x02"), [])
         self.assertEqual(person.display.line(), "[21/77] copy mode")
-        self.assertEqual(person.types(b"\x02\x1b[1;5C"), ["grow 1"])
-        self.assertEqual(person.types(b"\x1b[1;5C"), ["grow 1"])
+        for keys in (b"\x02\x1b[1;5C", b"\x1b[1;5C"):
+            person.types(keys)
+            self.assertEqual(person.display.told, "pane 1 has no border at its left or right")
+            person.display.end_told()
         self.now += 1
         self.assertEqual(person.types(b"\x1b[1;5A"), [])
         self.assertTrue(person.commands.copying.is_on())
