@@ -25,7 +25,7 @@ from roam_live.program import has_others
 from roam_live.programs import told
 from roam_live.following import PanesFollower
 from roam_live.places import BESIDE, MOVES, Places
-from roam_live.shells_link import LEAVE_OTHERS
+from roam_live.presence import LEAVE_OTHERS
 from roam_live.zooming import Zooming
 
 TYPE_CHECKING = False

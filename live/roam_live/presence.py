@@ -14,7 +14,7 @@ THERE, GONE, OTHERS = "there", "gone", "others"
 
 # The word by which it is asked which terminals are there, of all windows; that by which each is told, that behind which one is told to leave,
 # and what that is told.
-CLIENTS, CLIENT, LEAVE = "clients", "client", "leave"
+CLIENTS, CLIENT, LEAVE, LEAVE_OTHERS = "clients", "client", "leave", "leave others"
 
 # So many seconds a terminal that left is taken for the same that comes again, as to another window; and so many are known.
 STAYS = 5.0

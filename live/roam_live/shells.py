@@ -13,7 +13,7 @@ from roam_live.colours import Colours
 from roam_live.given import KEPT, LOST, GivenText, GivenTexts
 from roam_live.listeners import Listener
 from roam_live.loops import Loop
-from roam_live.presence import CLIENTS, LEAVE, WHO, Attended, Presence, presence_said
+from roam_live.presence import CLIENTS, LEAVE, LEAVE_OTHERS, WHO, Attended, Presence, presence_said
 from roam_live.program import Fault, read, reason, say, write
 from roam_live.row_answers import RowAsker
 from roam_live.shells_peers import MOST_WAITING, Giving, ShellsPeer, client_line
@@ -116,6 +116,19 @@ class CommonShells:
         found = [(peer, one.window) for one in self.sockets for peer in one.peers if peer.presence]
         lines = [client_line(peer, window or 1) for peer, window in sorted(found, key=lambda there: there[0].number)]
         return [*lines, f"{CLIENTS} {len(lines)}"]
+
+    def has_asked_windows(self) -> bool:
+        """Whether somebody is there who asked for windows."""
+        return self.lines is not None and self.lines.has_asked()
+
+    def leave_others(self, asker: ShellsPeer) -> int:
+        """Has all terminals told to leave but the one that asks for that; how many that are."""
+        found = [(peer, one) for one in self.sockets for peer in list(one.peers) if peer.presence and peer is not asker]
+        for peer, one in found:
+            one.send(peer, [LEAVE])
+        # One that goes from a window to another is there twice.
+        own = asker.presence.name if asker.presence else ""
+        return len({peer.presence.name for peer, _ in found if peer.presence} - {own})
 
     def leave(self, number: int) -> bool:
         """Has a terminal told to leave; whether there is one of that number."""
@@ -245,7 +258,9 @@ class ShellsSocket:
             self.answer(peer, "".join(f"{one}\n" for one in self.common.clients()).encode())
         elif leaves and not peer.watches():
             self.send(peer, [f"left {leaves[1]}" if self.common.leave(int(leaves[1])) else "left none"])
-        return bool(line == CLIENTS or leaves and not peer.watches())
+        elif line == LEAVE_OTHERS and not peer.watches():
+            self.send(peer, [f"left {self.common.leave_others(peer)}"])
+        return bool(line == CLIENTS or (leaves or line == LEAVE_OTHERS) and not peer.watches())
 
     # ---- texts that are given
 

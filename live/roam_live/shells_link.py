@@ -9,7 +9,7 @@ from roam_live.colours import COLOUR, Colours, told_in
 from roam_live.following import LET_GO, Following
 from roam_live.kept_rows import BUFFER, AnswerReader, BadAnswer, RowsLink
 from roam_live.loops import Loop
-from roam_live.presence import HERE, WHO, Presence, ToldOthers, terminal_name
+from roam_live.presence import HERE, LEAVE, WHO, Presence, ToldOthers, terminal_name
 from roam_live.program import connected_now, read, write
 from roam_live.texts import MOST_BYTES
 from roam_live.zoom_notes import NONE, ZOOM, ZOOMED, ZoomNote, zoomed_in
@@ -18,8 +18,8 @@ TYPE_CHECKING = False
 if TYPE_CHECKING:
     from roam_live.terminal import Size
 
-# What a terminal says to have all others at the session leave it, and what is told then: to each that it is to leave, and how many do.
-LEAVE, LEAVE_OTHERS, LEFT = "leave", "leave others", "left"
+# What is told to who had all others at the session leave it: how many do.
+LEFT = "left"
 
 # What a keeper tells of a text that it was given, in words behind the text's name where it refuses it; and by what another is known.
 HELD, PUT, LOST, REFUSED = ANSWERS = ("held", "put", "lost", "refused")
@@ -65,6 +65,8 @@ class ShellsLink(Following):
         self.answers: Callable[[str, str, str], object] = lambda name, word, more: None
         # What is called where this terminal is to leave, and with how many others do, where it had them do so.
         self.leaves: Callable[[], object] = lambda: None
+        # Whether its window was left, of which what was typed goes on.
+        self.is_parting = False
         self.others_left: Callable[[str], object] = lambda count: None
         # The lines by which this terminal brings what new panes have, once to each keeper: behind a cut another may have brought since.
         self.brings: list[str] = []
@@ -87,6 +89,11 @@ class ShellsLink(Following):
     def follow_on(self, before: ShellsLink) -> None:
         """Knows what the keeper was told by an earlier connection of this terminal, which brings nothing twice to one."""
         self.keeper, self.brings, self.colours, self.untold = before.keeper, before.brings, before.colours, before.untold
+
+    def leave_now(self) -> None:
+        """Leaves, as another terminal has it."""
+        if not self.is_parting:
+            self.leaves()
 
     def rename(self, again: str) -> None:
         """Calls the moment otherwise at which the connection is had again."""
@@ -159,7 +166,7 @@ class ShellsLink(Following):
             elif word == KEEPER:
                 self.meet(rest)
             elif line == LEAVE:
-                self.leaves()
+                self.leave_now()
             elif word == LEFT:
                 self.others_left(rest)
             elif word == ZOOMED:

@@ -56,6 +56,8 @@ class Visit:
         self.panes.close()
         self.bells.close()
         self.shells.rename(f"follow shells of {self.number}")
+        # The connection of the window where the person is tells of it too.
+        self.shells.is_parting = True
         loop.drop("connect")
         if self.link.peer:
             loop.remove(self.link)
@@ -66,6 +68,7 @@ class Visit:
         self.commands.follow_panes(panes)
         self.keeper.is_full = panes.is_full
         self.shells.rename(type(self.shells).again)
+        self.shells.is_parting = False
 
     def is_over(self) -> bool:
         """Whether nothing that was typed there has to be taken still."""
