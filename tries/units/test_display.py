@@ -85,7 +85,7 @@ class AnySession:
     served = "server"
 
     def __init__(self, folder=None):
-        self.folder = folder or "/nowhere"
+        self.folder = self.common = folder or "/nowhere"
         self.told = None
 
     def busy(self):
@@ -377,7 +377,7 @@ class Sizes(unittest.TestCase):
         person.resize(30, 90)
         self.assertEqual(person.sizes()[2:], ["size 30 90"])
         # One of another machine isn't, and none without a folder: who is there isn't known.
-        for wrong in ({"served": "relay"}, {"folder": None}):
+        for wrong in ({"served": "relay"}, {"folder": None, "common": None}):
             person = Person(24, 80, told=places(24, 80))
             person.place.__dict__.update(wrong)
             person.resize(20, 70)

@@ -24,7 +24,7 @@ class AnySession:
     served, name = "server", "main"
 
     def __init__(self, folder):
-        self.folder = folder
+        self.folder = self.common = folder
         self.terminals = folder / "terminals"
         self.processes = {}
         self.told = places(24, 80)
