@@ -66,7 +66,7 @@ class WindowsAsked:
     def clients(self) -> list[list[str]]:
         """The words of the lines that tell which terminals are there, as far as they can be such."""
         self.say(CLIENTS)
-        found = []
+        found: list[list[str]] = []
         while True:
             words = self.until(CLIENT, CLIENTS)
             if words[0] == CLIENTS:
@@ -78,7 +78,8 @@ class WindowsAsked:
 
 def windows_of(session: FolderSession) -> list[tuple[int, str]]:
     """The windows of a session by their numbers, with the names that they have; an earlier roam's has one."""
-    asked, found = WindowsAsked(session), []
+    asked = WindowsAsked(session)
+    found: list[tuple[int, str]] = []
     asked.say(WINDOWS)
     try:
         while True:

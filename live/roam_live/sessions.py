@@ -147,6 +147,10 @@ class FolderSession(Processes):
         """Its windows, in order: itself, where it has no others."""
         return [self]
 
+    def title(self) -> str:
+        """What it is called as a window; nothing where it has no name."""
+        return ""
+
     def window(self, number: int | None = None) -> FolderSession:
         """A window by its number, else the one where somebody was last; Fault where it isn't there."""
         if number not in (None, 1):

@@ -17,6 +17,8 @@ TYPE_CHECKING = False
 if TYPE_CHECKING:
     from typing import NoReturn
 
+    from roam_live.processes import State
+
 # The roles of a window's processes, and the sockets at which they listen.
 SERVER, TERMINALS = "server", "terminals"
 SOCKETS = {SERVER: "clients", TERMINALS: "terminals"}
@@ -85,14 +87,14 @@ class WindowProcesses:
 
     # ---- what is known
 
-    def state(self) -> dict[str, list[int]]:
+    def state(self) -> State:
         """What is noted, where that is whole."""
         try:
             with open(self.path("state.json"), encoding="utf-8") as file:
                 state = json.loads(file.read(MOST_NOTE))
         except (OSError, ValueError):
             return {}
-        return state if is_note(state) else {}
+        return dict(state) if is_note(state) else {}
 
     def find(self) -> None:
         """Reads what is noted; where that is lost it is known who listens at the sockets."""
@@ -181,7 +183,9 @@ class WindowProcesses:
 
     def note(self) -> None:
         """Notes the processes that are known."""
-        state = {"version": WINDOWS_VERSION, **{role: list(one) for role, one in self.noted.items()}}
+        state: State = {"version": WINDOWS_VERSION}
+        for role, one in self.noted.items():
+            state[role] = list(one)
         replace_text(self.path("state.json"), json.dumps(state))
 
     # ---- their end

@@ -120,6 +120,15 @@ class Common:
         for window in list(self.windows.values()):
             window.tend()
 
+    def run(self) -> int:
+        """Keeps the shells of a session of one window until it ends."""
+        try:
+            while not self.is_over and not any(window.is_over for window in self.windows.values()):
+                self.turn()
+        finally:
+            self.close()
+        return 0
+
     def end_logs(self) -> None:
         """Tells who writes rows down what stood last in the panes, as far as that is soon taken."""
         end = self.loop.clock() + LOGS_END

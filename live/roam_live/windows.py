@@ -18,6 +18,7 @@ from roam_live.window_shells import Common, Shells
 
 TYPE_CHECKING = False
 if TYPE_CHECKING:
+    from roam_live.loops import Loop
     from roam_live.terminal import Size
 
 # What a window is: about to be there, there, or about to be gone.
@@ -234,7 +235,8 @@ class Windows:
     def opened(self, window: KeptWindow) -> None:
         """Tells of a window that is there."""
         window.state = THERE
-        self.loop.later(f"window {window.number} has its size", OPENS, lambda: window.shells and window.shells.await_no_more())
+        if window.shells and window.shells.awaited:
+            self.loop.later(f"window {window.number} has its size", OPENS, window.shells.await_no_more)
         self.lines.tell_window(window.number)
         window.told(window.number, "")
 

@@ -28,7 +28,6 @@ BEGIN = "the reset with which the start itself begins a record `anew`; another c
 
 # Each use: the file, the name that it is assigned to or the function that it stands in, and whether it is of `re` or of an escape.
 KNOWN = {
-    ("pane_shells", "", "ESC"): "is typed where the focus comes and goes, and reads nothing",
     ("roam_live/asides.py", "", "ESC"): WRITES,
     ("roam_live/asides.py", "shaped", "ESC"): WRITES,
     ("roam_live/asides.py", "titled", "ESC"): WRITES,
@@ -100,11 +99,17 @@ KNOWN = {
     ("roam_live/shells.py", "BUFFER", "re"): LINES,
     ("roam_live/shells.py", "GIVE", "re"): LINES,
     ("roam_live/shells.py", "GIVE_BUFFER", "re"): LINES,
-    ("roam_live/targets.py", "PANE", "re"): NAMES,
+    ("roam_live/shells.py", "LEAVES", "re"): LINES,
+    ("roam_live/targets.py", "WORD", "re"): NAMES,
     ("roam_live/texts.py", "BRACKET_ENDS", "ESC"): BRACKETS,
     ("roam_live/texts.py", "", "ESC"): BRACKETS,
     ("roam_live/typed.py", "BEGUN", "re"): MARKS,
     ("roam_live/typed.py", "MARK", "re"): MARKS,
+    ("roam_live/window_lines.py", "NAME", "re"): LINES,
+    ("roam_live/window_lines.py", "OPEN", "re"): LINES,
+    ("roam_live/window_lines.py", "SHUT", "re"): LINES,
+    ("roam_live/window_processes.py", "NUMBER", "re"): NAMES,
+    ("roam_live/window_shells.py", "", "ESC"): "is typed where the focus comes and goes, and reads nothing",
     ("show_client", "", "ESC"): WRITES,
 }
 

@@ -8,10 +8,11 @@ import types
 import unittest
 from unittest import mock
 
-from aids import Case, StillLoop, loaded, read_now
+from aids import Case, StillLoop, read_now
 from roam_live import brought
 from roam_live.brought import (BRINGS, BROUGHT, LONGEST_VALUE, Brought, agent_in, asked_values, begin_agent, bring, brings_to, renew_agent,
                                shell_lines)
+from roam_live.pane_commands import Options, surroundings
 from roam_live.program import Fault
 from roam_live.shells import ShellsSocket
 
@@ -149,7 +150,7 @@ class Brings(Case):
         self.folder = self.made_folder()
         self.environment(DISPLAY=":7", WAYLAND_DISPLAY=None, SSH_CONNECTION=None, SSH_AUTH_SOCK=str(self.folder / "own"))
         self.listening(self.folder / "own")
-        self.session = types.SimpleNamespace(name="main", folder=self.folder, served="server")
+        self.session = types.SimpleNamespace(name="main", folder=self.folder, common=self.folder, served="server")
         self.loop = StillLoop(lambda: self.now)
 
     def keeper(self):
@@ -189,10 +190,10 @@ class Brings(Case):
         bring(self.session)
         self.assertTrue(self.has_link())
         keeper = self.keeper()
-        keeper.brought.values = dict.fromkeys(brought.NAMES, "old")
+        keeper.common.brought.values = dict.fromkeys(brought.NAMES, "old")
         bring(self.session)
         self.loop.turns(4)
-        self.assertEqual((keeper.brought.set_values(), keeper.peers), ({"DISPLAY": ":7"}, []))
+        self.assertEqual((keeper.common.brought.set_values(), keeper.peers), ({"DISPLAY": ":7"}, []))
 
     def told(self, *keeper_says):
         """What a shell is told where a keeper says this to who connects."""
@@ -245,14 +246,14 @@ class Brings(Case):
             one.send(text.encode())
             self.loop.turns(3)
             self.assertEqual(read_now(one).decode(), answer, text)
-        self.assertEqual(keeper.brought.set_values(), {"WAYLAND_DISPLAY": ":8"})
+        self.assertEqual(keeper.common.brought.set_values(), {"WAYLAND_DISPLAY": ":8"})
 
     def test_pane(self):
         """A new pane has what was brought, in place of what the keeper's own environment has."""
-        shells, known = loaded("pane_shells"), Brought()
+        known = Brought()
         known.take("brings WAYLAND_DISPLAY 3a38")
         known.take("brings DISPLAY none")
-        found = shells.surroundings(str(self.folder), 2, known)
+        found = surroundings(Options(folder=str(self.folder)), 2, known)
         self.assertEqual([found.get(name) for name in (*brought.NAMES, "ROAM_PANE")], [None, ":8", None, f"{self.folder}:2"])
         self.assertEqual(found["SSH_AUTH_SOCK"], str(self.folder / "own"))
 

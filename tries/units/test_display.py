@@ -384,7 +384,7 @@ class Sizes(unittest.TestCase):
         person.resize(30, 90)
         self.assertEqual(person.sizes()[2:], ["size 30 90"])
         # One of another machine isn't, and none without a folder: who is there isn't known.
-        for wrong in ({"served": "relay"}, {"common": None}):
+        for wrong in ({"served": "relay"}, {"folder": None, "common": None}):
             person = Person(24, 80, told=places(24, 80))
             person.place.__dict__.update(wrong)
             person.resize(20, 70)

@@ -1,5 +1,4 @@
 """The keeper of shells, made by hand: panes over sockets, commands that never run, and a server that is played."""
-import argparse
 import os
 import shutil
 import signal
@@ -9,18 +8,18 @@ from unittest import mock
 
 from aids import Case, StillLoop, loaded, read_now
 from filtered import played
-from roam_live import row_keeping
+from roam_live import pane_commands, row_keeping, window_shells
 from roam_live.given import GivenTexts
 from roam_live.loops import READ, WRITE
 from roam_live.program import Fault, begun
 from roam_live.typed import TypedQueue
 
-shells = loaded("pane_shells")
-
-
 def queue():
     """A queue of what is typed into a pane, for which no text was given."""
     return TypedQueue(GivenTexts(StillLoop(), lambda name, word: None), lambda: False)
+
+
+tool = loaded("pane_shells")
 
 
 class Keeper(Case):
@@ -36,17 +35,17 @@ class Keeper(Case):
         self.wakeup, self.wakes = self.pipe()
         self.said = self.heard()
         self.made = []
-        self.patch_of(shells.terminal, "forked", side_effect=self.forked)
-        self.kills = self.patch_of(shells.os, "kill")
+        self.patch_of(pane_commands.terminal, "forked", side_effect=self.forked)
+        self.kills = self.patch("os.kill")
         self.ended = {}
-        self.patch_of(shells, "has_ended", side_effect=lambda process: self.ended.get(process, False))
+        self.patch_of(window_shells, "has_ended", side_effect=lambda process: self.ended.get(process, False))
         self.keeper = self.kept()
         self.server = self.taken(self.listeners["panes"])
 
     def kept(self, **more):
         """A keeper."""
-        known = {"close": False, "server": None, "again": False, "dir": str(self.folder), "command": ["sh"], "instead": None}
-        keeper = shells.Shells(argparse.Namespace(**{**known, **more}), self.wakeup, StillLoop())
+        asked = pane_commands.Options(folder=str(self.folder), command=["sh"], **more)
+        keeper = window_shells.Shells(asked, window_shells.Common(self.wakeup, StillLoop()))
         self.addCleanup(self.leave, keeper)
         return keeper
 
@@ -57,7 +56,7 @@ class Keeper(Case):
         for number in list(keeper.panes):
             keeper.drop(number)
         keeper.rows.close()
-        for spare in (keeper.spare, keeper.voice):
+        for spare in (keeper.common.spare, keeper.common.voice):
             spare.free()
         if keeper.following.peer:
             keeper.following.peer.close()
@@ -71,7 +70,7 @@ class Keeper(Case):
     def turn(self, count=3):
         """So many turns that don't wait."""
         for _ in range(count):
-            self.keeper.turn()
+            self.keeper.common.turn()
 
     def tell(self, *lines):
         """Has the server tell of its panes."""
@@ -101,7 +100,7 @@ class Panes(Keeper):
     def test_sizes(self):
         """A new size is told to the programs, and the same isn't."""
         self.begin()
-        sizes = self.patch_of(shells.terminal, "set_size")
+        sizes = self.patch_of(pane_commands.terminal, "set_size")
         self.tell("1 1 1 23 39 4", "2 1 41 11 40 5", "focus 2")
         sizes.assert_called_once_with(self.keeper.panes[2].terminal, 11, 40)
         sizes.side_effect = OSError(5, "gone")
@@ -113,7 +112,7 @@ class Panes(Keeper):
         panes = self.begin()
         self.tell("2 gone", "focus 1")
         self.assertEqual([call[0] for call in self.kills.call_args_list], [(72, signal.SIGHUP), (72, signal.SIGCONT)])
-        self.assertEqual((panes[1].recv(1), list(self.keeper.panes), self.keeper.hung), (b"", [1], [72]))
+        self.assertEqual((panes[1].recv(1), list(self.keeper.panes), self.keeper.common.hung), (b"", [1], [72]))
         self.tell("1 1 1 23 80 6", "focus 1")
         self.assertEqual((panes[0].recv(1), self.keeper.panes[1].process, self.keeper.panes[1].life), (b"", 73, 6))
         self.kills.side_effect = PermissionError(1, "another's")
@@ -133,12 +132,12 @@ class Panes(Keeper):
         one.send(b"here a:/dev/pts/1 24 80 edits\nwho\n")
         one.setblocking(False)
         self.turn()
-        self.assertEqual(read_now(one), f"keeper {self.keeper.socket.name}\nothers 0\n".encode())
+        self.assertEqual(read_now(one), f"keeper {self.keeper.common.shells.name}\nothers 0\n".encode())
 
     def test_commands(self):
         """What runs in front is told there, and looked up again after something was typed or written."""
         names = {1: "sh", 2: "vi"}
-        self.patch_of(shells.Fronts, "look", lambda fronts, pane: fronts.tells(pane.number, pane.life, names[pane.number]))
+        self.patch_of(window_shells.Fronts, "look", lambda fronts, pane: fronts.tells(pane.number, pane.life, names[pane.number]))
         panes = self.begin()
         one = socket.socket(socket.AF_UNIX, socket.SOCK_STREAM)
         self.addCleanup(one.close)
@@ -182,7 +181,7 @@ class Panes(Keeper):
         """What a pane's program asks is answered there, before what the server hands out behind it; a colour once a terminal has told it,
         and never what is asked of another making."""
         panes = self.begin()
-        self.keeper.socket.colours.take("colour foreground ffff/ffff/ffff")
+        self.keeper.common.shells.colours.take("colour foreground ffff/ffff/ffff")
         told = (("asks 1 4 foreground bell\nasks 1 4 background\nasks 1 4 pastes set\n", b"\x1b]10;rgb:ffff/ffff/ffff\x07\x1b[?2004;1$y"),
                 ("asks 1 3 version\nasks 9 4 version\nasks 1 4\nasks 1 4 name\n", b""), ("asks 1 4 frames\n", b"\x1b[?2026;0$y"))
         for lines, wanted in told:
@@ -265,8 +264,8 @@ class Panes(Keeper):
         """A new pane's command starts where the program in front in the pane in focus is, else where its command is; the first where the
         server is."""
         self.keeper.asked.server = 4711
-        works = self.patch_of(shells, "working_folder", return_value="/there")
-        self.patch_of(shells, "group_in_front", return_value=99)
+        works = self.patch_of(window_shells, "working_folder", return_value="/there")
+        self.patch_of(pane_commands, "group_in_front", return_value=99)
         self.begin()
         self.assertEqual([call[0][0] for call in works.call_args_list], [[4711], [4711]])
         self.tell("3 1 1 5 5 1", "focus 3")
@@ -308,7 +307,7 @@ class Panes(Keeper):
         self.turn()
         self.assertEqual(self.said.getvalue(), "")
         self.now += 0.1
-        with mock.patch.object(shells.fcntl, "ioctl", side_effect=[struct.pack("i", 5), struct.pack("i", 0)]):
+        with mock.patch.object(pane_commands.fcntl, "ioctl", side_effect=[struct.pack("i", 5), struct.pack("i", 0)]):
             self.turn()
         told = "pane 1 isn't shown: the server doesn't read it, as where no descriptor is left for it\n"
         self.assertTrue(self.said.getvalue().endswith(told))
@@ -316,7 +315,7 @@ class Panes(Keeper):
         pane = self.keeper.panes[1]
         for written, unread in ((0, False), (1, True), (16384, True), (16385, False)):
             pane.written = written
-            with mock.patch.object(shells.fcntl, "ioctl", return_value=struct.pack("i", 1)):
+            with mock.patch.object(pane_commands.fcntl, "ioctl", return_value=struct.pack("i", 1)):
                 self.assertEqual(pane.is_unread(), unread, written)
 
 
@@ -325,19 +324,19 @@ class Refused(Keeper):
 
     def test_command(self):
         """A command that can't be spawned is told of in its pane, where a key tries again."""
-        self.patch_of(shells.terminal, "forked", side_effect=OSError(11, "Resource temporarily unavailable"))
+        self.patch_of(pane_commands.terminal, "forked", side_effect=OSError(11, "Resource temporarily unavailable"))
         panes = self.begin()
         self.turn()
         self.assertEqual(read_now(panes[0]), b"[not run: Resource temporarily unavailable; a key tries again]\r\n")
-        self.patch_of(shells.terminal, "forked", side_effect=self.forked)
+        self.patch_of(pane_commands.terminal, "forked", side_effect=self.forked)
         panes[0].send(b"x")
         self.turn()
         self.assertEqual((self.keeper.panes[1].process, self.keeper.panes[2].process, read_now(self.made[0])), (71, None, b""))
 
     def test_connection(self):
         """A pane that can't be connected says so, is told of once, and is tried again each quarter of a second."""
-        with mock.patch.object(shells, "connected_now", side_effect=OSError(24, "Too many open files")) as connects:
-            says = self.patch_of(shells, "say_in")
+        with mock.patch.object(pane_commands, "connected_now", side_effect=OSError(24, "Too many open files")) as connects:
+            says = self.patch_of(window_shells, "say_in")
             self.tell("1 1 1 23 80 4", "focus 1")
             says.assert_called_once_with(f"{self.folder}/p1", "[not run: Too many open files; tried again]\r\n")
             self.assertEqual(self.keeper.loop.due["again"][0], 100.25)
@@ -352,32 +351,32 @@ class Refused(Keeper):
         self.assertEqual(self.said.getvalue().count("pane 1: Too many open files; tried again\n"), 1)
         self.now += 0.25
         self.turn()
-        self.assertEqual(("again" in self.keeper.loop.due, self.keeper.refused, self.keeper.panes[1].process), (False, set(), 71))
+        self.assertEqual(("again" in self.keeper.loop.due, self.keeper.common.refused, self.keeper.panes[1].process), (False, set(), 71))
 
     def test_not_there(self):
         """A pane whose socket isn't there is no place to say so."""
-        says = self.patch_of(shells, "say_in")
+        says = self.patch_of(window_shells, "say_in")
         self.tell("9 1 1 23 80 4", "focus 9")
         says.assert_not_called()
         self.assertIn("pane 9: No such file or directory; tried again\n", self.said.getvalue())
 
     def test_spares(self):
         """Descriptors are kept for what has to be had."""
-        self.assertTrue(self.keeper.spare.end is not None and self.keeper.voice.end is not None)
-        self.keeper.spare.free()
-        self.keeper.spare.free()
-        with mock.patch.object(shells.os, "open", side_effect=OSError(24, "Too many open files")):
-            self.keeper.keep_spares()
+        self.assertTrue(self.keeper.common.spare.end is not None and self.keeper.common.voice.end is not None)
+        self.keeper.common.spare.free()
+        self.keeper.common.spare.free()
+        with mock.patch.object(pane_commands.os, "open", side_effect=OSError(24, "Too many open files")):
+            self.keeper.common.keep_spares()
         self.assertIn("a spare descriptor: Too many open files; tried again\n", self.said.getvalue())
         self.now += 0.25
         self.turn()
-        self.assertIsNotNone(self.keeper.spare.end)
+        self.assertIsNotNone(self.keeper.common.spare.end)
 
     def test_said(self):
         """A line is said in a pane that has no shell."""
-        shells.say_in(self.folder / "p3", "why\ud800\r\n")
+        pane_commands.say_in(self.folder / "p3", "why\ud800\r\n")
         self.assertEqual(self.taken(self.listeners["p3"]).recv(16), b"why?\r\n")
-        shells.say_in(self.folder / "none", "why")
+        pane_commands.say_in(self.folder / "none", "why")
 
 
 class Ended(Keeper):
@@ -401,7 +400,7 @@ class Ended(Keeper):
         """What it left behind may write for ever: 16,384 bytes and a piece are taken."""
         self.begin()
         pane = self.keeper.panes[1]
-        with mock.patch.object(shells, "read", return_value=b"x" * 10_000) as reads:
+        with mock.patch.object(pane_commands, "read", return_value=b"x" * 10_000) as reads:
             pane.ends()
         self.assertEqual((reads.call_count, len(pane.to_pane)), (2, 20_000))
 
@@ -442,12 +441,12 @@ class Ended(Keeper):
     def test_signals(self):
         """SIGTERM and SIGHUP end it, and its shells hang up."""
         for number in (signal.SIGTERM, signal.SIGHUP):
-            self.keeper.is_over = False
+            self.keeper.common.is_over = False
             os.write(self.wakes, bytes([number]))
             self.turn(1)
-            self.assertTrue(self.keeper.is_over)
+            self.assertTrue(self.keeper.common.is_over)
         panes = self.begin()
-        self.assertEqual(self.keeper.run(), 0)
+        self.assertEqual(self.keeper.common.run(), 0)
         self.assertEqual((self.keeper.panes, panes[0].recv(1), (self.folder / "bells").exists()), ({}, b"", False))
 
     def test_hung(self):
@@ -455,7 +454,7 @@ class Ended(Keeper):
         self.begin()
         self.tell("2 gone")
         self.end(72)
-        self.assertEqual(self.keeper.hung, [])
+        self.assertEqual(self.keeper.common.hung, [])
 
     def test_server_gone(self):
         """The server's end is the session's; one that runs and doesn't listen is waited for."""
@@ -489,7 +488,7 @@ class Ended(Keeper):
 
     def test_not_followed(self):
         """A pane says where nothing can be followed from the start, once."""
-        says = self.patch_of(shells, "say_in")
+        says = self.patch_of(window_shells, "say_in")
         for _ in range(3):
             self.server.close()
             self.turn(2)
@@ -539,7 +538,7 @@ class Waits(Keeper):
         self.now += 3.0
         self.assertEqual(self.wait_time(), 0.0)
         self.assertAlmostEqual(self.wait_time(), 57.0)
-        self.keeper.refuse("x", OSError(24, "Too many open files"))
+        self.keeper.common.refuse("x", OSError(24, "Too many open files"))
         self.assertAlmostEqual(self.wait_time(), 0.25)
         self.now += 0.25
         self.turn()
@@ -576,15 +575,15 @@ class Rows(Keeper):
         self.made[0].send(b"out")
         self.made[1].send(b"two")
         self.assertEqual(self.handed(), b"pane 0 23 39\nbytes 0 3\noutpane 1 23 40\nbytes 1 3\ntwo")
-        self.patch_of(shells.terminal, "set_size")
+        self.patch_of(pane_commands.terminal, "set_size")
         self.tell("1 1 1 10 39 4", "2 gone", "focus 1")
         self.assertEqual(self.handed(), b"size 0 10 39\ngone 1\n")
         self.made[0].send(b"last")
         self.turn()
         self.ended[71] = True
         os.write(self.wakes, bytes([signal.SIGCHLD]))
-        self.assertEqual(self.handed(), b"bytes 0 %d\nlast%s" % (4 + len(shells.ENDED), shells.ENDED))
-        self.assertEqual(read_now(panes[0]), b"outlast" + shells.ENDED)
+        self.assertEqual(self.handed(), b"bytes 0 %d\nlast%s" % (4 + len(window_shells.ENDED), window_shells.ENDED))
+        self.assertEqual(read_now(panes[0]), b"outlast" + window_shells.ENDED)
 
     def test_behind(self):
         """A pane isn't read while the filter doesn't keep up, for a second at most."""
@@ -608,7 +607,7 @@ class Rows(Keeper):
         self.assertEqual(self.fake.taken(), b"pane 0 23 39\nbytes 0 3\nout")
         self.keeper.is_over = True
         self.fake.prints(b"screen 0 2 7\n out\n \n")
-        self.assertEqual(self.keeper.run(), 0)
+        self.assertEqual(self.keeper.common.run(), 0)
         self.assertEqual(read_now(one), b"rows 1 4 0 1 5\n out\nlog 1 4 end\n")
 
     def test_last_waits(self):
@@ -624,7 +623,7 @@ class Rows(Keeper):
             turn()
 
         self.patch_of(self.keeper.loop, "turn", passed)
-        self.assertEqual(self.keeper.run(), 0)
+        self.assertEqual(self.keeper.common.run(), 0)
         self.assertEqual(one.recv(64), b"")
 
     def connected(self, name, text):
@@ -643,48 +642,47 @@ class Words(Case):
     def test_words(self):
         self.environment(SHELL="/bin/zsh")
         self.words("pane_shells", "--close", "--server", "7", "d", "vi", "-R", "x")
-        asked = shells.read_words()
+        asked = tool.read_words()
         self.assertEqual((asked.close, asked.server, asked.again, asked.dir, asked.command, asked.instead),
                          (True, 7, False, "d", ["vi", "-R", "x"], None))
         self.words("pane_shells", "--again", "d")
-        asked = shells.read_words()
+        asked = tool.read_words()
         self.assertEqual((asked.close, asked.again, asked.command, asked.instead), (False, True, ["/bin/zsh"], "/bin/sh"))
         self.environment(SHELL=None)
-        self.assertEqual(shells.read_words().command, ["/bin/sh"])
+        self.assertEqual(tool.read_words().command, ["/bin/sh"])
 
     def test_main(self):
         folder = self.made_folder()
         self.words("pane_shells", str(folder))
-        made, woken = self.patch_of(shells, "Shells"), self.patch_of(shells, "woken", return_value=5)
-        made.return_value.run.return_value = 0
+        made, woken = self.patch_of(tool, "kept", return_value=0), self.patch_of(tool, "woken", return_value=self.pipe()[0])
         (folder / "rects").touch()
-        self.assertEqual(shells.main(), 0)
+        self.assertEqual(tool.main(), 0)
         self.assertEqual(os.listdir(folder), [])
-        self.assertEqual((made.call_args[0][1], woken.call_args[0]), (5, (signal.SIGCHLD, signal.SIGTERM, signal.SIGHUP)))
+        self.assertEqual((made.call_args[0][0].dir, woken.call_args[0]), (str(folder), (signal.SIGCHLD, signal.SIGTERM, signal.SIGHUP)))
         self.words("pane_shells", str(folder / "none"))
         with self.assertRaisesRegex(Fault, "/none is no folder$"):
-            shells.main()
+            tool.main()
 
     def test_has_ended(self):
         process = self.process("true")
-        self.assertTrue(shells.os.waitid(os.P_PID, process.pid, os.WEXITED | os.WNOWAIT))
-        self.assertTrue(shells.has_ended(process.pid))
-        self.assertTrue(shells.has_ended(process.pid))
-        self.assertFalse(shells.has_ended(self.process().pid))
+        self.assertTrue(os.waitid(os.P_PID, process.pid, os.WEXITED | os.WNOWAIT))
+        self.assertTrue(pane_commands.has_ended(process.pid))
+        self.assertTrue(pane_commands.has_ended(process.pid))
+        self.assertFalse(pane_commands.has_ended(self.process().pid))
 
     def test_child(self):
         """What is forked becomes the command, of the pane's size and in its folder, and ends where it can't."""
-        asked = argparse.Namespace(dir="/d", command=["vi"], instead="/bin/sh")
-        pane = shells.PaneCommand(asked, StillLoop(), 3, 1, (5, 40), False, "/tmp", queue())
-        with mock.patch.object(shells.terminal, "forked", return_value=(0, 0)) as forks, \
-                mock.patch.object(shells.terminal, "become") as becomes, \
-                mock.patch.object(shells.os, "_exit", side_effect=InterruptedError) as exits, \
-                mock.patch.object(shells.os, "chdir") as enters:
+        asked = pane_commands.Options(folder="/d", command=["vi"])
+        pane = pane_commands.PaneCommand(asked, StillLoop(), 3, 1, (5, 40), False, "/tmp", queue())
+        with mock.patch.object(pane_commands.terminal, "forked", return_value=(0, 0)) as forks, \
+                mock.patch.object(pane_commands.terminal, "become") as becomes, \
+                mock.patch.object(pane_commands.os, "_exit", side_effect=InterruptedError) as exits, \
+                mock.patch.object(pane_commands.os, "chdir") as enters:
             with self.assertRaises(InterruptedError):
                 pane.run()
         exits.assert_called_once_with(127)
         enters.assert_called_once_with("/tmp")
         forks.assert_called_once_with((5, 40))
         command, environment, instead = becomes.call_args[0]
-        self.assertEqual((command, instead), (["vi"], "/bin/sh"))
+        self.assertEqual((command, instead), (["vi"], None))
         self.assertEqual((environment["PWD"], environment["ROAM_PANE"]), ("/tmp", "/d:3"))

@@ -402,7 +402,7 @@ class Running(Case):
         self.assertEqual(programs.busy_panes(7), {2: "vi", 4: "a program"})
         self.assertIsNone(programs.busy_panes(8))
         self.assertEqual((programs.foreground(10), programs.foreground(99)), ("bash", ""))
-        self.assertEqual((programs.pane_of(30), programs.pane_of(50)), (3, 0))
+        self.assertEqual((programs.pane_of(30), programs.pane_of(50)), (("/x:y/main", 3), ("", 0)))
 
     def test_shells(self):
         self.environment(SHELL="/opt/mine")

@@ -7,7 +7,7 @@ from filtered import played
 from roam_live import row_keeping, shells
 from roam_live.buffers import EMPTY, MOST_BUFFER, MOST_BUFFERS, MOST_COMING, TOO_LONG, TOO_MUCH, UNKNOWN, WATCHES, Buffers, sample
 from roam_live.row_keeping import SCREEN_WAIT, RowKeeper
-from roam_live.shells import MOST_WAITING, UNREAD, ShellsSocket
+from roam_live.shells import CommonShells, MOST_WAITING, UNREAD, ShellsSocket
 from test_shells_socket import NAMED, Sockets
 
 NAME = "00112233445566aa"
@@ -23,8 +23,8 @@ class Rows(Sockets):
         with mock.patch.object(row_keeping, "program", lambda: "/roam"):
             self.keeper = RowKeeper(self.loop, self.fail, 100)
         self.addCleanup(self.keeper.close)
-        self.socket = ShellsSocket(self.folder, self.loop, lambda: None, self.keeper)
-        self.socket.name = NAMED
+        self.socket = ShellsSocket(self.folder, self.loop, lambda: None, CommonShells(self.loop, self.keeper))
+        self.socket.common.name = NAMED
         self.addCleanup(self.socket.close)
         self.keeper.begin(1, 5, (23, 80))
         self.keeper.feed(1, b"a")
@@ -184,7 +184,7 @@ class Asked(Rows):
         one.setsockopt(socket.SOL_SOCKET, socket.SO_RCVBUF, 4096)
         rows, printed, found = b"".join(b" %04d\n" % number for number in range(100)), 0, b""
         for _ in range(2000):
-            if self.socket.has_full_log():
+            if self.socket.common.has_full_log():
                 break
             self.prints(b"rows 0 100 600\n" + rows)
             printed += 1
@@ -196,7 +196,7 @@ class Asked(Rows):
             self.loop.turns()
         self.assertTrue(self.keeper.reads())
         self.assertEqual(found.count(rows), printed + 1)
-        while not self.socket.has_full_log():
+        while not self.socket.common.has_full_log():
             self.prints(b"rows 0 100 600\n" + rows)
         self.now += shells.LOG_WAIT
         self.loop.turns(2)

@@ -1,5 +1,4 @@
 """What keeps the shells of a session: what it starts where, what waits for a program that doesn't read, and who is told what."""
-import argparse
 import contextlib
 import io
 import os
@@ -13,15 +12,13 @@ import time
 import unittest
 import unittest.mock
 
-from aids import StillLoop, loaded
+from aids import StillLoop
+from roam_live import pane_commands
 from roam_live.brought import Brought
 from roam_live.given import GivenTexts
 from roam_live.program import TOOLS
 from roam_live.programs import group_in_front, working_folder
 from roam_live.typed import TypedQueue
-
-
-shells = loaded("pane_shells")
 
 
 def comes(test):
@@ -38,7 +35,7 @@ class Surroundings(unittest.TestCase):
     def test_not_asked(self):
         """The pane's name, and nothing that tells of another terminal or asks the programs of a session why they ended."""
         with unittest.mock.patch.dict(os.environ, {"ROAM_WHY": "1", "TMUX": "another", "KEPT": "one"}):
-            found = shells.surroundings("folder", 3, Brought())
+            found = pane_commands.surroundings(pane_commands.Options(folder="folder"), 3, Brought())
         self.assertEqual((found.get("ROAM_WHY"), found.get("TMUX"), found["KEPT"], found["ROAM_PANE"]), (None, None, "one", "folder:3"))
 
 
@@ -85,9 +82,9 @@ class Working(unittest.TestCase):
         here = os.getcwd()
         self.addCleanup(os.chdir, here)
         for folder in ("", str(self.folder / "none")):
-            self.assertEqual(shells.entered(folder), {})
+            self.assertEqual(pane_commands.entered(folder), {})
             self.assertEqual(os.getcwd(), here)
-        self.assertEqual(shells.entered(str(self.folder)), {"PWD": str(self.folder)})
+        self.assertEqual(pane_commands.entered(str(self.folder)), {"PWD": str(self.folder)})
         self.assertEqual(os.getcwd(), str(self.folder))
 
 
@@ -97,7 +94,7 @@ class Typed(unittest.TestCase):
     def test_dropped(self):
         """65,536 bytes wait; what is above is dropped, which is told once until all was read."""
         typed = TypedQueue(GivenTexts(StillLoop(), lambda name, word: None), lambda: False)
-        pane = shells.PaneCommand(argparse.Namespace(dir="/no"), StillLoop(), 4, 1, (23, 80), False, "", typed)
+        pane = pane_commands.PaneCommand(pane_commands.Options(folder="/no"), StillLoop(), 4, 1, (23, 80), False, "", typed)
         said = io.StringIO()
         with contextlib.redirect_stderr(said):
             for _ in range(3):

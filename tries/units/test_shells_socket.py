@@ -24,7 +24,7 @@ class Sockets(Case):
         self.folder = self.made_folder()
         self.loop = StillLoop(lambda: self.now)
         self.socket = ShellsSocket(self.folder, self.loop)
-        self.socket.name = NAMED
+        self.socket.common.name = NAMED
         self.addCleanup(self.socket.close)
 
     def connect(self, text=b""):
@@ -324,10 +324,10 @@ class Links(Sockets):
         one = self.link()
         one.brings = ["brings DISPLAY 3a37", "brings SSH_CONNECTION none"]
         self.turn(one)
-        values = self.socket.brought.values
+        values = self.socket.common.brought.values
         self.assertEqual((values["DISPLAY"], values["SSH_CONNECTION"]), (":7", ""))
         for name, wanted in ((NAMED, "later"), ("another", ":7")):
-            self.socket.name, values["DISPLAY"] = name, "later"
+            self.socket.common.name, values["DISPLAY"] = name, "later"
             one.lost("ended")
             self.now += PAUSES[-1]
             self.turn(one)
@@ -343,20 +343,20 @@ class Links(Sockets):
             one.tell_colour(text)
         self.assertEqual(one.waiting, b"colour background 1e1e/1e1e/2e2e\n")
         self.turn(one, watcher)
-        self.assertEqual(self.socket.colours.known, {"foreground": "ffff/ffff/ffff", "background": "1e1e/1e1e/2e2e"})
-        self.socket.name, self.socket.colours.known = "another", {}
+        self.assertEqual(self.socket.common.colours.known, {"foreground": "ffff/ffff/ffff", "background": "1e1e/1e1e/2e2e"})
+        self.socket.common.name, self.socket.common.colours.known = "another", {}
         one.lost("ended")
         self.now += PAUSES[-1]
         self.turn(one)
-        self.assertEqual(len(self.socket.colours.known), 2)
+        self.assertEqual(len(self.socket.common.colours.known), 2)
         one.lost("ended")
         one.tell_colour("\x1b]10;rgb:0/0/0\x07")
         self.now += PAUSES[-1]
         self.turn(one)
-        self.assertEqual(self.socket.colours.known["foreground"], "0000/0000/0000")
-        self.socket.colours.known["foreground"] = "ffff/ffff/ffff"
+        self.assertEqual(self.socket.common.colours.known["foreground"], "0000/0000/0000")
+        self.socket.common.colours.known["foreground"] = "ffff/ffff/ffff"
         rude = self.connect(f"here {B}\ncolour foreground 0000/0000/0000\n".encode())
-        self.assertEqual((read_now(rude), self.socket.colours.known["foreground"]), (b"bad line\n", "ffff/ffff/ffff"))
+        self.assertEqual((read_now(rude), self.socket.common.colours.known["foreground"]), (b"bad line\n", "ffff/ffff/ffff"))
 
     def test_none(self):
         """Where nobody knows the socket, or tells nothing, nothing is known, and that isn't awaited for long; no folder has none."""
