@@ -3,6 +3,7 @@ from __future__ import annotations
 
 import contextlib
 import signal
+import time
 from collections.abc import Callable
 
 from roam_live.bells import BellFollower
@@ -39,6 +40,9 @@ PROBES = 2.0
 
 # So many seconds a line stands that tells what a person has lost.
 LOSS_TOLD = 3.0
+
+# So many seconds each of several starts has at least for what was typed before a person left.
+LEAST_WAIT = 0.1
 
 # What is said by one that another has detached.
 DETACHED = "[detached from elsewhere]"
@@ -329,6 +333,16 @@ class FrontEnd:
         if self.session.folder and not self.link.watches:
             self.display.outer.ask_colours()
 
+    def part(self) -> None:
+        """Closes the connections: where the person has left the starts are given what was typed, all together in so many seconds."""
+        links = [self.link, *(visit.link for visit in self.parting.visits.values())]
+        end = time.monotonic() + LAST_WAIT
+        for link in links if self.left is not None else []:
+            if link.part(max(LEAST_WAIT, end - time.monotonic())) and link is self.link:
+                self.commands.zooming.drop_note()
+        for link in links:
+            link.close()
+
     def hands_over(self) -> bool:
         """Whether a paste is still handed over where the person has left: that is waited for, as for what was typed last."""
         if self.left_at is None:
@@ -354,12 +368,7 @@ class FrontEnd:
         finally:
             self.commands.left()
             self.display.outer.leave(self.left and self.left + self.unpasted())
-            links = [self.link, *(visit.link for visit in self.parting.visits.values())]
-            for link in links if self.left is not None else []:
-                if link.part() and link is self.link:
-                    self.commands.zooming.drop_note()
-            for link in links:
-                link.close()
+            self.part()
         return self.status
 
 
