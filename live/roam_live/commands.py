@@ -639,7 +639,9 @@ class Commands:
         """Closes the pane in focus: where something else than a shell may run there, only once that is confirmed."""
         places, busy = self.places(), self.session.busy()
         pane = places.focus if places else 0
-        if places and pane and len(places.rects) == 1:
+        if places and pane and len(places.rects) == 1 and self.windows and not self.windows.why_one():
+            self.windows.ask_shut()
+        elif places and pane and len(places.rects) == 1:
             self.display.tell("the last pane goes with its shell, and the session with it")
         elif busy == {} or busy and pane and pane not in busy:
             self.act("close")

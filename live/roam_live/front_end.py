@@ -64,6 +64,8 @@ class FrontEnd:
         self.shells = ShellsWatch(session, self.loop, lambda line: self.display.tell(line, LOSS_TOLD))
         self.display = Display(self.loop, self.say)
         self.parting = Parting(self.loop)
+        # The windows of which all was shown as they were left: they follow the terminal then, once the person is there again.
+        self.shown_whole: set[int] = set()
         self.visit = self.begun(session)
         self.watch_server()
         self.visit.shells.brings = brings_to(session, watches)
@@ -150,13 +152,14 @@ class FrontEnd:
     def forget(self, number: int) -> None:
         """Waits for nothing more of a window that is gone."""
         self.parting.forget(number)
+        self.shown_whole.discard(number)
 
     def go(self, number: int) -> None:
         """Goes to another window, which is shown in place of this one: what was typed here goes on its way. Fault tells why that can't
         be."""
         session = self.visit.session.window(number)
         before, visit = self.visit, self.parting.taken(number)
-        before.showed_all = self.display.shows_all()
+        (self.shown_whole.add if self.display.shows_all() else self.shown_whole.discard)(before.number)
         self.parting.add(before)
         if visit:
             visit.take_up(self.followed(session), self.heard_bells(session))
@@ -167,7 +170,7 @@ class FrontEnd:
             visit.commands.has_windows(self.windows)
         self.visit = visit
         self.watch_server()
-        visit.commands.follow_on(before.commands, visit.showed_all)
+        visit.commands.follow_on(before.commands, number in self.shown_whole)
         self.display.begin_window()
         if self.link.peer:
             self.show_window()
