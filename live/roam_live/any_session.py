@@ -4,6 +4,7 @@ types, and for who makes a session of another kind."""
 from __future__ import annotations
 
 import pathlib
+from collections.abc import Sequence
 from typing import Protocol
 
 
@@ -52,6 +53,16 @@ class AnySession(Kept, Protocol):
 
     def ending(self) -> tuple[str, int]:
         """What a person is told once it has ended, and the status of the front end."""
+
+    @property
+    def number(self) -> int:
+        """The number of the window that it is; 0 where the session can't have others."""
+
+    def window(self, number: int | None = None) -> AnySession:
+        """Another window of the session by its number; Fault where it isn't there."""
+
+    def windows(self) -> Sequence[AnySession]:
+        """The windows of the session that run, in order."""
 
     def close(self) -> None:
         """Lets it go: what was spawned for this front end alone ends."""

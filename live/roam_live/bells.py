@@ -187,3 +187,8 @@ class BellFollower:
             self.peer.close()
         self.peer, self.again_at = None, self.since + AGAIN
         self.keypads.clear()
+
+    def close(self) -> None:
+        """Follows them no more."""
+        self.loop.end_each(self.connect)
+        self.lost()

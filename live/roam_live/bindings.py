@@ -13,14 +13,19 @@ if TYPE_CHECKING:
     Mode = Callable[[Key, float, int], Asked]
 
 # Keys after the prefix that are acts, and those that are wishes. An arrow is the wish to have the pane there in focus.
-BINDINGS = {"o": "next", **{str(pane): f"focus {pane}" for pane in range(1, 10)}}
+BINDINGS = {"o": "next"}
 WISHES = {"%": "split right", '"': "split down", "x": "close", "d": "detach", "r": "repaint", "?": "help", "up": "up", "down": "down",
           "left": "left", "right": "right", "\x1a": "suspend", "m": "mouse", "[": "copy", "prev": "copy page", "/": "copy search",
-          "]": "paste", "=": "choose"}
-GROWTH = {"C-right": "grow 1", "C-down": "grow 1", "C-left": "grow -1", "C-up": "grow -1"}
+          "]": "paste", "=": "choose", "z": "zoom", " ": "even", ";": "last", "c": "window new", "w": "window list", ",": "window name",
+          "&": "window shut", "n": "go next", "p": "go previous", "l": "go last",
+          **{str(digit): f"go {digit or 10}" for digit in range(10)}, "q": "panes", "t": "row", "D": "leave others"}
+BORDERS = {"C-right": "border right", "C-down": "border down", "C-left": "border left", "C-up": "border up"}
 
-# For so many seconds after a growth the next needs no prefix.
+# For so many seconds after a border was moved the next move needs no prefix; and for so many after the wish for a pane by its number a digit
+# is one.
 REPEATS = 0.5
+PICKS = 3.0
+DIGITS = "123456789"
 
 # The keys of the scroll mode: how far back each goes, in rows and in pages; and those that end it.
 SCROLLS = {"up": (1, 0), "k": (1, 0), "down": (-1, 0), "j": (-1, 0), "prev": (0, 1), "next": (0, -1), "g": (500, 0), "G": (-500, 0)}
@@ -32,23 +37,26 @@ NEWEST = f"view -{MOST_VIEW}"
 
 HELP = """\
 C-b and then:
-  %        split the pane: the new one to the right
-  "        split the pane: the new one below
-  x        close the pane
-  o        the next pane
-  1 to 9   the pane of this number
-  arrows   the pane there
-  C-arrows grow the pane along its split (right, down), or shrink it (left,
-           up); again within half a second without C-b
+  c n p l  open a window; go to the next, the one before, the last one
+  1 to 9 0 the window of this number, 10; q and a digit: the pane of it
+  w , &    choose a window from a list; name this one; shut it
+  % " x    split the pane: the new one to the right, or below; close the pane
+  o ;      the next pane, the one in focus before; arrows: the pane there
+  C-arrows move the pane's border there, or where it has none that on the
+           other side; again within half a second without C-b
+  z        zoom: this pane fills the terminal, until z or another pane has the
+           focus. All panes grow, so on the way back rows are cut on screens
+           (kept rows aren't), others see a part, and links carry more
   [ PgUp / copy mode: all rows that are kept; tmux's keys, vi's where EDITOR
            is: Space or C-Space selects, Return or M-w copies, q leaves
   ] =      paste what was copied last; choose what is pasted
   m        the mouse: a click focuses the pane there, the wheel scrolls, text
            is dragged over, and borders; again, it selects as without roam
-  d        detach: the session goes on
+  d D      detach: the session goes on; detach all others
   C-z      suspend: the shell that this came from is there again, until `fg`
   r        size the session to this terminal, which cuts what is wider where
            that is smaller, and paint all anew
+  t Space  hide the last row, or show it; even shares for all panes
   ?        these keys, until the next key
   C-b      C-b itself"""
 
@@ -71,7 +79,7 @@ class Typing:
     def __init__(self, prefix: str = PREFIX) -> None:
         self.prefix = PREFIXES[prefix]
         self.mode: Mode = self.plain
-        self.repeats_until = 0.0
+        self.repeats_until = self.picks_until = 0.0
         # How many rows the pane in focus was scrolled back.
         self.view = 0
 
@@ -85,8 +93,24 @@ class Typing:
         return [], "yes" if key.name in ("y", "Y") else "no"
 
     def is_typing(self) -> bool:
-        """Whether what a person does goes to the pane in focus, but for the key behind a prefix."""
-        return self.mode in (self.plain, self.prefixed)
+        """Whether what a person does goes to the pane in focus, but for the key behind a prefix, or a digit that is a pane's."""
+        return self.mode in (self.plain, self.prefixed, self.picking)
+
+    def picking(self, key: Key, now: float, rows: int) -> Asked:
+        """A digit, which is a pane's."""
+        self.mode = self.plain
+        return [f"focus {key.name}"], "picked"
+
+    def ends_picking(self, key: Key, now: float) -> bool:
+        """Whether a pane was to be picked by its number, and a key is none, or comes too late; the key means what it always does then."""
+        if self.mode != self.picking or key.name in DIGITS and now < self.picks_until:
+            return False
+        self.mode = self.plain
+        return True
+
+    def line(self, key: Key, now: float, rows: int) -> Asked:
+        """A key of a line that is asked for."""
+        return [], "line"
 
     def is_scrolling(self) -> bool:
         """Whether keys scroll."""
@@ -104,7 +128,7 @@ class Typing:
         return self.scrolled(0, 1, rows) if is_page else ([], "scroll")
 
     def repeats(self, now: float) -> bool:
-        """Whether a growth needs no prefix."""
+        """Whether a move of a border needs no prefix."""
         return now < self.repeats_until
 
     def left(self) -> list[str]:
@@ -123,7 +147,7 @@ class Typing:
         if key.name == self.prefix:
             self.mode = self.prefixed
             return [], ""
-        if key.name in GROWTH and self.repeats(now):
+        if key.name in BORDERS and self.repeats(now):
             return self.prefixed(key, now, rows)
         return acts_of(key), ""
 
@@ -140,12 +164,15 @@ class Typing:
             return self.plain(key, now, rows)
         if key.name == self.prefix:
             return acts_of(key), ""
-        if key.name in GROWTH:
+        if key.name in BORDERS:
             self.repeats_until = now + REPEATS
-            return [GROWTH[key.name]], ""
+            return [], BORDERS[key.name]
         if key.name in BINDINGS:
             return [BINDINGS[key.name]], ""
-        return [], WISHES.get(key.name, "unknown")
+        wish = WISHES.get(key.name, "unknown")
+        if wish == "panes":
+            self.mode, self.picks_until = self.picking, now + PICKS
+        return [], wish
 
     def scrolling(self, key: Key, now: float, rows: int) -> Asked:
         """A key that scrolls, or one that ends it where the newest rows are: the prefix and a paste do so too. Another does nothing."""

@@ -91,6 +91,12 @@ def splits_of(rects: dict[int, Rect]) -> Parts | None:
     return joined(boxes, False, set()) if in_order is None else in_order
 
 
+def is_told_by_numbers(rects: dict[int, Rect]) -> bool:
+    """Whether the panes' numbers may tell the splits: where one is missing a pane was closed, and they don't."""
+    boxes: dict[int, Box] = {pane: (rect, pane) for pane, rect in rects.items()}
+    return sorted(rects) == list(range(1, len(rects) + 1)) and joined(boxes, True, set()) is not None
+
+
 def box_of(parts: Parts, rects: dict[int, Rect]) -> Rect:
     """The rectangle that parts fill."""
     return rects[parts] if isinstance(parts, int) else around(box_of(parts.first, rects), box_of(parts.second, rects))
@@ -148,8 +154,10 @@ class BorderDrag:
     before is told. Whose it is may be known wrongly, where panes were closed: a growth that moves another border is undone, and the pane
     on the other side tried."""
 
-    def __init__(self, commands: Commands, loop: Loop, border: Border, ended: Callable[[], object]) -> None:
+    def __init__(self, commands: Commands, loop: Loop, border: Border, ended: Callable[[], object], moment: str = "border") -> None:
         self.commands, self.loop, self.border, self.ended = commands, loop, border, ended
+        # What the moment is called at which it is settled.
+        self.moment = moment
         others = [leaf for leaf in ((border.before, 1), (border.behind, -1)) if leaf not in border.leaves]
         self.leaves = border.leaves + others if border.leaves else []
         self.aim = 0
@@ -185,7 +193,7 @@ class BorderDrag:
     def grow(self, pane: int, by: int, places: Places) -> None:
         """Has a pane grow, with the focus where it was in the end."""
         self.grown = pane, by, places
-        self.loop.later("border", SETTLES, self.settle)
+        self.loop.later(self.moment, SETTLES, self.settle)
         self.commands.act_together(f"focus {pane}", f"grow {by}", *[f"focus {places.focus}"] * (places.focus != pane))
 
     def told(self) -> None:
@@ -197,7 +205,7 @@ class BorderDrag:
         now, then = places.rects.get(pane), before.rects[pane]
         if now and (now.rows, now.cols) == (then.rows, then.cols):
             return
-        self.loop.drop("border")
+        self.loop.drop(self.moment)
         self.grown = None
         if now and not self.is_undone and self.border.at(places.rects) == self.border.at(before.rects):
             self.leaves.pop(0)
@@ -210,7 +218,7 @@ class BorderDrag:
     def settle(self) -> None:
         """Goes on where nothing comes of a growth that was taken: it is no further than it can be."""
         if self.commands.link.untaken():
-            self.loop.later("border", SETTLES, self.settle)
+            self.loop.later(self.moment, SETTLES, self.settle)
             return
         self.grown, self.is_undone, self.aim = None, False, 0
         self.end_over()

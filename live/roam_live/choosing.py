@@ -1,8 +1,9 @@
-"""The buffers of the keeper of shells at a person's terminal: the newest is pasted, or one that is chosen from a list, which is drawn over
-the pane's rectangle."""
+"""Lists from which a person chooses, each drawn over the pane in focus: the buffers of the keeper of shells, of which the newest is pasted
+or the chosen one, and the windows of a session."""
 from __future__ import annotations
 
 from roam_live.drawings import Drawing
+from roam_live.last_row import fitted
 from roam_live.places import Rect
 from roam_live.words import printable
 
@@ -11,6 +12,7 @@ if TYPE_CHECKING:
     from roam_live.commands import Commands
     from roam_live.kept_rows import BufferNote
     from roam_live.keys import Key
+    from roam_live.window_wishes import WindowWishes
 
 # The keys that move in the list, by how many; those that choose, and those that leave.
 MOVES = {"up": -1, "k": -1, "\x10": -1, "down": 1, "j": 1, "\x0e": 1, "prev": -10, "next": 10, "g": -99, "G": 99}
@@ -21,61 +23,58 @@ LEAVES = ("q", "\x1b", "\x03", "\x07")
 TOLD = 2.0
 NONE_KEPT = "no buffer is kept"
 LINE = "buffer {} of {}: Return pastes it, up and down choose, q leaves"
+WINDOWS_LINE = "window {}, of {}: Return and a digit go there, up and down choose, q leaves"
 
 
-class Choosing:
-    """What one person chooses to paste, where a list is open."""
+class ChoiceList:
+    """A list over the pane in focus, where one is open: lines, of which one is chosen."""
 
     def __init__(self, commands: Commands) -> None:
         self.commands = commands
-        self.notes: list[BufferNote] = []
         self.chosen = 0
         self.pane = ""
         self.rect = Rect(1, 1, 1, 1)
-        # How often was asked which buffers there are: an answer to an earlier question is none to this.
-        self.asked = 0
+
+    def count(self) -> int:
+        """How many lines it has: none where it isn't open."""
+        raise NotImplementedError
+
+    def text(self, place: int) -> str:
+        """A line."""
+        raise NotImplementedError
+
+    def told(self) -> str:
+        """What the last row tells of the chosen one."""
+        raise NotImplementedError
+
+    def choose(self) -> None:
+        """Closes the list, and does what is done with the chosen one."""
+        raise NotImplementedError
+
+    def forget(self) -> None:
+        """Has no lines any more."""
+        raise NotImplementedError
 
     def is_on(self) -> bool:
         """Whether the list is open."""
-        return bool(self.notes)
+        return self.count() > 0
 
-    def ask(self, is_newest: bool) -> None:
-        """Pastes the newest buffer, or opens the list, once it is told which there are."""
-        self.close()
-        shells = self.commands.shells
-        if not shells:
-            self.commands.display.tell(NONE_KEPT, TOLD)
-            return
-        self.asked += 1
-        asked = self.asked
-        shells.kept.buffers(lambda notes: self.told(asked, notes, is_newest))
-
-    def told(self, asked: int, notes: list[BufferNote] | None, is_newest: bool) -> None:
-        """Goes by which buffers there are."""
-        if asked != self.asked:
-            return
-        if not notes:
-            self.commands.display.tell(NONE_KEPT, TOLD)
-        elif is_newest:
-            self.commands.pastes.paste_buffer(notes[0].number)
-        else:
-            self.open(notes)
-
-    def open(self, notes: list[BufferNote]) -> None:
-        """Shows the list over the pane in focus."""
+    def open(self) -> bool:
+        """Shows the list over the pane in focus, and tells whether that can be."""
         places, commands = self.commands.places(), self.commands
         pane = places.focus if places else 0
         rect = commands.display.visible(places.rects[pane]) if places and pane else None
         if not rect or commands.display.cover or commands.copying.is_on():
-            return
-        self.notes, self.chosen, self.rect, self.pane = notes, 0, rect, commands.panes.making(pane)
+            self.forget()
+            return False
+        self.rect, self.pane = rect, commands.panes.making(pane)
         self.lay()
+        return True
 
     def close(self) -> None:
-        """Closes it, and waits for no answer."""
-        self.asked += 1
-        if self.notes:
-            self.notes = []
+        """Closes it."""
+        if self.is_on():
+            self.forget()
             self.commands.display.lift()
             self.commands.display.change_line()
 
@@ -86,11 +85,11 @@ class Choosing:
 
     def say(self) -> None:
         """Has the last row tell what is chosen."""
-        self.commands.display.say_line(LINE.format(self.notes[self.chosen].number, len(self.notes)))
+        self.commands.display.say_line(self.told())
 
     def fit(self) -> None:
         """Goes by where its pane is now, whose end ends it."""
-        if not self.notes or not self.commands.panes.places:
+        if not self.is_on() or not self.commands.panes.places:
             return
         pane = int(self.pane.split()[0]) if self.pane else 0
         rect = self.commands.panes.places.rects.get(pane)
@@ -102,42 +101,164 @@ class Choosing:
             self.lay()
 
     def first(self) -> int:
-        """The first buffer that is shown."""
+        """The first line that is shown."""
         return max(0, self.chosen - self.rect.rows + 1)
 
     def lines(self) -> list[bytes]:
-        """A line for each buffer: its number, how long it is and how it begins; the chosen one is reversed."""
+        """The lines as they are written: the chosen one is reversed."""
         found: list[bytes] = []
         for place in range(self.first(), self.first() + self.rect.rows):
-            note = self.notes[place] if place < len(self.notes) else None
-            text = f"{note.number}: {note.length} bytes: {as_ascii(note.sample)}" if note else ""
-            text = text[: self.rect.cols].ljust(self.rect.cols)
-            found.append(f"\x1b[0{';7' * (place == self.chosen)}m{text}\x1b[0m".encode())
+            text = fitted(self.text(place) if place < self.count() else "", self.rect.cols)
+            found.append(f"\x1b[0{';7' * (place == self.chosen)}m{text}\x1b[0m".encode("utf-8", "replace"))
         return found
 
     def cursor(self) -> tuple[int, int]:
         """Where the terminal's cursor stands: on the chosen one."""
         return self.rect.row + self.chosen - self.first(), self.rect.col
 
+    def move(self, place: int) -> None:
+        """Has another line be the chosen one."""
+        self.chosen = max(0, min(place, self.count() - 1))
+        self.say()
+        self.commands.display.draw()
+
     def takes(self, key: Key) -> bool:
         """Takes a key, and tells whether it is for the list: a paste ends it."""
         typing = self.commands.typing
-        if not self.notes or self.commands.paused or self.commands.display.cover or typing.mode != typing.plain:
+        if not self.is_on() or self.commands.paused or self.commands.display.cover or typing.mode != typing.plain:
             return False
         if key.name in (typing.prefix, "paste"):
             self.close()
             return False
         if key.name in MOVES:
-            self.chosen = max(0, min(self.chosen + MOVES[key.name], len(self.notes) - 1))
-            self.say()
-            self.commands.display.draw()
+            self.move(self.chosen + MOVES[key.name])
         elif key.name in CHOOSES:
-            number = self.notes[self.chosen].number
-            self.close()
-            self.commands.pastes.paste_buffer(number)
+            self.choose()
         elif key.name in LEAVES:
             self.close()
         return True
+
+
+class Choosing(ChoiceList):
+    """What one person chooses to paste, where a list is open."""
+
+    def __init__(self, commands: Commands) -> None:
+        super().__init__(commands)
+        self.notes: list[BufferNote] = []
+        # How often was asked which buffers there are: an answer to an earlier question is none to this.
+        self.asked = 0
+
+    def ask(self, is_newest: bool) -> None:
+        """Pastes the newest buffer, or opens the list, once it is told which there are."""
+        self.close()
+        shells = self.commands.shells
+        if not shells:
+            self.commands.display.tell(NONE_KEPT, TOLD)
+            return
+        self.asked += 1
+        asked = self.asked
+        shells.kept.buffers(lambda notes: self.answered(asked, notes, is_newest))
+
+    def answered(self, asked: int, notes: list[BufferNote] | None, is_newest: bool) -> None:
+        """Goes by which buffers there are."""
+        if asked != self.asked:
+            return
+        if not notes:
+            self.commands.display.tell(NONE_KEPT, TOLD)
+        elif is_newest:
+            self.commands.pastes.paste_buffer(notes[0].number)
+        else:
+            self.notes, self.chosen = notes, 0
+            self.open()
+
+    def close(self) -> None:
+        """Closes it, and waits for no answer."""
+        self.asked += 1
+        super().close()
+
+    def forget(self) -> None:
+        """Has no lines any more."""
+        self.notes = []
+
+    def count(self) -> int:
+        """How many buffers there are."""
+        return len(self.notes)
+
+    def text(self, place: int) -> str:
+        """A buffer's number, how long it is and how it begins."""
+        note = self.notes[place]
+        return f"{note.number}: {note.length} bytes: {as_ascii(note.sample)}"
+
+    def told(self) -> str:
+        """Which buffer is chosen."""
+        return LINE.format(self.notes[self.chosen].number, len(self.notes))
+
+    def choose(self) -> None:
+        """Pastes the chosen one."""
+        number = self.notes[self.chosen].number
+        self.close()
+        self.commands.pastes.paste_buffer(number)
+
+
+class ChoosingWindow(ChoiceList):
+    """The window to which one person goes, where a list of them is open."""
+
+    def __init__(self, commands: Commands, windows: WindowWishes) -> None:
+        super().__init__(commands)
+        self.windows = windows
+        self.numbers: list[int] = []
+
+    def begin(self) -> bool:
+        """Opens the list, with the window chosen in which this person is, and tells whether that can be."""
+        self.numbers = self.windows.numbers()
+        here = self.windows.here()
+        self.chosen = self.numbers.index(here) if here in self.numbers else 0
+        return self.open()
+
+    def told_anew(self) -> None:
+        """Goes by other windows, or other names of them: the chosen one stays so where it is there still."""
+        if not self.is_on():
+            return
+        number, self.numbers = self.numbers[self.chosen], self.windows.numbers()
+        if not self.numbers:
+            self.numbers = [number]
+            self.close()
+            return
+        self.move(self.numbers.index(number) if number in self.numbers else self.chosen)
+
+    def forget(self) -> None:
+        """Has no lines any more."""
+        self.numbers = []
+
+    def count(self) -> int:
+        """How many windows there are."""
+        return len(self.numbers)
+
+    def text(self, place: int) -> str:
+        """A window's label, and what runs there."""
+        return self.windows.described(self.numbers[place])
+
+    def told(self) -> str:
+        """Which window is chosen."""
+        return WINDOWS_LINE.format(self.numbers[self.chosen], len(self.numbers))
+
+    def choose(self) -> None:
+        """Goes to the chosen one."""
+        self.go(self.numbers[self.chosen])
+
+    def go(self, number: int) -> None:
+        """Closes the list, and goes to a window."""
+        self.close()
+        self.windows.go_to(number)
+
+    def takes(self, key: Key) -> bool:
+        """Takes a key, and tells whether it is for the list: a digit is a window."""
+        typing, commands = self.commands.typing, self.commands
+        is_digit = len(key.name) == 1 and key.name in "0123456789"
+        if is_digit and self.is_on() and typing.mode == typing.plain and not (commands.paused or commands.display.cover):
+            self.go(int(key.name) or 10)
+            return True
+        return super().takes(key)
 
 
 def as_ascii(text: str) -> str:

@@ -7,10 +7,13 @@ import time
 from collections.abc import Callable
 
 from roam_live import terminal
-from roam_live.bindings import NEWEST, Typing, help_with, spelled
-from roam_live.choosing import Choosing
+from roam_live.asked_line import LEAVES, TAKES, AskedLine
+from roam_live.bindings import NEWEST, PICKS, Typing, help_with, spelled
+from roam_live.border_keys import BorderKeys
+from roam_live.choosing import Choosing, ChoosingWindow
 from roam_live.copying import Copying, CopyEvent
 from roam_live.display import NO_SIZE, Display
+from roam_live.foci import Foci
 from roam_live.keys import Key, Keys
 from roam_live.links import StartLink
 from roam_live.loops import Loop
@@ -22,12 +25,15 @@ from roam_live.program import has_others
 from roam_live.programs import told
 from roam_live.following import PanesFollower
 from roam_live.places import BESIDE, MOVES, Places
+from roam_live.presence import LEAVE_OTHERS
+from roam_live.zooming import Zooming
 
 TYPE_CHECKING = False
 if TYPE_CHECKING:
     from roam_live.any_session import AnySession
     from roam_live.bindings import Mode
     from roam_live.shells_link import ShellsLink
+    from roam_live.window_wishes import WindowWishes
 
 # An escape that nothing follows for so many seconds is the key.
 ESCAPE_WAIT = 0.025
@@ -36,7 +42,10 @@ ESCAPE_WAIT = 0.025
 KEYS = ("char ", "key ")
 
 # The wishes that are granted while something stands in the session's place. Nothing is typed then, since nobody would see where it goes.
-UNDER_COVER = ("detach", "suspend", "repaint", "help", "no", "scrolled")
+UNDER_COVER = ("detach", "suspend", "repaint", "help", "no", "scrolled", "picked", "line")
+
+# What the wishes begin with that are for a window: to go there, which is granted in any case, or what changes it.
+GOES, WINDOW = "go ", "window "
 
 # So many seconds a line stands that tells how the session is made as large as the terminal, or why it isn't.
 FITS_TOLD = 3.0
@@ -51,8 +60,29 @@ REFUSES = 2.5
 PASTE_TOLD = 3.0
 NO_ANSWER = "nothing is pasted: a question was there"
 
+# What is told of a paste that is begun in a window that is gone before its end.
+WINDOW_GONE = "nothing is pasted: its window is gone"
+
+# So many seconds others have for leaving, and a line stands that tells how many did.
+LEAVES_IN = 2.0
+OTHERS_STAY = "the others can't be detached: what keeps the shells doesn't answer, or is an earlier roam's"
+
+# What waits in the loop for a window, and is nothing in another.
+OF_WINDOW = ("fit", "others", "size", "given", "motion", "border", "untold", "even", "zoom", "zoom left")
+
+# What is told where no pane is known that was in focus before.
+NO_LAST = "no other pane was in focus"
+
 # For so many seconds a session is new, and goes by its terminal's size, whatever that is: a window may get its size once it is there.
 NEW = 2.0
+
+
+# No key at all.
+NO_KEY = Key("", "")
+
+
+def nothing() -> None:
+    """Does nothing."""
 
 
 class Commands:
@@ -78,7 +108,14 @@ class Commands:
         self.given: terminal.Size | None = None
         self.showed_all = False
         self.copying, self.choosing = Copying(self, loop), Choosing(self)
+        self.zooming, self.border_keys, self.foci = Zooming(self, loop), BorderKeys(self, loop), Foci(panes)
         display.moved = self.fit_drawn
+        # The windows of the session, and a list of them, where it may have several.
+        self.windows: WindowWishes | None = None
+        self.choosing_window: ChoosingWindow | None = None
+        # What is done where a question is answered by yes; and the line that is asked for, with what is done with it.
+        self.asks: Callable[[], object] = nothing
+        self.asked_line: tuple[AskedLine, Callable[[str], object]] | None = None
         self.pastes = Pastes(link, panes, shells, loop, self.unpasted, lambda line: display.tell(line, PASTE_TOLD))
         # The session's size and the labels of its panes, as they were told last.
         self.known: tuple[terminal.Size, str] = (NO_SIZE, "")
@@ -103,8 +140,10 @@ class Commands:
             self.loop.later("escape", ESCAPE_WAIT, lambda: self.typed(self.keys.ended()))
 
     def typed(self, keys: list[Key]) -> None:
-        """Takes keys."""
-        for key in keys:
+        """Takes keys; those behind one that goes to another window, or opens one, are for that."""
+        for place, key in enumerate(keys):
+            if self.windows and self.windows.takes(self, keys[place:]):
+                break
             if key.name == COLOUR or key.name == MOUSE and self.typing.mode != self.typing.pasting:
                 self.reported(key)
                 continue
@@ -125,18 +164,23 @@ class Commands:
 
     def take(self, key: Key) -> None:
         """Takes a key. Under a cover nothing is typed; the prefix means there what it always does."""
-        if self.copying.takes(key) or self.choosing.takes(key):
+        if self.typing.ends_picking(key, time.monotonic()):
+            self.display.end_told()
+        if self.copying.takes(key) or self.choosing.takes(key) or self.choosing_window and self.choosing_window.takes(key):
             return
         before = self.typing.mode
         acts, wish = self.typing.asked(key, time.monotonic(), self.display.outer.size()[0])
         self.take_pasted(key, before)
         if self.paused:
             is_pasted = before == self.typing.pasting
+            if wish.startswith(GOES):
+                self.grant(wish, key)
+                return
             self.leave("[left]" if wish == "detach" or key.name in ("\x03", "q") and not is_pasted else None)
             return
         if self.display.cover:
             acts = [act for act in acts if act == NEWEST]
-            wish = "no" if wish == "yes" else wish if wish in UNDER_COVER else ""
+            wish = "no" if wish == "yes" else wish if wish in UNDER_COVER or wish.startswith(GOES) else ""
         self.act(*acts)
         self.grant(wish, key)
 
@@ -153,7 +197,7 @@ class Commands:
 
     def is_full(self) -> bool:
         """Whether so much waits behind a paste, or for rows, that nothing more is to come."""
-        return self.pastes.is_full() or self.copying.is_full()
+        return self.pastes.is_full() or self.copying.is_full() or self.windows is not None and self.windows.is_full()
 
     def unpasted(self) -> str:
         """Why nothing is pasted now; nothing where it is."""
@@ -165,14 +209,18 @@ class Commands:
         """Has acts typed, by who doesn't only watch."""
         if self.link.watches:
             return
-        self.pastes.type(*acts)
+        self.pastes.type(*self.zooming.ended_by(acts))
         self.note_moves(*acts)
 
     def act_together(self, *acts: str) -> None:
         """Has acts typed in a line of their own, by who doesn't only watch: nothing comes between them."""
         if not self.link.watches:
-            self.pastes.type_together(*acts)
-            self.note_moves(*acts)
+            self.type_together(*self.zooming.ended_by(acts))
+
+    def type_together(self, *acts: str) -> None:
+        """Has acts typed in a line of their own, whatever is zoomed."""
+        self.pastes.type_together(*acts)
+        self.note_moves(*acts)
 
     def note_moves(self, *acts: str) -> None:
         """Takes note of those of these acts that move the focus, and of where the last one goes, where it is a key."""
@@ -182,7 +230,7 @@ class Commands:
                 self.move(word, int(pane) if word == "focus" else 0)
         if any(act.startswith(MOVES) for act in acts):
             self.copying.focus_moved(acts)
-            self.choosing.close()
+            self.close_lists()
         if acts and acts[-1].startswith(KEYS):
             self.note_key()
 
@@ -206,7 +254,11 @@ class Commands:
             self.moved_to = None
         if self.given == self.session_size():
             self.forget_given()
+        self.foci.told()
         self.pointing.told()
+        self.border_keys.told()
+        self.zooming.told()
+        self.mend()
         self.fit_drawn()
         self.fit_first()
         self.show_known()
@@ -240,6 +292,40 @@ class Commands:
     def left(self) -> None:
         """Does what is left to do where the person leaves."""
         self.act(*self.typing.left())
+        self.zooming.leave()
+
+    # ---- from window to window
+
+    def has_windows(self, windows: WindowWishes) -> None:
+        """Has windows that are known here."""
+        self.windows, self.choosing_window = windows, ChoosingWindow(self, windows)
+
+    def follow_panes(self, panes: PanesFollower) -> None:
+        """Goes by what another tells of where the panes are."""
+        self.panes = self.pastes.panes = self.foci.panes = panes
+
+    def part(self) -> None:
+        """Does what is left to do where the person goes to another window: what was drawn, and waited for, is this window's."""
+        if self.typing.is_scrolling():
+            self.end_scroll()
+        self.left()
+        self.copying.close()
+        self.close_lists()
+        self.pointing.end_drag()
+        self.pastes.break_off()
+        self.given = None
+        for name in OF_WINDOW:
+            self.loop.drop(name)
+
+    def follow_on(self, before: Commands, showed_all: bool) -> None:
+        """Goes on in this window with what the person has begun elsewhere: an escape, a paste, a question or a line that is asked for. The
+        window may have been shown whole as it was left."""
+        self.keys, self.typing, self.prefix, self.help = before.keys, before.typing, before.prefix, before.help
+        self.asks, self.asked_line, self.pointing.is_on = before.asks, before.asked_line, before.pointing.is_on
+        self.display.moved = self.fit_drawn
+        self.is_fitted, self.showed_all = False, showed_all
+        if self.typing.mode == self.typing.pasting:
+            self.pastes.begin(WINDOW_GONE)
 
     def end_scroll(self) -> None:
         """Ends the scroll mode, where the newest rows are."""
@@ -255,18 +341,24 @@ class Commands:
             # The signal comes as from elsewhere, once what was typed is taken.
             os.kill(os.getpid(), signal.SIGTSTP)
         elif wish == "repaint":
+            self.zooming.overrule_own()
             self.ask_size()
             self.display.resettle()
         elif wish == "help":
             self.display.show(self.help)
         elif wish.startswith("copy"):
             self.copy(wish)
+        elif wish == "row":
+            self.switch_row()
+        elif wish.startswith((GOES, WINDOW)):
+            if self.windows:
+                self.windows.grant(wish)
         elif wish == "unknown":
             self.display.tell(f"{self.prefix} {spelled(key.name)} means nothing; {self.prefix} ? shows the keys")
         elif wish and not self.link.watches:
-            self.change(wish)
+            self.change(wish, key)
 
-    def change(self, wish: str) -> None:
+    def change(self, wish: str, key: Key = NO_KEY) -> None:
         """Does what somebody who only watches may not."""
         if wish == "scroll":
             self.display.tell(f"{self.typing.view} rows back: PgUp PgDn up down g G scroll, q ends it", None)
@@ -276,14 +368,85 @@ class Commands:
             self.close()
         elif wish == "mouse":
             self.pointing.switch()
+        elif wish == "panes":
+            self.display.tell(f"{self.display.labels}: a digit goes to the pane of this number", PICKS)
+        elif wish == "leave others":
+            self.leave_others()
+        elif wish == "line":
+            self.type_line(key)
         elif wish in ("paste", "choose"):
             self.copying.close()
             self.choosing.ask(is_newest=wish == "paste")
+        elif wish == "zoom":
+            self.zooming.switch()
+        elif wish == "even" or wish.startswith("border"):
+            self.border_keys.ask(wish.split()[-1])
+        elif wish == "last":
+            self.go_back()
         elif wish in BESIDE:
             self.go(wish)
-        elif wish in ("yes", "no", "scrolled"):
-            self.act(*(["close"] if wish == "yes" else []))
+        elif wish in ("yes", "no"):
+            self.answer(wish == "yes")
+        elif wish in ("scrolled", "picked"):
             self.display.end_told()
+
+    # ---- questions
+
+    def ask(self, text: str, does: Callable[[], object]) -> None:
+        """Asks a question, and has something done where the next key is y."""
+        self.asks = does
+        self.display.ask(text)
+        self.typing.ask()
+
+    def answer(self, is_yes: bool) -> None:
+        """Does what was asked, or not."""
+        does, self.asks = self.asks, nothing
+        self.display.end_question()
+        if is_yes:
+            does()
+
+    def ask_line(self, asked: AskedLine, does: Callable[[str], object]) -> None:
+        """Asks for a line, and has something done with what is typed there."""
+        self.asked_line, self.typing.mode = (asked, does), self.typing.line
+        self.display.ask(asked.line(), is_typed=True)
+
+    def type_line(self, key: Key) -> None:
+        """Takes a key of the line that is asked for: one that ends it, or that edits it; of a paste the text."""
+        if not self.asked_line:
+            return
+        asked, does = self.asked_line
+        if key.name in LEAVES or key.name in TAKES:
+            self.asked_line, self.typing.mode = None, self.typing.plain
+            self.display.end_question()
+            if key.name in TAKES:
+                does(asked.text)
+            return
+        if key.name == "text":
+            asked.add(key.text)
+        else:
+            asked.edit(key.name)
+        self.display.ask(asked.line(), is_typed=True)
+
+    # ---- others, and the last row
+
+    def leave_others(self) -> None:
+        """Has all other terminals at the session detached."""
+        if not self.shells or not self.shells.peer:
+            self.display.tell(OTHERS_STAY, LEAVES_IN)
+            return
+        self.shells.ask(LEAVE_OTHERS)
+        self.loop.later("others leave", LEAVES_IN, lambda: self.display.tell(OTHERS_STAY, LEAVES_IN))
+
+    def others_left(self, count: str) -> None:
+        """Tells how many others are detached."""
+        self.loop.drop("others leave")
+        self.display.tell(f"{count} other terminal{'' if count == '1' else 's'} detached" if count.isdigit() else OTHERS_STAY, LEAVES_IN)
+
+    def switch_row(self) -> None:
+        """Hides the last row, or shows it again: the session has the row, as by another size of the terminal."""
+        self.resized()
+        self.display.switch_row()
+        self.fit()
 
     # ---- rows that are kept
 
@@ -291,6 +454,14 @@ class Commands:
         """Has what is drawn over a pane go by where that is now."""
         self.copying.fit()
         self.choosing.fit()
+        if self.choosing_window:
+            self.choosing_window.fit()
+
+    def close_lists(self) -> None:
+        """Closes what may be chosen from."""
+        self.choosing.close()
+        if self.choosing_window:
+            self.choosing_window.close()
 
     def copy(self, wish: str) -> None:
         """Opens copy mode in the pane in focus, a page up or in its search where that is asked; where no rows are kept the view that all
@@ -298,7 +469,7 @@ class Commands:
         begins = {"copy page": [CopyEvent(lambda mode: mode.perform("page-up"))],
                   "copy search": [CopyEvent(lambda mode: mode.ask_search())]}.get(wish, [])
         places = self.places()
-        self.choosing.close()
+        self.close_lists()
         if self.copying.is_on():
             self.copying.add(*begins)
         elif places and places.focus:
@@ -320,21 +491,37 @@ class Commands:
 
     def ask_size(self) -> None:
         """Gives the session this terminal's size, where it may have it: what is wider than that is cut for good."""
-        size = self.display.outer.size()
+        size = self.display.room()
         if self.link.watches:
             return
         if not terminal.is_large_enough(size):
             self.display.tell("a session has {} rows and {} columns at least".format(*terminal.LEAST))
             return
-        self.given = terminal.largest(size)
-        self.loop.later("given", REFUSES, self.refused)
+        self.give(terminal.largest(size))
+
+    def give(self, size: terminal.Size) -> None:
+        """Gives the session a size."""
         self.act(terminal.size_act(size))
+        self.expect(size)
+
+    def expect(self, size: terminal.Size) -> None:
+        """Takes it that the session gets a size that it is given."""
+        self.given = size
+        self.loop.later("given", REFUSES, self.refused)
+        self.zooming.overrule()
         self.show_known()
+
+    def mend(self) -> None:
+        """Gives the session the size back that it had before a zoom that a front end has left, and then the one that it has at this
+        terminal."""
+        if self.zooming.mend():
+            self.fit()
 
     def forget_given(self) -> None:
         """Waits no more for a size that was given."""
         self.given = None
         self.loop.drop("given")
+        self.display.release()
 
     def refused(self) -> None:
         """Tells where the session hasn't got the size that it was given, and has taken all that was typed."""
@@ -343,6 +530,7 @@ class Commands:
             return
         given, size = self.given, self.session_size()
         self.forget_given()
+        self.zooming.drop_note()
         self.show_known()
         if given and size not in (given, NO_SIZE):
             self.display.tell("its panes have no room in {} by {}".format(*given), FITS_TOLD)
@@ -363,7 +551,7 @@ class Commands:
             self.loop.later("fit", FITS_AGAIN, self.fit_first)
             return
         else:
-            self.is_fitted = self.session_size() != NO_SIZE or not terminal.is_large_enough(self.display.outer.size())
+            self.is_fitted = self.session_size() != NO_SIZE or not terminal.is_large_enough(self.display.room())
         self.fit()
 
     def is_fresh(self) -> bool:
@@ -391,16 +579,21 @@ class Commands:
     def fit(self) -> None:
         """Fits the session to this terminal, as far as that may be: a new session goes by each size. Who else is there has to be known for
         the rest, and may be told soon."""
-        size, own = self.given or self.session_size(), terminal.largest(self.display.outer.size())
+        size, own = self.given or self.session_size(), terminal.largest(self.display.room())
         if self.shells:
             self.shells.say_here()
-        if self.is_fresh():
+        if self.zooming.is_on():
+            self.zooming.resized()
+        elif self.is_fresh():
             self.ask_size()
         elif not (self.link.watches or size in (NO_SIZE, own) or not terminal.is_large_enough(own)):
             if self.shells and self.shells.is_awaited():
                 self.loop.later("others", FITS_AGAIN, self.fit)
                 return
-            self.follow(size, own)
+            if not self.zooming.mend():
+                self.follow(size, own)
+                return
+            self.fit()
         self.showed_all = False
 
     def others_told(self) -> None:
@@ -408,17 +601,21 @@ class Commands:
         if "others" in self.loop.due:
             self.loop.drop("others")
             self.fit()
+        self.mend()
 
     def follow(self, size: terminal.Size, own: terminal.Size) -> None:
-        """Has the session grow to this terminal's size, where nobody else types; a lone terminal that showed all of it is followed to any
-        size. Nothing else makes one smaller."""
-        if own[0] < size[0] or own[1] < size[1]:
-            if self.showed_all and self.is_alone():
-                self.ask_size()
-        elif self.has_others():
-            self.display.tell(f"{size[0]} by {size[1]}, as another terminal has it; {self.prefix} r fits this one", FITS_TOLD)
-        else:
+        """Has the session follow this terminal from its size to another, where it does."""
+        if self.follows(size, own, self.showed_all):
             self.ask_size()
+        elif own[0] >= size[0] and own[1] >= size[1]:
+            self.display.tell(f"{size[0]} by {size[1]}, as another terminal has it; {self.prefix} r fits this one", FITS_TOLD)
+        self.showed_all = False
+
+    def follows(self, size: terminal.Size, own: terminal.Size, showed_all: bool) -> bool:
+        """Whether the session follows this terminal: it grows where nobody else types, and a lone terminal that showed all of it is followed to
+        any size. Nothing else makes one smaller, but the end of a zoom."""
+        is_smaller = own[0] < size[0] or own[1] < size[1]
+        return showed_all and self.is_alone() if is_smaller else not self.has_others()
 
     # ---- panes
 
@@ -431,7 +628,7 @@ class Commands:
 
     def split(self, wish: str) -> None:
         """Splits the pane in focus, or tells why that can't be done."""
-        places = self.places()
+        places = self.zooming.unzoomed(self.places())
         why = places.unsplit(wish.split()[1]) if places else ""
         if why:
             self.display.tell(why)
@@ -448,14 +645,23 @@ class Commands:
             self.act("close")
         else:
             runs = told({pane: busy[pane]}) if busy and pane else f"whatever runs in {f'pane {pane}' if pane else 'this pane'}"
-            self.display.tell(f"close {runs}? y closes it", None)
-            self.typing.ask()
+            self.ask(f"close {runs}? y closes it", lambda: self.act("close"))
 
     def go(self, way: str) -> None:
         """Puts the pane on a side in focus; the next one where no rectangle is known."""
         places = self.places()
         if places and not places.focus:
             places = self.panes.places
+        places = self.zooming.unzoomed(places)
         pane = places.neighbour(way) if places else None
         if pane or not places:
             self.act(f"focus {pane}" if pane else "next")
+
+    def go_back(self) -> None:
+        """Puts the pane in focus that was before this one."""
+        places = self.places()
+        pane = self.foci.last(places.focus) if places else 0
+        if pane:
+            self.act(f"focus {pane}")
+        else:
+            self.display.tell(NO_LAST)

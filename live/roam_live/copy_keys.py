@@ -3,6 +3,7 @@ from __future__ import annotations
 
 import os
 
+from roam_live.asked_line import AskedLine
 from roam_live.kept_rows import MOST_SOUGHT
 from roam_live.keys import Key
 
@@ -104,42 +105,19 @@ class Count:
         return int(digits or 1)
 
 
-class Prompt:
-    """A line that a person is asked for in the last row: what for, and what is typed so far."""
+class Prompt(AskedLine):
+    """A line that copy mode asks for, by a command."""
 
     # What each is asked by.
     WORDS = {"search-forward": "search down", "search-backward": "search up", "search-forward-incremental": "search down",
              "search-backward-incremental": "search up", "goto-line": "goto line"}
 
     def __init__(self, command: str, text: str = "") -> None:
-        self.command, self.text = command, text
+        super().__init__(self.WORDS[command], text)
+        self.command = command
         self.is_incremental = command.endswith("-incremental")
-        # What is typed replaces a text that stood there before.
         self.is_fresh = text != ""
 
-    def line(self) -> str:
-        """The line as it is shown."""
-        return f"({self.WORDS[self.command]}) {self.text}"
-
-    def add(self, text: str) -> None:
-        """Adds what was typed, or the first line of what was pasted."""
-        first = text.replace("\r", "\n").split("\n")[0]
-        if first.isprintable():
-            self.text = bounded(("" if self.is_fresh else self.text) + first)
-            self.is_fresh = False
-
-    def edit(self, name: str) -> bool:
-        """Takes a key that edits it; tells whether it is one."""
-        if name in ("\x7f", "\x08"):
-            self.text = self.text[:-1]
-        elif name == "\x15":
-            self.text = ""
-        elif name == "\x17":
-            self.text = self.text.rstrip()[: self.text.rstrip().rfind(" ") + 1]
-        elif len(name) == 1 and name.isprintable():
-            self.add(name)
-            return True
-        else:
-            return False
-        self.is_fresh = False
-        return True
+    def bounded(self, text: str) -> str:
+        """What of a text may be searched for."""
+        return bounded(text)

@@ -6,8 +6,9 @@ import copy
 from collections.abc import Callable
 
 from roam_live import copy_moves as moves
+from roam_live.asked_line import LEAVES, TAKES
 from roam_live.copy_commands import COMMANDS, COPY, LEAVE, MOVES, SEARCHES, STEPS, UNMARKS, CopyWish
-from roam_live.copy_keys import EMACS, ESCAPE, VI, Count, Prompt, bounded
+from roam_live.copy_keys import EMACS, VI, Count, Prompt, bounded
 from roam_live.copy_rows import LEAST_COLS, Missing
 from roam_live.copy_search import Finds, matches, next_match
 from roam_live.copy_selection import CHARACTERS, Columns, CopiedText, Selection, lines_at, word_at
@@ -20,10 +21,6 @@ if TYPE_CHECKING:
     from roam_live.keys import Key
 
 NOTHING_FOUND = "{!r} isn't found"
-
-# The keys that end a prompt and do nothing.
-PROMPT_ENDS = ("\x03", "\x07", ESCAPE)
-RETURNS = ("\r", "\n", "padenter")
 
 
 class CopyMode:
@@ -100,9 +97,9 @@ class CopyMode:
 
     def take_prompted(self, prompt: Prompt, key: Key) -> None:
         """Takes a key while a line is asked for."""
-        if key.name in PROMPT_ENDS:
+        if key.name in LEAVES:
             self.prompt = None
-        elif key.name in RETURNS:
+        elif key.name in TAKES:
             self.prompt = None
             if prompt.command == "goto-line":
                 self.go_to_line(prompt.text)

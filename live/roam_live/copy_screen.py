@@ -76,8 +76,9 @@ class CopyScreen:
         return "; ".join(filter(None, (f"[{back}/{most}] copy mode", came, count, mode.told)))
 
     def say(self) -> None:
-        """Has that line stand there."""
-        self.display.say_line(self.line())
+        """Has that line stand there: one that is asked for in any case."""
+        mode = self.copying.mode
+        self.display.say_line(self.line(), is_asking=mode is not None and mode.prompt is not None)
 
     def draw(self) -> None:
         """Draws what is new."""

@@ -6,7 +6,7 @@ import time
 from collections import deque, namedtuple
 from collections.abc import Callable
 
-from roam_live.bindings import GROWTH
+from roam_live.bindings import BORDERS
 from roam_live.copied import CopiedTexts
 from roam_live.copy_asking import GONE, CopyAsking
 from roam_live.copy_pointing import CopyPointing
@@ -233,7 +233,7 @@ class Copying:
         has_escape = self.pairs is not None and self.pairs.escape is not None
         if typing.mode == typing.prefixed and key.name == typing.prefix:
             typing.mode = typing.plain
-        elif typing.mode != typing.plain or key.name in GROWTH and typing.repeats(time.monotonic()):
+        elif typing.mode != typing.plain or key.name in BORDERS and typing.repeats(time.monotonic()):
             return False
         elif key.name == typing.prefix and not has_escape:
             return False

@@ -9,6 +9,7 @@ from collections.abc import Callable
 from roam_live import terminal
 from roam_live.asides import GivenAside, GivenClip
 from roam_live.colours import ASKED
+from roam_live.last_row import ZOOMED, columns, fitted, row_text, tail
 from roam_live.loops import Loop
 from roam_live.places import Rect
 from roam_live.program import Fault, write
@@ -24,6 +25,9 @@ TOLD = 1.0
 
 # A terminal that is drawn larger or smaller by hand is painted anew once in so many seconds at most.
 DRAWN = 0.05
+
+# So many seconds later nothing stands there any more of a window that was left, where the other isn't painted yet.
+ENTERS = 0.15
 
 TOO_SMALL = "too small"
 
@@ -133,6 +137,11 @@ class Display:
         self.may_be_whole = False
         self.asked: terminal.Size | None = None
         self.painted_size, self.place = NO_SIZE, (0, 0)
+        # The rectangle of the session that alone is shown, where a pane is zoomed, and the corner that was asked for; and whether nothing new is
+        # shown until the session has the size that it is to have.
+        self.zoomed: Rect | None = None
+        self.corner: tuple[int, int] | None = None
+        self.is_held = False
         # Whether nothing that is painted may reach the terminal before all is painted anew.
         self.is_stale = True
         # What stands in place of the session; what is told in the last row; for how many seconds nothing was heard of the server; and the
@@ -140,10 +149,22 @@ class Display:
         self.cover = self.told = ""
         self.silent = 0
         self.labels = ""
+        # What a person is asked, above all that is told, and whether that is a line that is typed.
+        self.question = ""
+        self.is_typed = False
+        # The labels of the windows, and which of them is shown here; what stands at the end of the last row; and whether that row is hidden
+        # while nothing is drawn, so that one more of the session is shown.
+        self.windows: tuple[list[str], int] = ([], 0)
+        self.status = ""
+        self.is_row_hidden = False
+        # Whether what stands there is still of the window that was left.
+        self.is_entering = False
         # What is drawn over a part of what is painted, and the line that stands in the last row meanwhile; whether the start was told of
         # its mask; and what is called where what is shown of the session may be another part.
         self.drawing: Drawing | None = None
         self.drawing_line = ""
+        # Whether that line is one that is asked for there.
+        self.is_drawing_asking = False
         self.is_masked = False
         self.moved: Callable[[], object] = lambda: None
         # What tells which key fits the session to this terminal, where that may be, and which leaves.
@@ -157,6 +178,7 @@ class Display:
     def begin(self) -> None:
         """Knows nothing of what a start paints that was just connected to: it paints the whole where it isn't asked for a part."""
         self.asked, self.painted_size, self.place = None, NO_SIZE, self.place if self.drawing else (0, 0)
+        self.corner = None
         self.is_stale, self.silent, self.line_put, self.is_masked = True, 0, None, False
 
     def know(self, size: terminal.Size, labels: str, may_be_whole: bool) -> None:
@@ -171,13 +193,25 @@ class Display:
         """The session's size, as far as it is known."""
         return self.told_size if self.told_size != NO_SIZE else self.whole_size
 
+    def has_row(self) -> bool:
+        """Whether the last row is the front end's own: where it is hidden only while something is drawn."""
+        return not self.is_row_hidden or self.drawing is not None
+
+    def room(self) -> terminal.Size:
+        """The size of a session of which this terminal shows all: a row of it is the session's status row, which is left out."""
+        rows, cols = self.outer.size()
+        return rows + self.is_row_hidden, cols
+
     def wanted(self) -> terminal.Size | None:
         """The part of the session that is to be shown; None where that is the whole. The session's size may be told from another machine:
         whatever it is, what is asked for is a part that can be."""
-        rows, cols = terminal.largest(self.outer.size())
+        rows, cols = self.outer.size()
+        if self.zoomed:
+            return min(rows - self.has_row(), self.zoomed.rows), min(cols, self.zoomed.cols)
         size = self.size()
-        if self.may_be_whole and size[0] <= rows and size[1] <= cols:
+        if self.may_be_whole and self.has_row() and size[0] <= rows and size[1] <= cols:
             return None
+        rows, cols = terminal.largest((rows + (not self.has_row()), cols))
         least = terminal.LEAST_SHOWN
         most = size if size != NO_SIZE else terminal.MOST
         return max(min(rows, most[0]), least[0]) - 1, max(min(cols, most[1]), least[1])
@@ -190,7 +224,11 @@ class Display:
             return
         if self.cover.startswith(TOO_SMALL):
             self.cover, is_painted = "", True
-        if self.wanted() != self.asked or is_anew:
+        corner = (self.zoomed.row - 1, self.zoomed.col - 1) if self.zoomed else None
+        if self.is_held:
+            return
+        if (self.wanted(), corner) != (self.asked, self.corner) or is_anew:
+            self.corner = corner
             self.ask_part(self.wanted())
         elif is_painted and not self.cover:
             self.repaint()
@@ -200,7 +238,9 @@ class Display:
         """Asks for a part of the session, or for all of it: for that part with the cursor that is nearest to the first row and column, or,
         where something is drawn over it, for the one that is shown."""
         self.asked, self.is_stale = part, True
-        if part and self.drawing:
+        if part and self.corner:
+            self.says("part {} {} {} {}".format(*self.corner, *part))
+        elif part and self.drawing:
             rows, cols = self.size()
             top, left = (max(0, min(place, most)) for place, most in zip(self.place, (rows - 1 - part[0], cols - part[1])))
             self.says(f"part {top} {left} {part[0]} {part[1]}")
@@ -220,7 +260,51 @@ class Display:
     def shows_all(self) -> bool:
         """Whether all of the session is shown, as far as its size is known: its status row may be left out."""
         size = self.size()
-        return self.asked is None or size == NO_SIZE or self.asked == (size[0] - 1, size[1])
+        return self.zoomed is not None or self.asked is None or size == NO_SIZE or self.asked == (size[0] - 1, size[1])
+
+    # ---- a pane alone
+
+    def hold(self) -> None:
+        """Shows nothing new until the session has the size that it is to have: what stands there stays."""
+        self.is_held = self.is_stale = True
+
+    def release(self) -> None:
+        """Shows what there is again, where it was held."""
+        if self.is_held:
+            self.is_held = False
+            self.choose(is_anew=True)
+
+    def zoom(self, rect: Rect | None) -> None:
+        """Shows this rectangle of the session alone; None shows the session again."""
+        self.zoomed, self.is_held = rect, False
+        self.choose(is_anew=True)
+
+    # ---- another window, and the last row
+
+    def begin_window(self) -> None:
+        """Knows nothing of the window where the person goes: what stands there is the other's until it is painted, or that takes long."""
+        self.told_size = self.whole_size = NO_SIZE
+        self.place, self.labels, self.zoomed, self.is_held = (0, 0), "", None, False
+        self.is_entering = True
+        self.loop.later("entered", ENTERS, self.blank)
+
+    def blank(self) -> None:
+        """Shows nothing of the window that was left any more."""
+        self.end_entering()
+        if not self.cover:
+            self.outer.waiting += terminal.CLEARED
+            self.line_put = None
+            self.put_line()
+
+    def end_entering(self) -> None:
+        """Takes note that nothing stands there any more of the window that was left."""
+        self.is_entering = False
+        self.loop.drop("entered")
+
+    def switch_row(self) -> None:
+        """Hides the last row, or shows it again."""
+        self.is_row_hidden, self.line_put = not self.is_row_hidden, None
+        self.resettle()
 
     # ---- what is told
 
@@ -247,7 +331,7 @@ class Display:
     def fits(self) -> bool:
         """Whether there is room for what is painted, above the last row or there too."""
         rows, cols = self.outer.size()
-        return self.painted_size[0] <= rows - (self.asked is not None) and self.painted_size[1] <= cols
+        return self.painted_size[0] <= rows - (self.asked is not None and self.has_row()) and self.painted_size[1] <= cols
 
     def take_painting(self, record: ToldRecord) -> None:
         """Takes a painting: one that has no room, or comes before all is painted anew, doesn't reach the terminal, and no reset does."""
@@ -255,13 +339,14 @@ class Display:
         if self.asked is None:
             # A size that was told before isn't told again.
             self.whole_size = self.painted_size
-        if self.cover or not self.fits() or self.is_stale and not is_anew:
+        if self.cover or self.is_held or not self.fits() or self.is_stale and not is_anew:
             self.is_stale = True
             return
         drawing = self.drawing
+        self.end_entering()
         self.outer.waiting += drawing.lifted() if drawing else b""
         self.outer.waiting += terminal.CLEARED + record.data.removeprefix(terminal.RESET) if is_anew else record.data
-        is_over = is_anew or self.is_line_lost or self.asked is None
+        is_over = is_anew or self.is_line_lost or self.asked is None or not self.has_row()
         self.is_stale = self.is_line_lost = False
         self.put_line(is_over)
         self.outer.waiting += drawing.laid(is_anew) if drawing else b""
@@ -293,7 +378,7 @@ class Display:
         if was_masked:
             self.says("unmask")
         elif self.asked:
-            self.ask_part(self.asked)
+            self.ask_part(self.wanted())
         self.is_masked = self.is_stale = True
         self.says(drawing.masks())
 
@@ -304,17 +389,18 @@ class Display:
 
     def lift(self) -> None:
         """Draws nothing any more."""
-        self.drawing, self.drawing_line = None, ""
+        self.drawing, self.drawing_line, self.is_drawing_asking = None, "", False
         if self.is_masked:
             self.is_masked = False
             self.says("unmask")
             self.is_stale = True
         if self.asked:
-            self.ask_part(self.asked)
+            self.ask_part(self.wanted())
 
-    def say_line(self, line: str) -> None:
-        """Has a line stand in the last row while something is drawn, where nothing else is told."""
-        self.drawing_line = line
+    def say_line(self, line: str, is_asking: bool = False) -> None:
+        """Has a line stand in the last row while something is drawn, where nothing else is told: one that is asked for stands there in any
+        case."""
+        self.drawing_line, self.is_drawing_asking = line, is_asking
         self.change_line()
 
     # ---- lines in place of the session
@@ -322,6 +408,7 @@ class Display:
     def show(self, text: str) -> None:
         """Shows lines in place of the session."""
         self.cover, self.is_stale, self.line_put = text, True, None
+        self.end_entering()
         self.forget_drawn()
         rows, cols = self.outer.size()
         lines = [part for line in text.split("\n") for part in wrapped(printable(line), max(1, cols - 1))][: max(1, rows)]
@@ -367,28 +454,35 @@ class Display:
     # ---- the line in the last row
 
     def line(self) -> str:
-        """The line that stands in the last row: what is told, that the server is silent, or the panes; nothing where the session's own
-        status row stands there."""
+        """The line that stands in the last row, the first of these that is there: what a person is asked, what is told, that the server is
+        silent, what is said of a drawing, and else the panes and windows; nothing where the session's own rows stand there."""
+        if self.question or self.is_drawing_asking:
+            return self.question or self.drawing_line
         if self.told:
             return self.told
         if self.silent:
             return "; ".join(filter(None, (f"roam: no answer for {self.silent} s", self.leaves_line)))
         if self.drawing_line:
             return self.drawing_line
-        return "" if self.asked is None else self.labels_line(self.outer.size()[1])
+        return "" if self.asked is None or not self.has_row() else self.labels_line(self.outer.size()[1])
 
     def labels_line(self, width: int) -> str:
-        """The labels of the panes, and at the end of the row which key fits the session to this terminal, where it isn't all shown."""
-        hint = "" if self.shows_all() else self.fits_line
-        if len(hint) > width:
-            hint = ""
-        labels = self.labels if len(self.labels) + len(hint) < width or not hint else ""
-        return labels + hint.rjust(width - len(labels))
+        """The labels of the panes and of the windows, and at the end of the row which key fits the session to this terminal, where it isn't
+        all shown; else the status."""
+        panes = f"{self.labels.rstrip()} {ZOOMED}" if self.zoomed and self.labels else self.labels
+        return row_text(panes, *self.windows, self.status if self.shows_all() else self.fits_line, width)
+
+    def line_text(self, text: str, width: int) -> str:
+        """The last row as it is written: reversed, but for the place behind a line that is typed."""
+        if not self.is_typed or text != self.question:
+            return f"\x1b[0;7m{fitted(text, width)}\x1b[0m"
+        shown = tail(text, width - 1)
+        return f"\x1b[0;7m{shown}\x1b[27m \x1b[7m{fitted('', width - 1 - columns(shown))}\x1b[0m"
 
     def put_line(self, is_over: bool = False) -> None:
         """Writes that line, behind what was painted, where it is another than stands there; over a painting it is written in any case."""
         text = self.line()
-        if self.cover or not text:
+        if self.cover or self.is_entering or not text:
             return
         rows, width = self.outer.size()
         row = rows
@@ -396,8 +490,7 @@ class Display:
             row, width = min(self.painted_size[0], rows), min(self.painted_size[1], width)
         if is_over or self.line_put != (text, row, width):
             self.line_put = text, row, width
-            line = printable(text)[:width].ljust(width)
-            written = terminal.unwrapped(f"\x1b[{row};1H\x1b[0;7m{line}\x1b[0m")
+            written = terminal.unwrapped(f"\x1b[{row};1H{self.line_text(text, width)}")
             is_placed = self.drawing is not None and self.drawing.is_placed
             self.outer.waiting += written + self.drawing.placed() if self.drawing and is_placed else b"\x1b7" + written + b"\x1b8"
 
@@ -407,6 +500,17 @@ class Display:
             self.put_line()
         else:
             self.repaint()
+
+    def ask(self, text: str, is_typed: bool = False) -> None:
+        """Has what a person is asked stand in the last row, until it is answered."""
+        self.question, self.is_typed = text, is_typed
+        self.put_line()
+
+    def end_question(self) -> None:
+        """Asks nothing any more."""
+        if self.question:
+            self.question, self.is_typed = "", False
+            self.change_line()
 
     def tell(self, text: str, seconds: float | None = TOLD) -> None:
         """Shows a line in the last row: for some seconds, or until it is ended."""

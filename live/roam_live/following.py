@@ -310,6 +310,12 @@ class PanesFollower:
             self.has_no_place = True
             self.say(NO_PLACE)
 
+    def close(self) -> None:
+        """Follows them no more."""
+        self.following.end()
+        for name in ("panes stand", "clips again"):
+            self.loop.drop(name)
+
     def say(self, words: str) -> None:
         """Says something once."""
         if not self.has_said:

@@ -14,9 +14,11 @@ from roam_live.display import Display
 from roam_live.following import AWAITED, PanesFollower
 from roam_live.links import LAST_WAIT, Keeper, StartLink
 from roam_live.loops import Loop
-from roam_live.program import noted_front_end, opened_process, read, woken
+from roam_live.program import Fault, noted_front_end, read, woken
 from roam_live.shells_link import ShellsLink
+from roam_live.visits import Parting, Visit
 from roam_live.watches import ShellsWatch
+from roam_live.window_wishes import WindowWishes
 
 TYPE_CHECKING = False
 if TYPE_CHECKING:
@@ -38,43 +40,141 @@ PROBES = 2.0
 # So many seconds a line stands that tells what a person has lost.
 LOSS_TOLD = 3.0
 
+# What is said by one that another has detached.
+DETACHED = "[detached from elsewhere]"
+
 LEAVING = (signal.SIGTERM, signal.SIGHUP, signal.SIGINT)
 
 class FrontEnd:
-    """A person at a terminal, and the session there."""
+    """A person at a terminal, and the session there: at one of its windows, where it has several."""
 
     def __init__(self, session: AnySession, watches: bool, prefix: str, guessing: str, is_new: Callable[[Places | None], bool],
                  loop: Loop | None = None, is_whole: bool = False, has_mouse: bool = False, has_clips: bool = False) -> None:
         self.session, self.loop = session, loop or Loop()
+        self.watches, self.prefix, self.guessing, self.is_new, self.is_whole = watches, prefix, guessing, is_new, is_whole
+        self.has_clips = has_clips and not watches
         self.left: str | None = None
         self.left_at: float | None = None
         self.status = 0
         self.wakeup = woken(signal.SIGWINCH, signal.SIGCONT, signal.SIGTSTP, *LEAVING)
-        served = session.process(session.served)
-        self.server = opened_process(served) if served else None
         self.shells = ShellsWatch(session, self.loop, lambda line: self.display.tell(line, LOSS_TOLD))
-        self.link = StartLink(session.terminals, watches, guessing)
         self.display = Display(self.loop, self.say)
-        self.panes = PanesFollower(session.folder, self.loop, lambda: self.commands.told(), self.untold)
-        self.keeper = Keeper(session, self.link, self.panes.is_full)
-        keeper = ShellsLink(session.folder, self.loop, self.display.outer.size, watches, lambda: self.commands.others_told())
-        keeper.brings = brings_to(session, watches)
-        self.commands = Commands(session, self.panes, self.link, self.display, self.loop, self.leave, is_new, is_whole, keeper)
+        self.parting = Parting(self.loop)
+        self.visit = self.begun(session)
+        self.watch_server()
+        self.visit.shells.brings = brings_to(session, watches)
+        self.windows = WindowWishes(self, self.loop)
+        self.commands.has_windows(self.windows)
         self.commands.choose(prefix)
         self.commands.pointing.is_on = has_mouse
-        if has_clips and not watches:
-            self.panes.follow_clips(self.commands.clip)
-        self.loop.later("untold", AWAITED, self.commands.show_known)
-        self.bells = BellFollower(session.folder, self.loop, self.commands.ring, lambda words: self.display.tell(words, LOSS_TOLD))
+        self.windows.begin()
         self.join()
+
+    # ---- the window where the person is
+
+    @property
+    def number(self) -> int:
+        """The window's number, 0 where the session has no windows."""
+        return self.visit.number
+
+    @property
+    def link(self) -> StartLink:
+        """The connection to the window's start."""
+        return self.visit.link
+
+    @property
+    def keeper(self) -> Keeper:
+        """What has that connected."""
+        return self.visit.keeper
+
+    @property
+    def panes(self) -> PanesFollower:
+        """What is known of the window's panes."""
+        return self.visit.panes
+
+    @property
+    def bells(self) -> BellFollower:
+        """What is told of the window's bells."""
+        return self.visit.bells
+
+    @property
+    def commands(self) -> Commands:
+        """What keys mean in the window."""
+        return self.visit.commands
+
+    def watch_server(self) -> None:
+        """Sees the end of the server of the window where the person is."""
+        visit = self.visit
+        visit.watch(self.loop, lambda: self.server_ended(visit))
+
+    def server_ended(self, visit: Visit) -> None:
+        """Goes on in another window where the server of this one has ended; where there is none the session has."""
+        visit.watch_no_more(self.loop)
+        if not (visit.number and self.windows.leave(visit.number)):
+            self.leave(*visit.session.ending())
+
+    def reached(self, number: int) -> AnySession | None:
+        """The window of a number, where one is there that isn't about to be ended."""
+        try:
+            window = self.visit.session.window(number)
+        except Fault:
+            return None
+        return window if window.ending()[1] else None
+
+    def followed(self, session: AnySession) -> PanesFollower:
+        """What follows the panes of a window."""
+        panes = PanesFollower(session.folder, self.loop, lambda: self.commands.told(), self.untold)
+        if self.has_clips:
+            panes.follow_clips(lambda text, making: self.commands.clip(text, making))
+        self.loop.later("untold", AWAITED, lambda: self.commands.show_known())
+        return panes
+
+    def heard_bells(self, session: AnySession) -> BellFollower:
+        """What follows the bells of a window."""
+        return BellFollower(session.folder, self.loop, lambda pane: self.commands.ring(pane),
+                            lambda words: self.display.tell(words, LOSS_TOLD))
+
+    def begun(self, session: AnySession) -> Visit:
+        """A visit to a window."""
+        loop, display = self.loop, self.display
+        link, panes = StartLink(session.terminals, self.watches, self.guessing), self.followed(session)
+        shells = ShellsLink(session.folder, loop, display.outer.size, self.watches, lambda: commands.others_told())
+        shells.leaves, shells.others_left = lambda: self.leave(DETACHED), lambda count: self.commands.others_left(count)
+        commands = Commands(session, panes, link, display, loop, self.leave, self.is_new, self.is_whole, shells)
+        return Visit(session, link, Keeper(session, link, panes.is_full), panes, shells, self.heard_bells(session), commands)
+
+    def forget(self, number: int) -> None:
+        """Waits for nothing more of a window that is gone."""
+        self.parting.forget(number)
+
+    def go(self, number: int) -> None:
+        """Goes to another window, which is shown in place of this one: what was typed here goes on its way. Fault tells why that can't
+        be."""
+        session = self.visit.session.window(number)
+        before, visit = self.visit, self.parting.taken(number)
+        before.showed_all = self.display.shows_all()
+        self.parting.add(before)
+        if visit:
+            visit.take_up(self.followed(session), self.heard_bells(session))
+        else:
+            self.is_new = lambda places: False
+            visit = self.begun(session)
+            visit.shells.follow_on(before.shells)
+            visit.commands.has_windows(self.windows)
+        self.visit = visit
+        self.watch_server()
+        visit.commands.follow_on(before.commands, visit.showed_all)
+        self.display.begin_window()
+        if self.link.peer:
+            self.show_window()
+        else:
+            self.connect()
 
     def join(self) -> None:
         """Has the loop see the session's end, signals, what is typed, and what the terminal takes."""
-        outer, link = self.display.outer, self.link
-        if self.server is not None:
-            self.loop.add(self.server, lambda: self.leave(*self.session.ending()))
+        outer = self.display.outer
         self.loop.add(self.wakeup, self.signalled)
-        self.loop.add(0, self.typed, hears=lambda: len(link.waiting) < TYPED_LIMIT and not self.commands.is_full())
+        self.loop.add(0, self.typed, hears=lambda: len(self.link.waiting) < TYPED_LIMIT and not self.commands.is_full())
         self.loop.add(outer.end, None, self.show, has_more=outer.has_more)
 
     def leave(self, line: str | None, status: int = 0) -> None:
@@ -94,17 +194,22 @@ class FrontEnd:
             if said:
                 self.pause(said, wait)
             return
-        self.loop.add(self.link, self.hear, self.send, hears=lambda: len(self.display.outer.waiting) < PAINTED_LIMIT,
-                      has_more=lambda: self.link.waiting)
         loss = self.keeper.connected()
+        self.show_window()
+        if loss:
+            self.display.tell(loss, LOSS_TOLD)
+
+    def show_window(self) -> None:
+        """Has a start that is connected paint what is to be shown."""
+        link = self.link
+        self.loop.add(link, self.hear, self.send, hears=lambda: len(self.display.outer.waiting) < PAINTED_LIMIT,
+                      has_more=lambda: link.waiting)
         self.commands.paused = False
         self.display.cover = ""
         self.display.begin()
         self.commands.show_known()
         self.commands.fit_first()
         self.commands.act(*([] if self.commands.typing.left() else [NEWEST]))
-        if loss:
-            self.display.tell(loss, LOSS_TOLD)
 
     def say(self, line: str) -> None:
         """Says a line about what is shown here, where there is a start: each that is connected to is told anew."""
@@ -179,6 +284,8 @@ class FrontEnd:
             self.send()
         if self.display.outer.has_more():
             self.show()
+        if self.parting.visits and not self.display.is_stale:
+            self.parting.settle()
 
     def has_keypads(self) -> bool:
         """Whether the keypad is an application's, in a pane or at the terminal."""
@@ -227,11 +334,12 @@ class FrontEnd:
         if self.left_at is None:
             self.left_at = self.loop.clock()
             self.loop.later("left", LAST_WAIT, lambda: None)
-        return self.commands.pastes.hands_over() and self.loop.clock() < self.left_at + LAST_WAIT
+        return (self.commands.pastes.hands_over() or self.parting.hands_over()) and self.loop.clock() < self.left_at + LAST_WAIT
 
     def unpasted(self) -> str:
         """What is said of a paste that couldn't be handed over any more."""
-        return " what was pasted last isn't typed" if self.commands.pastes.hands_over() else ""
+        hands_over = self.commands.pastes.hands_over() or self.parting.hands_over()
+        return " what was pasted last isn't typed" if hands_over else ""
 
     def run(self) -> int:
         """Follows the session until the person leaves or it ends, and tells the status."""
@@ -239,16 +347,19 @@ class FrontEnd:
             self.display.outer.enter()
             self.ask_colours()
             self.connect()
-            if self.server is None:
+            if self.visit.server is None:
                 self.loop.later("probe", PROBES, self.probe)
             while self.left is None or self.hands_over():
                 self.turn()
         finally:
             self.commands.left()
             self.display.outer.leave(self.left and self.left + self.unpasted())
-            if self.left is not None:
-                self.link.part()
-            self.link.close()
+            links = [self.link, *(visit.link for visit in self.parting.visits.values())]
+            for link in links if self.left is not None else []:
+                if link.part() and link is self.link:
+                    self.commands.zooming.drop_note()
+            for link in links:
+                link.close()
         return self.status
 
 

@@ -98,6 +98,11 @@ class Pastes:
         elif text:
             self.paste(text)
 
+    def break_off(self) -> None:
+        """Nothing more comes of one here: it isn't typed."""
+        self.loop.drop("paste")
+        self.pieces, self.size = [], 0
+
     def handing(self) -> int:
         """How many characters wait to be handed over."""
         return sum(len(one.text) for one in self.waiting if isinstance(one, Paste))

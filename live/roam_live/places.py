@@ -70,6 +70,11 @@ class Places(namedtuple("Places", "rects focus starts watchers", defaults=(0, 0,
         rects = self.rects.values()
         return max(rect.row + rect.rows for rect in rects), max(rect.col + rect.cols - 1 for rect in rects)
 
+    def is_covered(self) -> bool:
+        """Whether the panes and borders cover the area, as far as their sizes tell: while some are told anew and others aren't they don't."""
+        rows, cols = self.size()
+        return sum((rect.rows + 1) * (rect.cols + 1) for rect in self.rects.values()) == rows * (cols + 1)
+
     def labels(self) -> str:
         """The panes' numbers as a session's status row has them: that in focus in brackets, each other between spaces."""
         return "".join(f"[{pane}]" if pane == self.focus else f" {pane} " for pane in in_order(self.rects))

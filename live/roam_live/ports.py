@@ -6,13 +6,14 @@ import shutil
 import subprocess
 import tempfile
 
-from roam_live.program import Home
+from roam_live.program import Fault, Home
 
 
 class PortSession:
     """A session whose server has a UDP port: a terminal has a start of its own there, and a folder that is told has the rest."""
 
     served = "server"
+    number = 0
 
     def __init__(self, home: Home, folder: str | None) -> None:
         self.home = home
@@ -24,6 +25,16 @@ class PortSession:
 
     def __str__(self) -> str:
         return str(self.home)
+
+    def windows(self) -> list[PortSession]:
+        """Which of its windows run isn't told at a port."""
+        return [self]
+
+    def window(self, number: int | None = None) -> PortSession:
+        """It alone is known."""
+        if number is not None:
+            raise Fault(f"of {self} no other window can be had")
+        return self
 
     def read(self) -> None:
         """Nothing is noted of it."""

@@ -12,8 +12,9 @@ HERE, WHO = "here", "who"
 # What is told then: that another is there, or has another size, that it has left, and, behind these, how many others there are.
 THERE, GONE, OTHERS = "there", "gone", "others"
 
-# The word by which it is asked which terminals are at all windows, and that by which each is told; and what one is told that is to leave.
-CLIENTS, CLIENT, LEAVE = "clients", "client", "leave"
+# The word by which it is asked which terminals are at all windows, and that by which each is told; what one is told that is to leave; and
+# the line by which one has all others leave.
+CLIENTS, CLIENT, LEAVE, LEAVE_OTHERS = "clients", "client", "leave", "leave others"
 
 # So many seconds a terminal that left is taken for the same that comes again, as to another window; and so many are known.
 STAYS = 5.0

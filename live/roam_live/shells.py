@@ -13,11 +13,12 @@ from roam_live.colours import Colours
 from roam_live.given import KEPT, LOST, GivenText, GivenTexts
 from roam_live.listeners import Listener
 from roam_live.loops import Loop
-from roam_live.presence import CLIENTS, LEAVE, WHO, Attended, Presence, presence_said
+from roam_live.presence import CLIENTS, LEAVE, LEAVE_OTHERS, WHO, Attended, Presence, presence_said
 from roam_live.program import Fault, read, reason, say, write
 from roam_live.row_answers import RowAsker
 from roam_live.shells_peers import MOST_WAITING, Giving, ShellsPeer, client_line
 from roam_live.texts import cleaned, random_name
+from roam_live.zoom_notes import NotedZoom
 
 TYPE_CHECKING = False
 if TYPE_CHECKING:
@@ -116,6 +117,19 @@ class CommonShells:
         lines = [client_line(peer, window or 1) for peer, window in sorted(found, key=lambda there: there[0].number)]
         return [*lines, f"{CLIENTS} {len(lines)}"]
 
+    def has_asked_windows(self) -> bool:
+        """Whether somebody is there who asked for windows."""
+        return self.lines is not None and self.lines.has_asked()
+
+    def leave_others(self, asker: ShellsPeer) -> int:
+        """Has all terminals told to leave but the one that asks for that; how many that are."""
+        found = [(peer, one) for one in self.sockets for peer in list(one.peers) if peer.presence and peer is not asker]
+        for peer, one in found:
+            one.send(peer, [LEAVE])
+        # One that goes from a window to another is there twice.
+        own = asker.presence.name if asker.presence else ""
+        return len({peer.presence.name for peer, _ in found if peer.presence} - {own})
+
     def leave(self, number: int) -> bool:
         """Has a terminal told to leave; whether there is one of that number."""
         for one in self.sockets:
@@ -141,6 +155,8 @@ class ShellsSocket:
         self.common.sockets.append(self)
         self.rows, self.texts, self.buffers = self.common.rows, self.common.texts, self.common.buffers
         self.peers: list[ShellsPeer] = []
+        # What is noted of a zoom of this window.
+        self.zoom = NotedZoom()
         # Whether something is new of who is there.
         self.is_new = False
         self.listener: Listener | None = None
@@ -216,6 +232,8 @@ class ShellsSocket:
             pass
         elif self.common.lines and self.common.lines.take(self, peer, line):
             pass
+        elif not peer.watches() and self.zoom.take(peer.number, line):
+            self.is_new = True
         elif peer.watches() or not (self.common.brought.take(line) or self.common.colours.take(line)):
             self.send(peer, [BAD_LINE])
 
@@ -240,7 +258,9 @@ class ShellsSocket:
             self.answer(peer, "".join(f"{one}\n" for one in self.common.clients()).encode())
         elif leaves and not peer.watches():
             self.send(peer, [f"left {leaves[1]}" if self.common.leave(int(leaves[1])) else "left none"])
-        return bool(line == CLIENTS or leaves and not peer.watches())
+        elif line == LEAVE_OTHERS and not peer.watches():
+            self.send(peer, [f"left {self.common.leave_others(peer)}"])
+        return bool(line == CLIENTS or (leaves or line == LEAVE_OTHERS) and not peer.watches())
 
     # ---- texts that are given
 
@@ -324,7 +344,7 @@ class ShellsSocket:
         self.is_new = False
         there = {peer.number: peer.presence for peer in self.peers if peer.presence}
         for peer in [peer for peer in self.peers if peer.asks]:
-            self.send(peer, peer.news({number: one for number, one in there.items() if number != peer.number}))
+            self.send(peer, peer.news({number: one for number, one in there.items() if number != peer.number}, self.zoom.line()))
 
     def tell_rows(self) -> float | None:
         """Goes on with what was asked of rows, and tells when that is due again."""
@@ -390,7 +410,7 @@ class ShellsSocket:
             self.peers.remove(peer)
             if peer.presence:
                 self.common.attended.leaves(peer.presence.name, self.loop.clock())
-            self.is_new = self.is_new or peer.presence is not None
+            self.is_new = self.zoom.leave(peer.number) or self.is_new or peer.presence is not None
 
     def close(self) -> None:
         """Closes the socket, and removes it."""

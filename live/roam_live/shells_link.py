@@ -9,13 +9,17 @@ from roam_live.colours import COLOUR, Colours, told_in
 from roam_live.following import LET_GO, Following
 from roam_live.kept_rows import BUFFER, AnswerReader, BadAnswer, RowsLink
 from roam_live.loops import Loop
-from roam_live.presence import HERE, WHO, Presence, ToldOthers, terminal_name
-from roam_live.program import connected_now, read
+from roam_live.presence import HERE, LEAVE, WHO, Presence, ToldOthers, terminal_name
+from roam_live.program import connected_now, read, write
 from roam_live.texts import MOST_BYTES
+from roam_live.zoom_notes import NONE, ZOOM, ZOOMED, ZoomNote, zoomed_in
 
 TYPE_CHECKING = False
 if TYPE_CHECKING:
     from roam_live.terminal import Size
+
+# What is told to who had all others at the session leave it: how many do.
+LEFT = "left"
 
 # What a keeper tells of a text that it was given, in words behind the text's name where it refuses it; and by what another is known.
 HELD, PUT, LOST, REFUSED = ANSWERS = ("held", "put", "lost", "refused")
@@ -59,11 +63,19 @@ class ShellsLink(Following):
         self.giving: dict[str, bytes | int] = {}
         self.given: dict[str, None] = {}
         self.answers: Callable[[str, str, str], object] = lambda name, word, more: None
+        # What is called where this terminal is to leave, and with how many others do, where it had them do so.
+        self.leaves: Callable[[], object] = lambda: None
+        # Whether its window was left, of which what was typed goes on.
+        self.is_parting = False
+        self.others_left: Callable[[str], object] = lambda count: None
         # The lines by which this terminal brings what new panes have, once to each keeper: behind a cut another may have brought since.
         self.brings: list[str] = []
         # The colours of this terminal, as far as it told them, and what of that the keeper wasn't told: each is told them once.
         self.colours = Colours()
         self.untold: list[str] = []
+        # The zoom of this terminal, and the one that was told of, with the number of who made it, 0 where that has left.
+        self.zoom: ZoomNote | None = None
+        self.zoomed: tuple[int, ZoomNote | None] = (0, None)
         if folder:
             self.connect()
 
@@ -73,6 +85,21 @@ class ShellsLink(Following):
         self.said, self.reader = "", AnswerReader()
         self.say_here()
         self.ask(WHO)
+
+    def follow_on(self, before: ShellsLink) -> None:
+        """Knows what the keeper was told by an earlier connection of this terminal, which brings nothing twice to one."""
+        self.keeper, self.brings, self.colours, self.untold = before.keeper, before.brings, before.colours, before.untold
+
+    def leave_now(self) -> None:
+        """Leaves, as another terminal has it."""
+        if not self.is_parting:
+            self.leaves()
+
+    def rename(self, again: str) -> None:
+        """Calls the moment otherwise at which the connection is had again."""
+        if self.again in self.loop.due:
+            self.loop.due[again] = self.loop.due.pop(self.again)
+        self.again = again
 
     def is_connecting(self) -> bool:
         """Whether a connection may be there soon: none is, as where the keeper was launched just before, and few were tried in a row."""
@@ -122,6 +149,13 @@ class ShellsLink(Following):
             self.ask(line)
         self.untold = [] if self.is_there else self.untold
 
+    def note_zoom(self, note: ZoomNote | None) -> None:
+        """Tells the keeper of this terminal's zoom, or that it is over: at once, where it takes it, since what comes of it goes elsewhere."""
+        self.zoom = note
+        if self.is_there and self.peer:
+            self.ask(f"{ZOOM} {note or NONE}")
+            write(self.peer.fileno(), self.waiting)
+
     def take(self, lines: list[str]) -> None:
         """Takes what was told."""
         for line in lines:
@@ -131,6 +165,12 @@ class ShellsLink(Following):
                 self.answered(name, word, more)
             elif word == KEEPER:
                 self.meet(rest)
+            elif line == LEAVE:
+                self.leave_now()
+            elif word == LEFT:
+                self.others_left(rest)
+            elif word == ZOOMED:
+                self.zoomed = zoomed_in(rest.split(" ")) or self.zoomed
             else:
                 self.others.take(line)
         if self.others.is_whole:
@@ -139,7 +179,7 @@ class ShellsLink(Following):
 
     def forget(self) -> None:
         """Knows no more who is there. Where no keeper was known before, none is there that takes texts."""
-        self.others, self.is_there = ToldOthers(), False
+        self.others, self.is_there, self.zoomed = ToldOthers(), False, (0, None)
         self.kept.forget()
         if not self.is_known:
             self.lose(UNTOLD)
@@ -156,6 +196,8 @@ class ShellsLink(Following):
             self.untold = self.colours.lines()
         self.keeper, self.is_there = name, True
         self.tell_colours()
+        if self.zoom:
+            self.ask(f"{ZOOM} {self.zoom}")
         if is_other:
             self.lose(LOST)
         for text, data in self.giving.items():

@@ -4,6 +4,7 @@ from __future__ import annotations
 import socket
 
 from roam_live.presence import CLIENT, GONE, OTHERS, THERE, Presence
+from roam_live.zoom_notes import NO_ZOOM
 
 TYPE_CHECKING = False
 if TYPE_CHECKING:
@@ -45,9 +46,10 @@ class ShellsPeer:
         self.presence: Presence | None = None
         # Since when that is so, in seconds since the epoch.
         self.since = 0
-        # Whether it asked who else is there; and the others, as it was told last.
+        # Whether it asked who else is there; and the others, and the zoom, as it was told last.
         self.asks = False
         self.told: dict[int, Presence] | None = None
+        self.told_zoom = NO_ZOOM
         # The same of what runs in front in panes.
         self.asks_commands = False
         self.commands: dict[int, tuple[int, str]] = {}
@@ -86,11 +88,13 @@ class ShellsPeer:
         if len(self.names) > MOST_NAMES:
             del self.names[next(iter(self.names))]
 
-    def news(self, others: dict[int, Presence]) -> list[str]:
-        """The lines that tell it of the others, where it wasn't told so yet."""
+    def news(self, others: dict[int, Presence], zoom: str = NO_ZOOM) -> list[str]:
+        """The lines that tell it of the others, and of the zoom, where it wasn't told so yet."""
         told, self.told = self.told, others
         lines = [f"{GONE} {number}" for number in told or () if number not in others]
         lines += [f"{THERE} {number} {one}" for number, one in others.items() if (told or {}).get(number) != one]
+        lines += [zoom] if zoom != self.told_zoom else []
+        self.told_zoom = zoom
         return [*lines, f"{OTHERS} {len(others)}"] if lines or told is None else []
 
 

@@ -27,11 +27,14 @@ if TYPE_CHECKING:
         def shut(self, number: int) -> bool:
             """Ends a window; whether it is there."""
 
+        def in_front(self) -> dict[int, str]:
+            """What runs in front in the windows' panes in focus, as far as that was looked up, which it is from now on."""
+
         def came(self, number: int) -> None:
             """Takes note that a terminal is at a window now."""
 
 # The words of lines that are said, and of those that are told.
-WINDOWS, WINDOW, GONE, OPENED, BELL, ACTIVITY = "windows", "window", "gone", "opened", "bell", "activity"
+WINDOWS, WINDOW, GONE, OPENED, BELL, ACTIVITY, RUNS = "windows", "window", "gone", "opened", "bell", "activity", "runs"
 
 # How one asks for a window to be opened, named and shut.
 OPEN = re.compile(r"open ([1-9]\d{0,4}) ([1-9]\d{0,4})", re.ASCII)
@@ -81,7 +84,7 @@ class WindowLines:
         if line == WINDOWS:
             peer.asks_windows = True
             told = [self.line(number) for number in sorted(self.table.named())]
-            socket.send(peer, [*told, f"{WINDOWS} {len(told)}"])
+            socket.send(peer, [*told, f"{WINDOWS} {len(told)}", *(f"{RUNS} {number} {name}" for number, name in self.table.in_front().items())])
         elif opens:
             self.open(socket, peer, (int(opens[1]), int(opens[2])))
         elif peer.watches():
@@ -117,6 +120,10 @@ class WindowLines:
             told(0, refusal)
         else:
             self.table.open(size, socket.window, told)
+
+    def has_asked(self) -> bool:
+        """Whether somebody is there who asked for windows."""
+        return any(peer.asks_windows for socket in self.sockets for peer in socket.peers)
 
     # ---- what is told
 

@@ -182,7 +182,9 @@ class Shells:
         self.server_began = begun(self.server) if self.server else None
         self.bells = BellSource(asked.dir, self.loop)
         self.socket = ShellsSocket(asked.dir, self.loop, self.look_at_fronts, common.shells, asked.window)
-        self.fronts = Fronts(self.loop, self.socket.tell_command, f"window {asked.window} " if asked.window else "")
+        # What runs in front in panes, as far as that was looked up.
+        self.in_front: dict[int, str] = {}
+        self.fronts = Fronts(self.loop, self.tell_front, f"window {asked.window} " if asked.window else "")
         common.windows[asked.window] = self
         common.keep_spares()
 
@@ -313,6 +315,7 @@ class Shells:
             self.ring(pane)
             self.bells.tell_keypad(number, False)
             self.fronts.drop(number)
+            self.in_front.pop(number, None)
             self.rows.drop(self.key(number))
             pane.hang_up()
             self.common.hung += [pane.process] if pane.process is not None and pane.runs() else []
@@ -416,6 +419,11 @@ class Shells:
             self.rung.add(pane.number)
             self.bells.tell(pane.number)
 
+    def tell_front(self, number: int, life: int, name: str) -> None:
+        """Tells what runs in front in that making of a pane."""
+        self.in_front[number] = name
+        self.socket.tell_command(number, life, name)
+
     def look_at_fronts(self) -> None:
         """Looks up what runs in front in all panes, for one more who wants to know."""
         self.fronts.is_wanted = True
@@ -426,7 +434,7 @@ class Shells:
         """Has it looked up what runs in front in a pane where something was typed or written, while somebody wants to know."""
         self.has_news, pane.has_news = self.has_news or pane.has_news, False
         if pane.is_touched:
-            pane.is_touched, self.fronts.is_wanted = False, self.socket.has_asked_commands()
+            pane.is_touched, self.fronts.is_wanted = False, self.socket.has_asked_commands() or self.common.shells.has_asked_windows()
             self.fronts.touched(pane)
 
     def hang_up(self) -> None:

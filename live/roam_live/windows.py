@@ -12,7 +12,7 @@ from roam_live.program import Fault, connected_now, read, reason, say
 from roam_live.programs import working_folder
 from roam_live.row_keeping import pane_of_key
 from roam_live.terminal import LEAST, size_act
-from roam_live.window_lines import ACTIVITY, BELL, GONE, MOST_WINDOWS, WindowLines
+from roam_live.window_lines import ACTIVITY, BELL, GONE, MOST_WINDOWS, RUNS, WindowLines
 from roam_live.window_processes import SERVER, TERMINALS, WindowProcesses, note_ends, numbers_in, windows_folder
 from roam_live.window_shells import Common, Shells
 
@@ -53,6 +53,8 @@ class KeptWindow:
         self.until = 0.0
         # When it may be told again that something was written there, and that a pane rang.
         self.active_at = 0.0
+        # What runs in front in its pane in focus, as it was told.
+        self.runs = ""
         self.rung_at: dict[int, float] = {}
 
     def has_terminals(self) -> bool:
@@ -116,6 +118,13 @@ class Windows:
             return False
         self.end(window, is_meant=True)
         return True
+
+    def in_front(self) -> dict[int, str]:
+        """What runs in front in the windows' panes in focus, as far as that was looked up, which it is from now on."""
+        for window in self.windows.values():
+            if window.shells:
+                window.shells.look_at_fronts()
+        return {number: one.runs for number, one in sorted(self.windows.items()) if one.runs and one.state == THERE}
 
     def came(self, number: int) -> None:
         """Takes note that a terminal is at a window now: who attaches without naming one goes there."""
@@ -309,6 +318,10 @@ class Windows:
                 window.rung_at[pane] = now + APART
                 self.lines.tell(f"{BELL} {window.number} {pane}")
         shells.rung.clear()
+        runs = shells.in_front.get(shells.focus, window.runs)
+        if runs != window.runs:
+            window.runs = runs
+            self.lines.tell(f"{RUNS} {window.number} {runs}")
         if shells.has_news and now >= window.active_at:
             shells.has_news = False
             if not window.has_terminals():

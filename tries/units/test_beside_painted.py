@@ -102,7 +102,7 @@ class Written(Fronts):
                     shown += read_now(self.master)
             if chance.random() < 0.3:
                 self.start.send(record("silent", chance.randint(10, 99)) + record("heard"))
-                self.type(chance.choice((b"x", b"\x021", b"\x022", b"\x1b[<0;3;3M")))
+                self.type(chance.choice((b"x", b"\x02q1", b"\x02q2", b"\x1b[<0;3;3M")))
             self.now += 0.5
             self.turn(1)
         shown += self.shown()

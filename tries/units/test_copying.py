@@ -482,8 +482,10 @@ class Meanwhile(Copied):
         person = self.person()
         self.assertEqual(person.types(b"\x02\x02"), [])
         self.assertEqual(person.display.line(), "[21/77] copy mode")
-        self.assertEqual(person.types(b"\x02\x1b[1;5C"), ["grow 1"])
-        self.assertEqual(person.types(b"\x1b[1;5C"), ["grow 1"])
+        for keys in (b"\x02\x1b[1;5C", b"\x1b[1;5C"):
+            person.types(keys)
+            self.assertEqual(person.display.told, "pane 1 has no border at its left or right")
+            person.display.end_told()
         self.now += 1
         self.assertEqual(person.types(b"\x1b[1;5A"), [])
         self.assertTrue(person.commands.copying.is_on())
@@ -519,7 +521,7 @@ class Meanwhile(Copied):
         person.tell(PANES._replace(focus=2))
         self.settle(person)
         self.assertEqual((person.types(b"gj"), self.spot(person)), ([], (1001, 0)))
-        self.assertEqual(person.types(b"\x023"), ["focus 3"])
+        self.assertEqual(person.types(b"\x02q3"), ["focus 3"])
         self.assertFalse(person.commands.copying.is_on())
         for keys in (b"\x02o", b"\x02\x1b[C", b"\x02%"):
             person = self.person(told=PANES)
@@ -782,7 +784,7 @@ class Chosen(Copied):
 
     def test_list_ends(self):
         """The list ends with its pane, another focus of this person, a paste, and where copy mode is opened; with another size it stays."""
-        for ends in (lambda person: person.tell(Places({2: Rect(1, 1, 23, 80)}, 2, 1)), lambda person: person.types(b"\x022"),
+        for ends in (lambda person: person.tell(Places({2: Rect(1, 1, 23, 80)}, 2, 1)), lambda person: person.types(b"\x02q2"),
                      lambda person: person.types(b"\x1b[200~x\x1b[201~"), lambda person: person.types(b"\x02[")):
             person = self.person(told=PANES, opens=False)
             self.kept.texts = [b"one"]

@@ -157,6 +157,13 @@ class PlayedShells:
 
     def __init__(self, types=None, awaited=False):
         self.types, self.awaited, self.said = types, awaited, 0
+        # The zoom of this terminal, all that was told of it, and the one that is told of.
+        self.zoom, self.zooms, self.zoomed = None, [], (0, None)
+
+    def note_zoom(self, note):
+        """Keeps what is told of a zoom."""
+        self.zoom = note
+        self.zooms.append(str(note))
 
     def say_here(self):
         """Counts how often the terminal's size was looked at."""

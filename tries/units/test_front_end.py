@@ -7,7 +7,7 @@ from contextlib import suppress
 from unittest import mock
 
 from aids import Case, StillLoop, closed, read_now, record
-from roam_live import display, front_end, links, mouse, pastes, terminal
+from roam_live import display, front_end, links, mouse, pastes, terminal, visits
 from roam_live.colours import ASKED
 from roam_live.front_end import FrontEnd
 from roam_live.program import Fault, begun
@@ -21,7 +21,7 @@ PANES = Places({1: Rect(1, 1, 23, 39), 2: Rect(1, 41, 11, 40), 3: Rect(13, 41, 1
 class AnySession:
     """A session that is played."""
 
-    served, name = "server", "main"
+    served, name, number = "server", "main", 0
 
     def __init__(self, folder):
         self.folder = self.common = folder
@@ -386,8 +386,9 @@ class Loop(Fronts):
     def test_served(self):
         """The end of the server's process is the session's."""
         reader, writer = self.pipe()
-        self.front.server = reader
-        self.front.join()
+        self.place.processes["server"] = 1
+        with mock.patch.object(visits, "opened_process", return_value=reader):
+            self.front.watch_server()
         os.close(writer)
         self.turn(1)
         self.assertEqual((self.front.left, self.front.status), ("[the session has ended]", 0))
@@ -645,8 +646,8 @@ class Clipboard(Fronts):
         self.place.told = PANES
         self.front_of()
         clip = b"\x1b]52;c;YQ==\x07"
-        for typed, made in ((b"", b""), (b"y", clip), (b"\x022", clip), (b"x", b""), (b"\x021y", clip), (b"\x02o", clip), (b"\x1b[A", b""),
-                            (b"\x021\x1b[200~y\x1b[201~", clip)):
+        for typed, made in ((b"", b""), (b"y", clip), (b"\x02q2", clip), (b"x", b""), (b"\x02q1y", clip), (b"\x02o", clip), (b"\x1b[A", b""),
+                            (b"\x02q1\x1b[200~y\x1b[201~", clip)):
             self.type(typed)
             self.shown()
             self.assertEqual(self.set("YQ=="), made, typed)
@@ -732,7 +733,7 @@ class Wishes(Case):
     def test_still(self):
         """What moves nothing is waited for by nobody: the pane that is in focus, one that isn't there, the next of one."""
         person = self.person()
-        self.assertEqual(person.types(b"\x021\x029"), ["focus 1", "focus 9"])
+        self.assertEqual(person.types(b"\x02q1\x02q9"), ["focus 1", "focus 9"])
         self.assertIsNone(person.commands.moved_to)
         alone = self.person(places(24, 80))
         self.assertEqual((alone.types(b"\x02o"), alone.commands.moved_to), (["next"], None))
@@ -745,7 +746,7 @@ class Wishes(Case):
         person = self.person()
         person.busy = {2: "vi"}
         self.assertEqual(person.types(b"\x02o\x02x"), ["next"])
-        self.assertEqual(person.display.told, "close whatever runs in this pane? y closes it")
+        self.assertEqual(person.display.question, "close whatever runs in this pane? y closes it")
         self.tell(person, PANES._replace(focus=3))
         self.assertEqual(person.types(b"n\x02x"), ["close"])
 
@@ -761,12 +762,12 @@ class Wishes(Case):
         self.assertEqual(self.person().types(b"\x02x"), ["close"])
         person = self.person()
         person.busy = {1: "vi", 2: "less"}
-        self.assertEqual((person.types(b"\x02x"), person.display.told), ([], "close vi in pane 1? y closes it"))
+        self.assertEqual((person.types(b"\x02x"), person.display.question), ([], "close vi in pane 1? y closes it"))
         self.assertNotIn("told", person.loop.due)
-        self.assertEqual((person.types(b"y"), person.display.told), (["close"], ""))
+        self.assertEqual((person.types(b"y"), person.display.question), (["close"], ""))
         person = self.person()
         person.busy = {1: "vi"}
-        self.assertEqual((person.types(b"\x02xn"), person.display.told), ([], ""))
+        self.assertEqual((person.types(b"\x02xn"), person.display.question), ([], ""))
         person = self.person()
         person.busy = {2: "vi"}
         self.assertEqual(person.types(b"\x02x"), ["close"])
@@ -775,10 +776,10 @@ class Wishes(Case):
         """Where it isn't known what runs it asks."""
         person = self.person()
         person.busy = None
-        self.assertEqual((person.types(b"\x02x"), person.display.told), ([], "close whatever runs in pane 1? y closes it"))
+        self.assertEqual((person.types(b"\x02x"), person.display.question), ([], "close whatever runs in pane 1? y closes it"))
         person = self.person(None)
         person.busy = None
-        self.assertEqual((person.types(b"\x02x"), person.display.told), ([], "close whatever runs in this pane? y closes it"))
+        self.assertEqual((person.types(b"\x02x"), person.display.question), ([], "close whatever runs in this pane? y closes it"))
 
     def test_close_last(self):
         person = self.person(places(24, 80))
@@ -804,7 +805,7 @@ class Wishes(Case):
     def test_watches(self):
         """Who only watches types nothing, and may leave, repaint and have the help; where no rows are kept the shared view stays."""
         person = self.person(watches=True)
-        self.assertEqual(person.types(b"ls\r\x02%\x02x\x02o\x021\x02\x1b[C\x02r"), [])
+        self.assertEqual(person.types(b"ls\r\x02%\x02x\x02o\x02q1\x02\x1b[C\x02r"), [])
         self.assertEqual(person.display.told, "")
         self.assertEqual(person.types(b"\x02[\x02]\x02="), [])
         self.assertEqual((person.display.told, person.commands.typing.is_scrolling()), ("no rows are kept that could be shown", False))

@@ -25,9 +25,10 @@ KEYS = (
 
 # What is typed, and the acts and the wish of the last key.
 ASKED = (
-    (b"\x02%", "", "split right"), (b'\x02"', "", "split down"), (b"\x02x", "", "close"), (b"\x02o", "next", ""), (b"\x027", "focus 7", ""),
-    (b"\x02\x1b[A", "", "up"), (b"\x02\x1b[D", "", "left"), (b"\x02\x1b[1;5C", "grow 1", ""), (b"\x02\x1b[1;5A", "grow -1", ""),
-    (b"\x02\x1b[1;5C\x1b[1;5C", "grow 1", ""), (b"\x02\x02", "char 2", ""), (b"\x02d", "", "detach"), (b"\x02r", "", "repaint"),
+    (b"\x02%", "", "split right"), (b'\x02"', "", "split down"), (b"\x02x", "", "close"), (b"\x02o", "next", ""), (b"\x027", "", "go 7"),
+    (b"\x02q", "", "panes"), (b"\x02q7", "focus 7", "picked"),
+    (b"\x02\x1b[A", "", "up"), (b"\x02\x1b[D", "", "left"), (b"\x02\x1b[1;5C", "", "border right"), (b"\x02\x1b[1;5A", "", "border up"),
+    (b"\x02\x1b[1;5C\x1b[1;5C", "", "border right"), (b"\x02\x02", "char 2", ""), (b"\x02d", "", "detach"), (b"\x02r", "", "repaint"),
     (b"\x02?", "", "help"), (b"\x02Z", "", "unknown"), (b"\x02[", "", "scroll"), (b"\x02[\x1b[5~", "view 12", "scroll"),
     (b"\x02\x1b[5~", "view 12", "scroll"), (b"\x02[\x1b[A", "view 1", "scroll"), (b"\x02[\x1b[B", "view -1", "scroll"),
     (b"\x02[g", "view 500", "scroll"), (b"\x02[G", "view -500", "scroll"), (b"\x02[q", "view -500", "scrolled"),
@@ -138,9 +139,15 @@ class Asked(unittest.TestCase):
     def test_wishes(self):
         for text, wish in WISHES:
             self.assertEqual(asked_by(Typing(), b"\x02" + text)[-1], ([], wish), text)
-        for pane in range(1, 10):
-            self.assertEqual(asked_by(Typing(), b"\x02%d" % pane)[-1], ([f"focus {pane}"], ""))
-        self.assertEqual(asked_by(Typing(), b"\x020")[-1], ([], "unknown"))
+        for digit in range(10):
+            self.assertEqual(asked_by(Typing(), b"\x02%d" % digit)[-1], ([], f"go {digit or 10}"))
+            typing, key = Typing(), Key(str(digit), str(digit))
+            asked_by(typing, b"\x02q", 1.0)
+            # A digit is a pane's for three seconds, where it can be one.
+            self.assertEqual([typing.mode == typing.picking, typing.ends_picking(key, 3.9)], [True, digit == 0])
+            typing = Typing()
+            asked_by(typing, b"\x02q", 1.0)
+            self.assertEqual((typing.ends_picking(key, 4.0), typing.mode), (True, typing.plain))
 
     def test_copies(self):
         """Copy mode, its search, and pastes of what was copied are wishes of the front end's own."""
@@ -150,11 +157,11 @@ class Asked(unittest.TestCase):
             self.assertEqual((found[-1], typing.mode), (([], wish), typing.plain), text)
 
     def test_repeats(self):
-        """For half a second the next growth needs no prefix; then it is typed."""
+        """For half a second the next move of a border needs no prefix; then the key is typed."""
         typing = Typing()
-        self.assertEqual(asked_by(typing, b"\x02\x1b[1;5C", 10.0)[-1], (["grow 1"], ""))
-        self.assertEqual(asked_by(typing, b"\x1b[1;5D", 10.4)[-1], (["grow -1"], ""))
-        self.assertEqual(asked_by(typing, b"\x1b[1;5B", 10.8)[-1], (["grow 1"], ""))
+        self.assertEqual(asked_by(typing, b"\x02\x1b[1;5C", 10.0)[-1], ([], "border right"))
+        self.assertEqual(asked_by(typing, b"\x1b[1;5D", 10.4)[-1], ([], "border left"))
+        self.assertEqual(asked_by(typing, b"\x1b[1;5B", 10.8)[-1], ([], "border down"))
         typed = [f"char {ord(letter):x}" for letter in "\x1b[1;5B"]
         self.assertEqual(asked_by(typing, b"\x1b[1;5B", 11.31)[-1], (typed, ""))
         self.assertEqual(asked_by(typing, b"x", 10.9)[-1], (["char 78"], ""))

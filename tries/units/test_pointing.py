@@ -185,7 +185,7 @@ class Programs(Pointed):
             person.types(keys)
             person.said()
             self.assertEqual(self.points(person, (0, 1, 1)), [])
-        self.assertIn("y closes it", person.display.told)
+        self.assertIn("y closes it", person.display.question)
         person.types(b"n")
         self.assertEqual(len(self.points(person, (0, 1, 1))), 1)
         person.display.is_stale = True
@@ -211,7 +211,7 @@ class Programs(Pointed):
     def test_own_focus(self):
         """Where this person put the focus elsewhere, and that isn't told yet, the pane before has no reports."""
         person = self.person({1: "drags sgr", 2: "drags sgr"})
-        person.types(b"\x022")
+        person.types(b"\x02q2")
         self.assertEqual(self.points(person, (0, 1, 1)), [])
         self.assertEqual(self.points(person, (0, 1, 41)), [("focus 2", "\x1b[<0;1;1M")])
         self.assertEqual(report_of(report(0, 1, 41).decode()).col, 41)

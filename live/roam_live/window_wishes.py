@@ -1,0 +1,335 @@
+"""The windows of a session at one person's front end: which there are, as the keeper of shells tells it, where the person is and was, and
+what is asked of the keeper. What is typed for a window that is being opened waits for it."""
+from __future__ import annotations
+
+import os
+import re
+
+from roam_live.asked_line import AskedLine
+from roam_live.colours import COLOUR
+from roam_live.loops import Loop
+from roam_live.mouse import MOUSE
+from roam_live.program import Fault, reason
+from roam_live.programs import told
+from roam_live.terminal import LEAST, is_large_enough, largest
+from roam_live.window_lines import LONGEST_BYTES, LONGEST_NAME, MOST_WINDOWS, name_word
+from roam_live.windows_link import ToldWindows, WindowsLink
+from roam_live.words import printable
+
+TYPE_CHECKING = False
+if TYPE_CHECKING:
+    from typing import Protocol
+
+    from roam_live.any_session import AnySession
+    from roam_live.commands import Commands
+    from roam_live.display import Display
+    from roam_live.keys import Key
+
+    class AtWindow(Protocol):
+        """A front end, as it is at one window of a session."""
+
+        session: AnySession
+        display: Display
+
+        @property
+        def commands(self) -> Commands:
+            """What is done of what is typed in the window."""
+
+        @property
+        def number(self) -> int:
+            """The window's number, 0 where the session has no windows."""
+
+        def go(self, number: int) -> None:
+            """Goes to another window; Fault tells why that can't be."""
+
+        def reached(self, number: int) -> AnySession | None:
+            """The window of a number, where one is there that isn't about to be ended."""
+
+        def forget(self, number: int) -> None:
+            """Waits for nothing more of a window that is gone."""
+
+
+# What is told to who had a window opened.
+OPENED = re.compile(r"opened (?:(?P<window>[1-9]\d?)|none (?P<why>.{1,200}))", re.ASCII)
+
+# So many seconds a window has until it is opened: what is typed meanwhile is for it, so many keys and characters at most.
+OPENS = 3.0
+MOST_KEYS = 4096
+MOST_TEXT = 1 << 20
+INTERRUPT = "\x03"
+
+# So many seconds a line stands.
+SAID = 2.0
+ONE = "this session has one window, and can't have others"
+FAR = f"{ONE}: it is of another machine"
+EARLIER = f"{ONE}: it was begun by an earlier roam, or by hand"
+NOBODY = "what keeps the windows isn't there just now"
+LATE = "no window is opened yet: what keeps them doesn't answer"
+DROPPED = "; what was typed for it is dropped"
+OPENING = "a window is opened; C-c doesn't wait for it"
+MANY = f"there are {MOST_WINDOWS} windows, and no more"
+
+
+class AskedName(AskedLine):
+    """The name that a person gives a window."""
+
+    def __init__(self, number: int, name: str) -> None:
+        super().__init__(f"name of window {number}", name, LONGEST_NAME)
+
+    def bounded(self, text: str) -> str:
+        """What of a text a name may be."""
+        return text[: self.most].encode("utf-8", "replace")[:LONGEST_BYTES].decode("utf-8", "ignore")
+
+
+class WindowWishes:
+    """The windows of a session at one front end. A session that can't have others has none here."""
+
+    def __init__(self, front: AtWindow, loop: Loop) -> None:
+        self.front, self.loop = front, loop
+        self.told = ToldWindows()
+        # Where the person was before, the last one at the end.
+        self.visited: list[int] = []
+        # Whether a window is being opened, and what is typed for it.
+        self.is_opening = False
+        self.held: list[Key] = []
+        self.link = WindowsLink(self.path, loop, self.take, self.told.begin, self.lose)
+
+    def path(self) -> str:
+        """The socket that tells of the windows: that of the window where the person is."""
+        return os.path.join(self.front.commands.session.folder or "", "shells")
+
+    def begin(self) -> None:
+        """Follows them, where there may be some."""
+        if self.front.number:
+            self.link.connect()
+            self.show()
+
+    # ---- which there are
+
+    def here(self) -> int:
+        """The window where the person is."""
+        return self.front.number
+
+    def numbers(self) -> list[int]:
+        """The numbers of the windows; by the session's folder while nobody tells them."""
+        if self.told.is_whole:
+            return self.told.numbers()
+        return [window.number for window in self.front.commands.session.windows() if window.number]
+
+    def last(self) -> int:
+        """The window where the person was before; 0 where that is gone, or there was none."""
+        numbers = self.numbers()
+        return next((number for number in reversed(self.visited) if number in numbers and number != self.here()), 0)
+
+    def described(self, number: int) -> str:
+        """A window as a list has it: its label, and what runs there."""
+        runs = self.told.runs.get(number, "")
+        label = self.told.label(number, self.here(), self.last())
+        return f"{label}  {runs}" if runs and self.told.names.get(number) else label
+
+    def why_one(self) -> str:
+        """Why no other window can be had here; nothing where one can."""
+        if not self.front.number:
+            return FAR if self.front.session.served == "relay" else EARLIER
+        return EARLIER if self.link.is_refused else ""
+
+    # ---- what is told
+
+    def take(self, lines: list[str]) -> None:
+        """Takes what the keeper told."""
+        for line in lines:
+            opened = OPENED.fullmatch(line)
+            if opened:
+                self.opened(int(opened["window"] or 0), printable(opened["why"] or ""))
+                continue
+            rang = self.told.rung - {self.here()}
+            gone = self.told.take(line) or []
+            if self.told.rung - rang - {self.here()}:
+                self.front.display.ring()
+            for number in gone:
+                self.gone(number)
+        self.show()
+
+    def lose(self) -> None:
+        """Goes on with what was told: the windows are told anew once the connection is there again."""
+        if self.is_opening:
+            self.end_opening(NOBODY)
+
+    def show(self) -> None:
+        """Has the last row show the windows, and what is chosen from a list of them."""
+        self.told.seen(self.here())
+        numbers, here, last = self.numbers() if self.front.number else [], self.here(), self.last()
+        labels = [self.told.label(number, here, last) for number in numbers]
+        place = numbers.index(here) if here in numbers else 0
+        if self.front.display.windows != (labels, place):
+            self.front.display.windows = labels, place
+            self.front.display.put_line()
+        chooses = self.front.commands.choosing_window
+        if chooses:
+            chooses.told_anew()
+
+    def gone(self, number: int) -> None:
+        """Goes where the person was before, where the window is gone in which he is; else to the one with the nearest number. The last
+        one's end is the session's."""
+        self.visited = [one for one in self.visited if one in self.numbers()]
+        if number == self.here():
+            self.leave(number)
+        self.front.forget(number)
+
+    def leave(self, number: int) -> bool:
+        """Goes where the person was before a window that is gone, or to the one with the nearest number; whether there is one."""
+        others = [one for one in self.numbers() if one != number]
+        nearest = sorted(others, key=lambda one: (abs(one - number), one))
+        for one in [*(one for one in reversed(self.visited) if one in others), *nearest]:
+            if self.front.reached(one):
+                self.go_to(one)
+                self.visited = [before for before in self.visited if before != number]
+                self.front.display.tell(f"window {number} is gone", SAID)
+                return True
+        return False
+
+    # ---- what is asked
+
+    def grant(self, wish: str) -> None:
+        """Does what a person asks for of windows: to go to one, or what somebody who only watches may not."""
+        commands = self.front.commands
+        word, _, what = wish.partition(" ")
+        why = self.why_one()
+        if why:
+            commands.display.tell(why, SAID)
+        elif word == "go":
+            self.go_by(what)
+        elif what == "list":
+            if not commands.choosing_window or not commands.choosing_window.begin():
+                commands.display.tell("the list of windows has no room here", SAID)
+        elif commands.link.watches:
+            return
+        elif what == "new":
+            self.open()
+        elif what == "name":
+            self.ask_name()
+        elif what == "shut":
+            self.ask_shut()
+
+    def go_by(self, what: str) -> None:
+        """Goes to the next window, the one before in order, the last one, or that of a number."""
+        numbers, here = self.numbers(), self.here()
+        if what == "last":
+            self.go_to(self.last(), "there is no last window")
+        elif what in ("next", "previous"):
+            others = [number for number in numbers if (number > here) == (what == "next") and number != here] or numbers
+            self.go_to((others[0] if what == "next" else others[-1]) if others else 0, "there is no other window")
+        else:
+            self.go_to(int(what) if int(what) in numbers else 0, f"there is no window {what}")
+
+    def go_to(self, number: int, why: str = "") -> None:
+        """Goes to a window, 0 for none, of which it is told why."""
+        here = self.here()
+        if number == here:
+            return
+        try:
+            if not number:
+                raise Fault(why)
+            self.front.go(number)
+        except (Fault, OSError) as fault:
+            self.front.display.tell(printable(reason(fault)), SAID)
+            return
+        self.visited = [*(one for one in self.visited if one not in (here, number)), here]
+        self.show()
+
+    def say(self, line: str) -> bool:
+        """Says a line to the keeper, and tells whether it is there; where it isn't a person is told."""
+        if not self.link.peer:
+            self.front.display.tell(NOBODY, SAID)
+            return False
+        self.link.ask(line)
+        return True
+
+    # ---- a window more
+
+    def open(self) -> None:
+        """Has a window be opened, of the size that this terminal shows all of."""
+        size = self.front.display.room()
+        if not is_large_enough(size):
+            self.front.display.tell("a window has {} rows and {} columns at least".format(*LEAST), SAID)
+        elif len(self.numbers()) >= MOST_WINDOWS:
+            self.front.display.tell(MANY, SAID)
+        elif self.say("open {} {}".format(*largest(size))):
+            self.is_opening = True
+            self.loop.later("window opens", OPENS, lambda: self.end_opening(LATE))
+            self.loop.later("window waits", OPENS / 6, lambda: self.front.display.tell(OPENING, OPENS))
+
+    def opened(self, number: int, why: str) -> None:
+        """Goes to a window that was opened, with what was typed for it; 0 where none was."""
+        if not self.is_opening:
+            # Nobody waits for it any more.
+            self.front.display.tell(f"window {number} is there now" if number else f"no window is opened: {why}", SAID)
+            return
+        if not number:
+            self.end_opening(f"no window is opened: {why}")
+            return
+        held, self.held = self.held, []
+        self.end_opening("")
+        self.go_to(number)
+        if self.here() == number:
+            self.front.commands.typed(held)
+        elif held:
+            self.front.display.tell(f"window {number} can't be shown{DROPPED}", SAID)
+
+    def end_opening(self, why: str) -> None:
+        """Waits for no window, and drops what was typed for it: in another window it would mean something else."""
+        for name in ("window opens", "window waits"):
+            self.loop.drop(name)
+        was_told = self.front.display.told == OPENING
+        dropped, self.held, self.is_opening = len(self.held), [], False
+        if why:
+            self.front.display.tell(why + DROPPED * bool(dropped), SAID)
+        elif was_told:
+            self.front.display.end_told()
+
+    def takes(self, commands: Commands, keys: list[Key]) -> bool:
+        """Takes keys that aren't for the window whose commands these are: for one that is being opened, or for that where the person went.
+        Tells whether they were taken."""
+        if self.is_opening:
+            self.hold(keys)
+        elif commands is not self.front.commands:
+            self.front.commands.typed(keys)
+        else:
+            return False
+        return True
+
+    def hold(self, keys: list[Key]) -> None:
+        """Has keys wait for a window that is being opened; C-c waits no longer. What the terminal tells itself doesn't wait."""
+        for place, key in enumerate(keys):
+            if key.name == COLOUR:
+                self.front.commands.reported(key)
+            elif key.name == INTERRUPT:
+                self.held += keys[:0]
+                self.end_opening("not waited for; the window may still come")
+                self.front.commands.typed(keys[place + 1 :])
+                return
+            elif key.name != MOUSE:
+                self.held.append(key)
+
+    def is_full(self) -> bool:
+        """Whether so much waits that nothing more is to come."""
+        return len(self.held) >= MOST_KEYS or sum(len(key.text) for key in self.held) >= MOST_TEXT
+
+    # ---- names, and ends
+
+    def ask_name(self) -> None:
+        """Asks for the name of the window where the person is."""
+        number = self.here()
+        asked = AskedName(number, self.told.names.get(number, ""))
+        self.front.commands.ask_line(asked, lambda text: self.say(f"name {number} {name_word(text)}"))
+
+    def ask_shut(self) -> None:
+        """Shuts the window where the person is: once that is confirmed, where something runs there, or it is the last."""
+        number, busy = self.here(), self.front.commands.session.busy()
+        is_last = self.numbers() in ([], [number])
+        runs = "" if busy == {} else f", with {told(busy)}" if busy else ", with whatever runs there"
+        if not runs and not is_last:
+            self.say(f"shut {number}")
+            return
+        end = " and end the session, whose last it is" if is_last else ""
+        self.front.commands.ask(f"shut window {number}{runs}{end}? y shuts it", lambda: self.say(f"shut {number}"))

@@ -1,0 +1,251 @@
+"""A pane that fills a person's terminal: the session is asked to be larger, the pane's part alone is shown, and the session gets the size back
+that it had."""
+from __future__ import annotations
+
+from roam_live import terminal
+from roam_live.borders import splits_of
+from roam_live.loops import Loop
+from roam_live.shares import above, area_of, laid, size_at, size_for
+from roam_live.zoom_notes import MOST_ASKED, ZoomNote
+
+TYPE_CHECKING = False
+if TYPE_CHECKING:
+    from roam_live.commands import Commands
+    from roam_live.places import Places, Rect
+    from roam_live.terminal import Size
+
+# So many seconds after a larger size was taken, of which nothing is told, it was refused.
+REFUSES = 2.5
+
+# So many seconds after a front end left that had made a zoom the session has taken what that typed last.
+LEFT = 0.5
+
+# So many seconds a line stands that tells why nothing is zoomed.
+TOLD = 3.0
+UNTOLD = "nothing is zoomed where the panes aren't told"
+ONE = "pane {} is the only one, and fills the session"
+LARGER = "pane {} has {} by {}, more than this terminal shows: nothing is zoomed"
+REFUSED = "the session isn't as large as it would have to be: nothing is zoomed"
+OTHERS = "the session has another size now: nothing is zoomed any more"
+
+# Acts after which nothing is zoomed, beside those that put another pane in focus.
+ENDS = ("split", "close", "next", "grow", "size")
+
+
+class Zooming:
+    """The zoom of one person, if there is one."""
+
+    def __init__(self, commands: Commands, loop: Loop) -> None:
+        self.commands, self.loop = commands, loop
+        # The pane that is zoomed, 0 for none; where the panes are without that, and what the session is to have again and was asked for.
+        self.pane = 0
+        self.before: Places | None = None
+        self.note = ZoomNote((0, 0), ())
+        # What was told of the panes when the last size was asked for, while it may come; and where they were when the pane was shown.
+        self.awaited: Places | None = None
+        self.rects: dict[int, Rect] = {}
+        # Whether this terminal showed all of the session; and the zoom of another that was looked after.
+        self.showed_all = False
+        self.mended: ZoomNote | None = None
+
+    def is_on(self) -> bool:
+        """Whether a pane is zoomed, or will be soon."""
+        return self.pane > 0
+
+    def area(self) -> Size:
+        """The rows and columns that a pane has to fill."""
+        rows, cols = terminal.largest(self.commands.display.room())
+        return rows - 1, cols
+
+    def unzoomed(self, places: Places | None) -> Places | None:
+        """Where the panes are once nothing is zoomed."""
+        return places._replace(rects=self.before.rects) if places and self.before else places
+
+    # ---- begin and end
+
+    def switch(self) -> None:
+        """Zooms the pane in focus, or ends that."""
+        if self.pane:
+            self.end()
+            return
+        places = self.commands.places()
+        why = self.refusal(places)
+        if why or not places:
+            self.commands.display.tell(why, TOLD)
+            return
+        self.pane, self.before, self.showed_all = places.focus, places, self.commands.display.shows_all()
+        self.note = ZoomNote(self.commands.given or places.size(), ())
+        self.ask(places)
+
+    def refusal(self, places: Places | None) -> str:
+        """Why the pane in focus isn't zoomed; nothing where it is."""
+        if not places or not places.focus or not places.is_covered():
+            return UNTOLD
+        rect, area = places.rects[places.focus], self.area()
+        if len(places.rects) == 1:
+            return ONE.format(places.focus)
+        return LARGER.format(places.focus, rect.rows, rect.cols) if rect.rows > area[0] or rect.cols > area[1] else ""
+
+    def ask(self, places: Places) -> None:
+        """Asks for the size at which the pane fills the terminal, and shows the pane once the session has it."""
+        parts = splits_of(places.rects)
+        size = size_for(self.area(), self.note.size, above(self.pane, parts, places.rects)) if parts else places.size()
+        if size == places.size() or size in self.note.asked or len(self.note.asked) >= MOST_ASKED:
+            self.show(places)
+            return
+        self.note = self.note._replace(asked=(*self.note.asked, size))
+        self.tell_keeper()
+        self.awaited = places
+        self.loop.later("zoom", REFUSES, self.give_up)
+        self.commands.display.hold()
+        self.commands.type_together(terminal.size_act(size))
+
+    def show(self, places: Places) -> None:
+        """Shows the pane alone."""
+        self.awaited, self.rects = None, places.rects
+        self.loop.drop("zoom")
+        self.commands.display.zoom(places.rects[self.pane])
+
+    def stop(self) -> list[str]:
+        """Ends it, and tells the acts that give the session its size back."""
+        note, self.pane = self.note, 0
+        self.forget()
+        if not note.asked:
+            self.commands.display.zoom(None)
+            return []
+        self.commands.display.zoomed = None
+        self.commands.display.hold()
+        self.commands.expect(note.size)
+        return [terminal.size_act(note.size)]
+
+    def end(self) -> None:
+        """Ends it."""
+        acts = self.stop()
+        if acts:
+            self.commands.type_together(*acts)
+
+    def forget(self) -> None:
+        """Knows no more of it, but for what the keeper was told."""
+        self.pane, self.before, self.awaited, self.rects = 0, None, None, {}
+        self.loop.drop("zoom")
+
+    def give_up(self) -> None:
+        """Ends it where the session hasn't got the size, and has taken all that was typed."""
+        if not self.commands.link.is_done():
+            self.loop.later("zoom", REFUSES, self.give_up)
+            return
+        self.commands.display.tell(REFUSED, TOLD)
+        self.end()
+
+    def ended_by(self, acts: tuple[str, ...]) -> tuple[str, ...]:
+        """Acts with those before them that give the session its size back, where they end it."""
+        if self.pane and any(act.split(" ")[0] in ENDS or act.startswith("focus ") and act != f"focus {self.pane}" for act in acts):
+            return *self.stop(), *acts
+        return acts
+
+    # ---- what is told
+
+    def told(self) -> None:
+        """Goes by what is told of the panes: it is over where another is in focus, or they are others, or the session's size is another than
+        it was asked for."""
+        places = self.commands.panes.places
+        if not places or not self.pane:
+            self.tell_over()
+            return
+        sizes = [self.note.size, *self.note.asked]
+        if places.focus != self.pane or places.rects.keys() != (self.before or places).rects.keys():
+            self.end()
+        elif not places.is_covered() or self.awaited and places.size() in sizes[:-1]:
+            return
+        elif places.size() != sizes[-1]:
+            self.lose()
+        elif self.awaited:
+            self.ask(places)
+        elif places.rects != self.rects:
+            self.end()
+
+    def lose(self) -> None:
+        """Ends it where somebody gave the session another size, which stays."""
+        self.forget()
+        self.commands.display.zoom(None)
+        self.commands.display.tell(OTHERS, TOLD)
+        self.tell_over()
+
+    def resized(self) -> None:
+        """Goes by another size of the terminal, and by the one that the session would have there if nothing were zoomed."""
+        places, own = self.commands.panes.places, terminal.largest(self.commands.display.room())
+        if not places or not self.before or not places.is_covered() or not terminal.is_large_enough(own):
+            return
+        size = own if self.commands.follows(self.note.size, own, self.showed_all) else self.note.size
+        parts = splits_of(self.before.rects)
+        if parts and size != self.note.size:
+            box = area_of(self.before.rects)._replace(rows=size[0] - 1, cols=size[1])
+            self.before = self.before._replace(rects=laid(parts, self.before.rects, box))
+        self.note = ZoomNote(size, self.note.asked[-1:])
+        rows, cols = size_at(size, above(self.pane, parts, self.before.rects)) if parts else (0, 0)
+        if rows > self.area()[0] or cols > self.area()[1]:
+            self.commands.display.tell(LARGER.format(self.pane, rows, cols), TOLD)
+            self.end()
+            return
+        self.tell_keeper()
+        self.ask(places)
+
+    def overrule_own(self) -> None:
+        """Ends it where this person gives the session another size, which stays."""
+        if self.pane:
+            self.forget()
+            self.drop_note()
+            self.commands.display.zoom(None)
+
+    # ---- what the keeper knows
+
+    def tell_keeper(self) -> None:
+        """Tells the keeper of this zoom, before the session is asked for a size."""
+        if self.commands.shells:
+            self.commands.shells.note_zoom(self.note)
+
+    def tell_over(self) -> None:
+        """Tells the keeper that a zoom is over, once the session hasn't a size of it any more."""
+        shells, places = self.commands.shells, self.commands.panes.places
+        if shells and shells.zoom and not self.pane and places and places.is_covered() and places.size() not in shells.zoom.asked:
+            shells.note_zoom(None)
+
+    def drop_note(self) -> None:
+        """Tells the keeper that a zoom is over, whatever size the session has."""
+        if self.commands.shells and self.commands.shells.zoom and not self.pane:
+            self.commands.shells.note_zoom(None)
+
+    def leave(self) -> None:
+        """Ends it where the person leaves, and is told of no more."""
+        if self.pane:
+            self.end()
+
+    def left_by(self) -> ZoomNote | None:
+        """The zoom that a front end has left, as one that was killed, and that isn't looked after yet; None where there is none."""
+        shells = self.commands.shells
+        maker, note = shells.zoomed if shells else (0, None)
+        if maker or not note:
+            self.mended = None
+        return None if maker or self.pane or self.commands.link.watches or note == self.mended else note
+
+    def mend(self, is_late: bool = False) -> bool:
+        """Gives the session its size back where a front end made it larger that has left, and tells whether it does: what that typed last
+        may not be taken yet."""
+        note, size = self.left_by(), self.commands.given or self.commands.session_size()
+        if not note or size == (0, 0):
+            return False
+        if size in note.asked:
+            self.commands.give(note.size)
+            return True
+        if is_late:
+            self.overrule()
+        else:
+            self.loop.later("zoom left", LEFT, lambda: self.mend(is_late=True))
+        return False
+
+    def overrule(self) -> None:
+        """Tells the keeper that a zoom which a front end has left is over: the session's size is one that it was given otherwise."""
+        note = self.left_by()
+        if note and self.commands.shells:
+            self.mended = note
+            self.commands.shells.note_zoom(None)

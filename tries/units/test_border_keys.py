@@ -1,0 +1,176 @@
+"""Borders that are moved by keys, and even shares, against a session that is played with its layout."""
+import copy
+import unittest
+
+from lived import Attached, Lived, by_chance
+from roam_live import border_keys
+from roam_live.borders import NO_PANE, PaneSplit, border_at, end_of, panes_of, splits_of
+from roam_live.places import Places, Rect
+from roam_live.shares import Evened
+
+KEYS = {"up": b"\x02\x1b[1;5A", "down": b"\x02\x1b[1;5B", "right": b"\x02\x1b[1;5C", "left": b"\x02\x1b[1;5D"}
+
+
+class Moves(Attached):
+    """One border."""
+
+    def ends(self, pane):
+        """Where a pane begins and ends."""
+        rect = self.session.rects()[pane]
+        return {"left": rect.col, "right": rect.col + rect.cols, "up": rect.row, "down": rect.row + rect.rows}
+
+    def move(self, pane, side):
+        """Where the borders of a pane in focus are, before a key and behind it."""
+        self.session.focus = pane
+        self.person.tell(self.session.places())
+        self.person.display.end_told()
+        before = self.ends(pane)
+        self.types(KEYS[side])
+        self.assertIsNone(self.person.commands.border_keys.drag)
+        return before, self.ends(pane)
+
+    def each(self, session, size):
+        """Moves each border of each pane of a session to and fro by keys: it goes by one, or words say why not, and nothing is changed."""
+        self.attach(session, size)
+        moved = stuck = 0
+        for pane in session.rects():
+            for side, back in (("right", "left"), ("left", "right"), ("down", "up"), ("up", "down")):
+                rects = session.rects()
+                rect, (rows, cols) = rects[pane], session.places().size()
+                at_edge = {"left": rect.col == 1, "up": rect.row == 1, "right": rect.col + rect.cols > cols, "down": rect.row + rect.rows >= rows}
+                before, after = self.move(pane, side)
+                moves = back if at_edge[side] else side
+                step = 1 if side in ("right", "down") else -1
+                if self.person.display.told:
+                    words = {border_keys.NO_ROOM, NO_PANE, border_keys.NO_BORDER["right"].format(pane), border_keys.NO_BORDER["down"].format(pane)}
+                    self.assertIn(self.person.display.told, words)
+                    self.assertEqual((session.rects(), session.focus), (rects, pane))
+                    stuck += self.person.display.told == NO_PANE
+                    continue
+                moved += 1
+                self.assertEqual((after[moves], session.focus), (before[moves] + step, pane), (side, rect, rects))
+        return moved, stuck
+
+    def test_grid(self):
+        """In a grid that was split right and then down each half the rows go, and the middle says why not."""
+        session = Lived()
+        for act in ("split right", "split down", "focus 1", "split down"):
+            session.do(act)
+        self.assertEqual(self.each(session, (24, 80)), (8, 8))
+        session = Lived()
+        for act in ("split down", "split right", "focus 1", "split right"):
+            session.do(act)
+        self.assertEqual(self.each(session, (24, 80)), (8, 8))
+
+    def test_trees(self):
+        """In each of 40 trees, where the numbers tell the splits: what is said not to go has no pane whose own split it is."""
+        moved = 0
+        for seed in range(40):
+            session = by_chance(seed, *((24, 80), (50, 160))[seed % 2])
+            self.assertEqual(splits_of(session.rects()), session.parts)
+            moved += self.each(session, session.places().size())[0]
+        self.assertGreater(moved, 400)
+
+    def test_closed(self):
+        """So where panes were closed, and others have their numbers: a growth that moves another border is undone."""
+        moved = 0
+        for seed in range(12):
+            session = by_chance(seed, closes=3)
+            moved += self.each(session, (24, 80))[0]
+        self.assertGreater(moved, 40)
+
+    def test_missing(self):
+        """Where a number is missing, and a border's sides look split in two, the panes at this place are tried."""
+        session = Lived()
+        session.parts = PaneSplit("down", PaneSplit("right", 1, 3), PaneSplit("right", 2, 5))
+        self.attach(session)
+        border = border_at(session.rects(), 5, end_of(session.rects()[1], "right"))
+        self.assertFalse(border.leaves and not border_keys.side_border(session.rects(), 1, "right").leaves)
+        for pane in (1, 3, 2, 5):
+            before, after = self.move(pane, "right")
+            side = "right" if pane in (1, 2) else "left"
+            self.assertEqual(after[side], before[side] + 1, pane)
+
+    def test_several(self):
+        """Keys that come while a border goes move it on, each by one; the focus and no other border is changed."""
+        session = Lived()
+        for act in ("split right", "split right", "focus 2"):
+            session.do(act)
+        self.attach(session)
+        cols = session.rects()[2].cols
+        self.types(KEYS["right"] + b"\x1b[1;5C" * 9)
+        self.take(20)
+        self.assertEqual((session.rects()[2].cols, session.focus), (cols + 10, 2))
+        self.types(KEYS["left"] + KEYS["left"])
+        self.take(20)
+        self.assertEqual((session.rects()[1].cols, session.focus), (37, 2))
+        self.assertEqual({line for line in self.heard if "grow" not in line}, set())
+
+    def test_limits(self):
+        """It goes no further than the panes have room; that is told."""
+        session = Lived()
+        session.do("split right")
+        self.attach(session)
+        for _ in range(50):
+            self.types(KEYS["right"])
+            self.take(3)
+        self.assertEqual((session.rects()[2].cols, self.person.display.told), (4, border_keys.NO_ROOM))
+
+    def test_untold(self):
+        """Where nothing tells the panes that is told."""
+        self.attach(Lived())
+        self.person.place.told = None
+        for keys in (KEYS["up"], b"\x02 "):
+            self.person.display.end_told()
+            self.person.commands.fed(keys)
+            self.assertEqual(self.person.display.told, border_keys.UNTOLD)
+
+
+class Even(Attached):
+    """Even shares by a key."""
+
+    def test_trees(self):
+        """All that can be even is, with the focus where it was, and a border that no pane has is told."""
+        stuck = 0
+        for seed in range(40):
+            session = by_chance(seed, *((24, 80), (50, 160))[seed % 2])
+            focus = session.focus
+            self.attach(session, session.places().size())
+            self.types(b"\x02 ")
+            self.take(12)
+            for _ in range(4):
+                self.now += 0.3
+                self.person.loop.do_due()
+                self.take()
+            evened = Evened(session.parts, session.rects())
+            self.assertEqual((evened.acts, session.focus), ([], focus), seed)
+            self.assertEqual(self.person.display.told == border_keys.STUCK, evened.is_stuck, seed)
+            self.assertIsNone(self.person.commands.border_keys.wanted)
+            stuck += evened.is_stuck
+        self.assertTrue(0 < stuck < 30, stuck)
+
+    def test_told(self):
+        """Where they are even that is told, and where they come to be so nothing is."""
+        session = Lived()
+        for act in ("split right", "grow 9", "split right"):
+            session.do(act)
+        self.attach(session)
+        self.types(b"\x02 ")
+        self.assertEqual(([rect.cols for rect in session.rects().values()], self.person.display.told), ([26, 26, 26], ""))
+        self.types(b"\x02 ")
+        self.assertEqual(self.person.display.told, border_keys.EVEN)
+
+    def test_refused(self):
+        """What isn't done is tried so often and no more."""
+        session = by_chance(3)
+        self.attach(session)
+        session.grow = lambda pane, by: False
+        for _ in range(40):
+            self.types(b"\x02 " if not self.heard else b"")
+            self.now += 0.3
+            self.person.loop.do_due()
+        self.assertEqual(len(self.heard), border_keys.MOST_LINES)
+
+
+if __name__ == "__main__":
+    unittest.main()

@@ -1,0 +1,382 @@
+"""A pane that fills a person's terminal, and all ways in which that ends: against a session that is played with its layout."""
+import copy
+import unittest
+
+from lived import Attached, Lived, by_chance
+from roam_live import zooming
+from roam_live.commands import REFUSES
+from roam_live.places import Places, Rect
+from roam_live.shares import above, size_at, size_for
+from roam_live.terminal import MOST
+from roam_live.told import ToldRecord
+from roam_live.zoom_notes import MOST_ASKED, NO_ZOOM, NotedZoom, ZoomNote, note_in, zoomed_in
+from test_display import Person, PlayedShells
+
+class Zoomed(Attached):
+    """A person at a session that is played, with a pane that is zoomed or not."""
+
+    def grid(self, size=(24, 80)):
+        """A session of three panes, the second of them in focus."""
+        session = Lived(*size)
+        for act in ("split right", "split down", "focus 2"):
+            session.do(act)
+        return session
+
+    def is_zoomed(self, pane):
+        """Whether a pane fills the terminal, and nothing else is shown."""
+        rect, (rows, cols) = self.session.rects()[pane], self.person.display.outer.size()
+        part = f"part {rect.row - 1} {rect.col - 1} {rect.rows} {rect.cols}"
+        return self.shown[-1] == part and (rect.rows, rect.cols) == (rows - 1, cols) and self.person.display.line().rstrip().endswith("Z")
+
+
+class Back(Zoomed):
+    """There and back."""
+
+    def test_trees(self):
+        """The pane fills the terminal, or has all that the largest session gives it, and all panes are exactly where they were on the way
+        back."""
+        full = 0
+        for size in ((24, 80), (50, 160)):
+            for seed in range(40):
+                session = by_chance(seed, *size)
+                before = session.rects()
+                self.attach(session, size)
+                self.types(b"\x02z")
+                rect = session.rects()[session.focus]
+                self.assertEqual(self.shown[-1], f"part {rect.row - 1} {rect.col - 1} {rect.rows} {rect.cols}", (size, seed))
+                for has, wanted, whole, most in zip(rect[2:], (size[0] - 1, size[1]), session.places().size(), MOST):
+                    self.assertTrue(has == wanted or whole == most and has < wanted, (size, seed, rect))
+                full += (rect.rows, rect.cols) == (size[0] - 1, size[1])
+                self.assertTrue(self.person.display.line().rstrip().endswith("Z"))
+                self.types(b"\x02z")
+                self.assertEqual((session.rects(), self.person.display.zoomed, self.shown[-1]),
+                                 (before, None, "part {} {}".format(size[0] - 1, size[1])), (size, seed))
+                self.assertFalse(self.person.display.is_held)
+        self.assertGreater(full, 50)
+
+    def test_pushed(self):
+        """Where it isn't told how far a border is from the middle, the size is asked for again by what is told then."""
+        session = Lived()
+        for act in ("split right", "split right", "focus 1", "grow 35"):
+            session.do(act)
+        session.do("size 24 140")
+        session.do("focus 1")
+        session.do("grow 60")
+        session.do("size 24 80")
+        session.do("focus 3")
+        before = session.rects()
+        self.attach(session)
+        self.types(b"\x02z")
+        self.take(9)
+        self.assertGreater(sum(line.startswith("size") for line in self.heard), 1)
+        self.assertEqual(session.rects()[3][2:], (23, 80))
+        self.assertTrue(self.is_zoomed(3))
+        self.types(b"\x02z")
+        self.assertEqual(session.rects(), before)
+
+    def test_held(self):
+        """From the key on until the pane alone is painted nothing that is painted reaches the terminal, and so on the way back."""
+        self.attach(self.grid())
+        person = self.person
+        person.paints(23, 80, "before")
+        for part in ("23 80", "23 80"):
+            person.commands.fed(b"\x02z")
+            person.paints(23, 80, "between", "paint")
+            person.paints(23, 80, "between")
+            self.assertEqual(person.shown()[0], "before")
+            self.take()
+            person.paints(23, 80, "between", "paint")
+            self.assertEqual(person.shown()[0], "before")
+            self.assertTrue(self.shown[-1].endswith(part))
+            person.paints(23, 80, "after")
+            self.assertEqual(person.shown()[0], "after")
+            person.paints(23, 80, "before")
+
+    def test_clicks(self):
+        """A click counts from the pane's corner."""
+        self.attach(self.grid())
+        person = self.person
+        person.panes.modes_of = {2: "buttons sgr"}
+        self.types(b"\x02z")
+        rect = self.session.rects()[2]
+        person.display.take(ToldRecord("part", (rect.row - 1, rect.col - 1)))
+        person.paints(23, 80)
+        self.heard.clear()
+        self.types(b"\x1b[<0;1;1M\x1b[<0;80;23M\x1b[<0;3;24M")
+        texts = ["".join(chr(int(act.split()[1], 16)) for act in line.split(" ; ")[1:]) for line in self.heard]
+        self.assertEqual(texts, ["\x1b[<0;1;1M", "\x1b[<0;80;23M"])
+
+    def test_blank(self):
+        """A pane that can't fill the terminal is shown alone all the same."""
+        session = Lived(50, 160)
+        for act in ("split right", "split right", "split right"):
+            session.do(act)
+        self.attach(session, (50, 160))
+        self.types(b"\x02z")
+        rect = session.rects()[4]
+        self.assertEqual((session.places().size(), rect.cols, self.shown[-1]), ((50, 500), 62, f"part 0 {rect.col - 1} 49 62"))
+
+    def test_copy_mode(self):
+        """Others' panes grow too, and nothing is typed for that."""
+        self.attach(self.grid())
+        self.types(b"\x02zls")
+        self.assertEqual(self.heard, ["size 48 160", "char 6c", "char 73"])
+
+
+class Ends(Zoomed):
+    """Ways in which it ends."""
+
+    def both(self, keys, *acts):
+        """What keys come to where a pane is zoomed: the same as these acts without that, at the session's own size."""
+        self.attach(self.grid())
+        other = copy.deepcopy(self.session)
+        self.types(b"\x02z")
+        self.assertTrue(self.is_zoomed(2))
+        self.types(keys)
+        self.take(12)
+        for act in acts:
+            other.do(act)
+        self.assertEqual((self.session.places(), self.person.commands.zooming.is_on()), (other.places(), False), keys)
+        self.assertEqual((self.person.display.zoomed, self.person.display.is_held, self.person.shells.zoom), (None, False, None), keys)
+
+    def test_keys(self):
+        """What this person does with panes is done at the session's own size."""
+        for keys, acts in ((b"\x02%", ["split right"]), (b'\x02"', ["split down"]), (b"\x02xy", ["close"]), (b"\x02o", ["next"]),
+                           (b"\x02q1", ["focus 1"]), (b"\x02\x1b[D", ["focus 1"]), (b"\x02\x1b[B", ["focus 3"]),
+                           (b"\x02\x1b[1;5D", ["focus 1", "grow -1", "focus 2"]), (b"\x02\x1b[1;5B", ["grow 1"]),
+                           (b"\x02\x1b[1;5B\x1b[1;5B\x1b[1;5B", ["grow 3"]), (b"\x02 ", []), (b"\x02r", [])):
+            self.both(keys, *acts)
+
+    def test_same_focus(self):
+        """What puts the focus where it is ends nothing, and neither does a key that is typed, or one that no pane takes."""
+        self.attach(self.grid())
+        self.types(b"\x02z\x02q2x\r\x02;")
+        self.assertEqual((self.person.commands.zooming.is_on(), self.person.display.told), (True, "no other pane was in focus"))
+
+    def test_last(self):
+        """C-b ; goes to the pane that was in focus, as the focus was told."""
+        self.attach(self.grid())
+        self.types(b"\x02q1")
+        self.types(b"\x02z")
+        self.types(b"\x02;")
+        self.assertEqual((self.session.focus, self.session.places().size()), (2, (24, 80)))
+        self.types(b"\x02;\x02;\x02;")
+        self.assertEqual(self.session.focus, 1)
+        self.by_another("close")
+        self.types(b"\x02;")
+        self.assertEqual(self.session.focus, 2)
+
+    def test_others(self):
+        """What others do ends it: the size is given back, but where they gave another, which stays."""
+        for acts, size in ((["focus 1"], (24, 80)), (["next"], (24, 80)), (["split down"], (24, 80)), (["close"], (24, 80)),
+                           (["grow 1"], (24, 80)), (["size 30 90"], (30, 90)), (["size 60 200"], (60, 200))):
+            self.attach(self.grid(), shells=PlayedShells(True))
+            self.types(b"\x02z")
+            self.by_another(*acts)
+            self.assertEqual((self.session.places().size(), self.person.commands.zooming.is_on()), (size, False), acts)
+            self.assertEqual((self.person.display.zoomed, self.person.display.is_held, self.person.shells.zoom), (None, False, None), acts)
+
+    def test_no_room(self):
+        """Where others have split so much meanwhile that the size isn't had again, that is told, and nothing is noted any more."""
+        self.attach(self.grid())
+        self.types(b"\x02z")
+        self.session.do("split down")
+        self.session.least = None
+        for _ in range(3):
+            self.session.do("split down")
+        self.session.area = self.session.area._replace(rows=47)
+        self.session.do = lambda act: None
+        self.person.tell(self.session.places())
+        self.take()
+        self.now += REFUSES
+        self.person.loop.do_due()
+        self.assertIn("have no room in 24 by 80", self.person.display.told)
+        self.assertEqual((self.person.shells.zoom, self.person.display.is_held), (None, False))
+
+    def test_leaving(self):
+        """Who leaves gives the size back first."""
+        self.attach(self.grid())
+        self.types(b"\x02z\x02d")
+        self.assertEqual(self.person.left, "[detached]")
+        self.person.commands.left()
+        self.take()
+        self.assertEqual((self.session.places().size(), self.person.commands.zooming.is_on()), ((24, 80), False))
+
+    def test_parts_of_what_is_told(self):
+        """What is told of some panes before it is told of the others changes nothing."""
+        self.attach(self.grid())
+        self.person.commands.fed(b"\x02z")
+        before, heard = self.session.rects(), self.person.said()
+        self.session.do(heard[-1])
+        after = self.session.rects()
+        for told in ({**before, 1: after[1]}, {**before, 1: after[1], 2: after[2]}):
+            self.person.tell(Places(told, 2, 1))
+            self.assertTrue(self.person.commands.zooming.is_on() and self.person.display.is_held)
+        self.take()
+        self.take()
+        self.assertTrue(self.is_zoomed(2))
+
+    def test_never_comes(self):
+        """A size of which nothing comes is given up, once all was taken."""
+        self.attach(self.grid())
+        self.session.do = lambda act: None
+        self.types(b"\x02z")
+        self.assertTrue(self.person.display.is_held)
+        self.person.link.has_taken = False
+        self.now += REFUSES + 0.1
+        self.person.loop.do_due()
+        self.assertTrue(self.person.commands.zooming.is_on())
+        self.person.link.has_taken = True
+        self.now += REFUSES + 0.1
+        self.person.loop.do_due()
+        self.assertEqual((self.person.commands.zooming.is_on(), self.person.display.told), (False, zooming.REFUSED))
+        self.take()
+        self.assertFalse(self.person.display.is_held)
+
+    def test_refused(self):
+        """What can't be zoomed is told."""
+        for session, size, why in ((Lived(), (24, 80), "pane 1 is the only one, and fills the session"),
+                                   (self.grid((60, 200)), (24, 80), "pane 2 has 29 by 100, more than this terminal shows: nothing is zoomed")):
+            self.attach(session, size, PlayedShells(True))
+            self.types(b"\x02z")
+            self.assertEqual((self.person.display.told, self.heard), (why, []))
+        person = Person(24, 80)
+        person.paints(24, 80)
+        person.types(b"\x02z")
+        self.assertEqual(person.display.told, zooming.UNTOLD)
+        watcher = Person(24, 80, watches=True, told=self.grid().places())
+        watcher.types(b"\x02z\x02 \x02;\x02\x1b[1;5C")
+        self.assertEqual((watcher.sizes(), [line for line in watcher.link.lines if "size" in line]), ([], []))
+
+
+class Resized(Zoomed):
+    """The terminal gets another size."""
+
+    def test_alone(self):
+        """Who is alone and saw all of the session has it follow: the pane fills the other terminal, and the size is that one's then."""
+        for size in ((40, 132), (20, 60)):
+            self.attach(self.grid(), folder=self.made_folder())
+            self.types(b"\x02z")
+            self.person.resize(*size)
+            self.take(6)
+            self.assertTrue(self.is_zoomed(2), size)
+            other = self.grid()
+            other.do("size {} {}".format(*size))
+            self.types(b"\x02z")
+            self.assertEqual(self.session.places(), other.places(), size)
+
+    def test_others(self):
+        """Where others type the session has the size again that it had; a terminal that shows less than the pane then has no zoom."""
+        self.attach(self.grid(), shells=PlayedShells(True))
+        self.types(b"\x02z")
+        self.person.resize(40, 132)
+        self.take(6)
+        self.assertTrue(self.is_zoomed(2))
+        self.person.resize(18, 60)
+        self.take(6)
+        self.assertTrue(self.is_zoomed(2))
+        self.person.resize(10, 30)
+        self.take(6)
+        self.assertEqual((self.session.places().size(), self.person.commands.zooming.is_on()), ((24, 80), False))
+        self.assertIn("more than this terminal shows", self.person.display.told)
+
+    def test_too_small(self):
+        """A terminal on which nothing is shown changes nothing."""
+        self.attach(self.grid())
+        self.types(b"\x02z")
+        self.person.resize(2, 30)
+        self.take()
+        self.person.resize(24, 80)
+        self.take()
+        self.assertTrue(self.is_zoomed(2))
+
+
+class Noted(Zoomed):
+    """What the keeper is told, and what the next does."""
+
+    def test_told(self):
+        """It is told which size is to be had again before a larger one is asked for, and that it is over once that was had."""
+        self.attach(self.grid())
+        self.person.commands.fed(b"\x02z")
+        self.assertEqual((self.person.shells.zooms, self.heard), (["24 80 48 160"], []))
+        self.take()
+        self.person.commands.fed(b"\x02z")
+        self.assertEqual(self.person.shells.zooms, ["24 80 48 160"])
+        self.take()
+        self.assertEqual(self.person.shells.zooms, ["24 80 48 160", "None"])
+
+    def test_killed(self):
+        """The next that edits gives the size back, where the session still has one of the zoom; a larger terminal grows it from there."""
+        note = ZoomNote((24, 80), ((48, 161), (48, 160)))
+        for own, has, types, after in (((24, 80), (48, 160), False, (24, 80)), ((24, 80), (48, 161), True, (24, 80)),
+                                       ((24, 80), (48, 162), True, (48, 162)), ((60, 200), (48, 160), False, (60, 200)),
+                                       ((60, 200), (48, 160), True, (24, 80)), ((48, 160), (48, 160), True, (24, 80)),
+                                       ((48, 160), (48, 160), False, (48, 160)), ((20, 60), (48, 160), False, (24, 80))):
+            shells = PlayedShells(types)
+            shells.zoomed = 0, note
+            session = self.grid()
+            session.do("size {} {}".format(*has))
+            self.attach(session, own, shells)
+            self.take(6)
+            self.now += zooming.LEFT
+            self.person.loop.do_due()
+            self.take()
+            self.assertEqual((session.places().size(), shells.zooms[-1:]), (after, ["None"]), (own, has))
+
+    def test_there(self):
+        """So does one that is there; not while the one who made it is, nor one that watches, nor where the size was changed since."""
+        note = ZoomNote((24, 80), ((48, 160),))
+        for maker, watches, changed, after in ((0, False, None, (24, 80)), (7, False, None, (48, 160)), (0, True, None, (48, 160)),
+                                               (0, False, "size 40 100", (40, 100))):
+            session = self.grid()
+            session.do("size 48 160")
+            self.attach(session, shells=PlayedShells(True), watches=watches)
+            self.by_another(*filter(None, [changed]))
+            self.person.shells.zoomed = maker, note
+            self.person.commands.others_told()
+            self.take()
+            self.now += 1
+            self.person.loop.do_due()
+            self.take()
+            self.assertEqual(session.places().size(), after, (maker, watches, changed))
+
+    def test_late(self):
+        """What who was killed typed last may come a moment after that is told; a size that this person gave meanwhile stays."""
+        note = ZoomNote((24, 80), ((48, 160),))
+        for key, after in ((b"", (24, 80)), (b"\x02r", (48, 160))):
+            self.attach(self.grid(), shells=PlayedShells(True))
+            self.person.shells.zoomed = 0, note
+            self.person.commands.others_told()
+            self.types(key)
+            self.by_another("size 48 160")
+            self.now += zooming.LEFT
+            self.person.loop.do_due()
+            self.take()
+            self.assertEqual((self.session.places().size(), self.person.shells.zooms[-1:]), (after, ["None"]), key)
+
+    def test_lines(self):
+        """Lines that tell of a zoom, and those that don't."""
+        note = ZoomNote((24, 80), ((48, 160),))
+        for line, found in (("24 80 48 160", note), ("24 80", None), ("24 80 48", None), ("24 80 48 0", None), ("24 80 48 501", None),
+                            ("24 80 201 160", None), ("", None), ("24 80 48 +1", None), ("24  48 160", None), ("1 1 1 1", ZoomNote((1, 1), ((1, 1),))),
+                            (" ".join(["24 80"] * (MOST_ASKED + 2)), None), ("\u0662 80 48 160", None), ("\x1b[c 80 48 160", None)):
+            self.assertEqual(note_in(line.split(" ")), found, line)
+            told = zoomed_in(["0", *line.split(" ")])
+            self.assertEqual(told, (0, found) if found else None, line)
+        for words, found in ((["none"], (0, None)), (["7", "24", "80", "48", "160"], (7, note)), (["-1", "24", "80", "48", "160"], None),
+                             ([""], None), (["none", "1"], None)):
+            self.assertEqual(zoomed_in(words), found)
+
+    def test_keeper(self):
+        """The last one that was told of is noted, until who made it, or anybody once he has left, tells that it is over."""
+        noted = NotedZoom()
+        self.assertEqual((noted.take(1, "zoom"), noted.take(1, "here x"), noted.take(1, "zoom 1"), noted.line()), (False,) * 3 + (NO_ZOOM,))
+        self.assertTrue(noted.take(1, "zoom 24 80 48 160"))
+        self.assertEqual((noted.line(), noted.leave(2), noted.take(2, "zoom none")), ("zoomed 1 24 80 48 160", False, True))
+        self.assertEqual((noted.line(), noted.take(2, "zoom 24 80 50 170"), noted.take(1, "zoom none")), ("zoomed 1 24 80 48 160", True, True))
+        self.assertEqual((noted.line(), noted.leave(1), noted.leave(2)), ("zoomed 2 24 80 50 170", False, True))
+        self.assertEqual((noted.line(), noted.take(3, "zoom none"), noted.line()), ("zoomed 0 24 80 50 170", True, NO_ZOOM))
+
+
+if __name__ == "__main__":
+    unittest.main()
