@@ -75,6 +75,15 @@ def children(process):
     return [int(word) for word in pathlib.Path(f"/proc/{process}/task/{process}/children").read_text(encoding="utf-8").split()]
 
 
+def is_command(process):
+    """Whether a process is a pane's, by its words: not a filter of rows, a server or a client start."""
+    try:
+        words = pathlib.Path(f"/proc/{process}/cmdline").read_bytes().split(b"\0")
+    except OSError:
+        return True
+    return words[1:2] not in ([b"rows"], [b"serve"], [b"attach"])
+
+
 def is_filter(process):
     """Whether a process is a filter of rows, by its words."""
     try:
@@ -84,8 +93,8 @@ def is_filter(process):
 
 
 def commands(shells):
-    """The commands of panes that what keeps the shells has started, without its filter of rows."""
-    return [process for process in children(shells) if not is_filter(process)]
+    """The commands of panes that what keeps the shells has started, without what else it has."""
+    return [process for process in children(shells) if is_command(process)]
 
 
 def listed():
@@ -93,14 +102,25 @@ def listed():
     return subprocess.run(tool("mux", "ls"), stdout=subprocess.PIPE, check=True).stdout.decode().split()
 
 
-def noted(name):
-    """What mux noted of a session."""
-    return json.loads(pathlib.Path(os.environ["XDG_RUNTIME_DIR"], "roam", name, "state.json").read_text(encoding="utf-8"))
+def folder_of(name, base=None):
+    """The folder of a session."""
+    return pathlib.Path(base or os.environ["XDG_RUNTIME_DIR"], "roam", name)
 
 
-def terminals_of(name):
-    """The socket of a session's client start."""
-    return pathlib.Path(os.environ["XDG_RUNTIME_DIR"], "roam", name, "terminals")
+def window_of(name, number=1, base=None):
+    """The folder of a window of a session, its first where none is named."""
+    return folder_of(name, base) / f"w/{number}"
+
+
+def noted(name, number=1, base=None):
+    """What is noted of a session, and of a window of it."""
+    paths = (window_of(name, number, base) / "state.json", folder_of(name, base) / "state.json")
+    return {role: one for path in paths for role, one in json.loads(path.read_text(encoding="utf-8")).items()}
+
+
+def terminals_of(name, number=1):
+    """The socket of the client start of a session's window."""
+    return window_of(name, number) / "terminals"
 
 
 def connected(name, watches=True):

@@ -110,6 +110,7 @@ def list_windows(session: FolderSession) -> int:
 
 def new_window(session: FolderSession, name: str) -> int:
     """Opens a window of a session, of the size of that at which this is asked, and prints its number."""
+    check_title(name)
     places = session.places()
     asked = WindowsAsked(session)
     asked.say("open {} {}".format(*(places.size() if places else (24, 80))))
@@ -122,10 +123,15 @@ def new_window(session: FolderSession, name: str) -> int:
     return 0
 
 
-def rename(window: FolderSession, name: str) -> int:
-    """Gives a window a name, or none where that is empty."""
+def check_title(name: str) -> None:
+    """Refuses what can't name a window."""
     if not name.isprintable() or len(name) > LONGEST_NAME or len(name.encode("utf-8", "replace")) > LONGEST_BYTES:
         raise Fault(f"a window's name has {LONGEST_NAME} printable characters at most, and {LONGEST_BYTES} bytes")
+
+
+def rename(window: FolderSession, name: str) -> int:
+    """Gives a window a name, or none where that is empty."""
+    check_title(name)
     number = window.number or 1
     asked = WindowsAsked(window)
     asked.say(WINDOWS)

@@ -12,8 +12,8 @@ HERE, WHO = "here", "who"
 # What is told then: that another is there, or has another size, that it has left, and, behind these, how many others there are.
 THERE, GONE, OTHERS = "there", "gone", "others"
 
-# The word by which it is asked which terminals are there, of all windows; that by which each is told, that behind which one is told to leave,
-# and what that is told.
+# The word by which it is asked which terminals are at all windows, and that by which each is told; what one is told that is to leave; and
+# the line by which one has all others leave.
 CLIENTS, CLIENT, LEAVE, LEAVE_OTHERS = "clients", "client", "leave", "leave others"
 
 # So many seconds a terminal that left is taken for the same that comes again, as to another window; and so many are known.

@@ -92,14 +92,14 @@ def session_in(folder: pathlib.Path) -> FolderSession:
     earlier = FolderSession(folder)
     if (earlier.state or {}).get("version", WINDOWS_VERSION) != WINDOWS_VERSION or os.path.lexists(folder / "clients"):
         return earlier
-    return Session(folder)
+    return WindowedSession(folder)
 
 
 def window_in(folder: str | os.PathLike[str], server: int | None = None) -> FolderSession:
     """What is served in a folder: a window of a session, where it is that of one, or a session of one window."""
     path = pathlib.Path(folder).absolute()
     if path.parent.name == WINDOWS and NUMBER.fullmatch(path.name) and NAME.fullmatch(path.parent.parent.name):
-        return Window(Session(path.parent.parent), int(path.name), server)
+        return Window(WindowedSession(path.parent.parent), int(path.name), server)
     return FolderSession(folder, server=server)
 
 
@@ -379,7 +379,7 @@ class FolderSession(Processes):
         return ", what keeps its shells is stopped" if is_stopped(shells) else ""
 
 
-class Session(FolderSession):
+class WindowedSession(FolderSession):
     """A session with windows: its note has the keeper of its shells, which has the rest."""
 
     served = "shells"
@@ -431,8 +431,7 @@ class Session(FolderSession):
         return None
 
     def find(self) -> bool:
-        """Whether it runs: as is noted, or else as the processes tell that answer at its sockets. Where the note is lost, as to a cleaner of
-        old files, its processes are known again from then on."""
+        """Whether it runs: as is noted, or else as the processes tell that answer at its sockets, which are known again from then on."""
         if self.process(self.served):
             return True
         with contextlib.suppress(Fault):
@@ -445,8 +444,8 @@ class Session(FolderSession):
         return bool(self.windows())
 
     def is_ready(self) -> bool:
-        """Whether a window is there, with what keeps its shells and a start that takes terminals."""
-        return any(is_listened(window.terminals) and is_listened(window.folder / "shells") for window in self.windows())
+        """Whether a window is there, with what keeps its shells."""
+        return any(is_listened(window.folder / "shells") for window in self.windows())
 
     # ---- what belongs to it
 
@@ -544,12 +543,12 @@ class Session(FolderSession):
 
 
 class Window(FolderSession):
-    """A window of a session: its server and its start, as they are noted in its folder. Its lock, its log, and what keeps its shells are the
-    session's."""
+    """A window of a session: its server and its start, as they are noted in its folder. Its lock, its log, and what keeps its shells are
+    the session's."""
 
     version = WINDOWS_VERSION
 
-    def __init__(self, session: Session, number: int, server: int | None = None) -> None:
+    def __init__(self, session: WindowedSession, number: int, server: int | None = None) -> None:
         super().__init__(session.folder_of_windows / str(number), f"{session.name}:{number}", server)
         self.session, self.number = session, number
         self.common, self.log = session.folder, session.log

@@ -1,4 +1,4 @@
-"""The lines about windows at the keeper's sockets `shells`: which there are, what happens in them, and how one is opened, named and shut."""
+"""The lines about windows at the keeper's sockets `shells`: which there are, what happens there, and how one is opened, named and shut."""
 from __future__ import annotations
 
 import re

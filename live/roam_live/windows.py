@@ -46,8 +46,9 @@ class KeptWindow:
         self.name = processes.name()
         self.shells: Shells | None = None
         self.size: Size | None = None
-        # Where its first pane's command begins, and whether another keeper had it before.
-        self.begins_in, self.is_again = "", False
+        # Where its first pane's command begins, whether another keeper had it before, and whether it has a start here from the beginning:
+        # of a session's first window who launches it sees to that, or a terminal of another machine has one there.
+        self.begins_in, self.is_again, self.has_start = "", False, True
         # Until when it has to be there, or gone.
         self.until = 0.0
         # When it may be told again that something was written there, and that a pane rang.
@@ -85,6 +86,7 @@ class Windows:
             told(0, OVER if number else FULL)
             return
         window = KeptWindow(number, WindowProcesses(self.asked.common, number), told)
+        window.has_start = size is not None
         window.size = (max(size[0], LEAST[0]), max(size[1], LEAST[1])) if size else None
         window.begins_in = self.folder_beside(beside)
         self.windows[number] = window
@@ -150,7 +152,7 @@ class Windows:
                 processes.clean()
                 continue
             window = self.windows[number] = KeptWindow(number, processes, self.taken)
-            window.is_again = True
+            window.is_again, window.has_start = True, False
             self.await_(window, OPENS)
 
     def taken(self, number: int, why: str) -> None:
@@ -179,7 +181,7 @@ class Windows:
             return
         processes = window.processes
         try:
-            is_there = self.follow(window) and (window.is_again or self.has_start(window))
+            is_there = self.follow(window) and (window.is_again or self.has_come(window))
         except (OSError, Fault) as fault:
             self.fail(window, reason(fault))
             return
@@ -207,7 +209,7 @@ class Windows:
         except OSError:
             return False
         try:
-            if not processes.runs(TERMINALS):
+            if window.has_start and not processes.runs(TERMINALS):
                 self.common.hung.append(processes.spawn_start())
             asked = self.asked.of_window(window.number, processes.folder, processes.server(), window.is_again)
             size = (window.size[0] - 1, window.size[1]) if window.size else None
@@ -217,8 +219,14 @@ class Windows:
             raise
         return True
 
-    def has_start(self, window: KeptWindow) -> bool:
+    def has_come(self, window: KeptWindow) -> bool:
         """Whether a window's start takes terminals, which has its size typed once it does, and its first command runs."""
+        if window.has_start and not self.is_sized(window):
+            return False
+        return window.shells is not None and window.shells.has_begun()
+
+    def is_sized(self, window: KeptWindow) -> bool:
+        """Whether a window's start takes terminals: it has the size typed that was asked for, once."""
         try:
             peer = connected_now(window.processes.path("terminals"))
         except OSError:
@@ -230,7 +238,7 @@ class Windows:
             window.size = None
         else:
             peer.close()
-        return window.shells is not None and window.shells.has_begun()
+        return True
 
     def opened(self, window: KeptWindow) -> None:
         """Tells of a window that is there."""

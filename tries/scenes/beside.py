@@ -135,7 +135,7 @@ def clipboard_far(folder):
     """A program of another machine's session sets the clipboard here."""
     outer = Outer(ssh_words(folder, folder / "far", folder / "asked"), environment=ON)
     outer.shows("$ ")
-    if tells_clips(folder / "far/roam/other"):
+    if tells_clips(folder / "far/roam/other/w/1"):
         # Another way may carry all from now on, and who follows the panes begins anew.
         time.sleep(3)
         sets(outer, b"from afar")

@@ -11,9 +11,11 @@ import subprocess
 import sys
 import time
 
-from tried import Outer, PROGRAM, check, children, commands, comes, listed, noted, own_terminal, said, scene, tool
+from tried import (
+    Outer, PROGRAM, check, children, commands, comes, folder_of, listed, noted, own_terminal, said, scene, tool, window_of)
 from roam_live import terminal
 from roam_live.program import TOOLS, begun
+from roam_live.sessions import FolderSession
 
 LISTED = 50
 
@@ -205,10 +207,19 @@ def kill(folder):
 @scene
 def earlier(folder):
     """A session that an earlier roam began is told of, and can be ended."""
-    subprocess.run(tool("mux", "new", "-d", "other"), check=True)
-    path = pathlib.Path(os.environ["XDG_RUNTIME_DIR"], "roam", "other", "state.json")
-    state = noted("other")
-    path.write_text(json.dumps({role: state[role] for role in ("server", "shells", "command")}), encoding="utf-8")
+    session = FolderSession.named("other")
+    with session.locked():
+        session.launch()
+        session.demand_terminals()
+    state = json.loads(session.note.read_text(encoding="utf-8"))
+    shown = Outer(tool("mux", "other"))
+    shown.shows("$ ")
+    check("one of the note before this is attached to", shown.status("[1]") and not (session.folder / "w").exists(), shown.rows)
+    told = said("capture", "other:2")
+    check("as one window that can't have others", told[0] == 1 and "has one window, as an earlier roam's" in told[2], told)
+    shown.type(b"\x02d")
+    shown.ends()
+    session.note.write_text(json.dumps({role: state[role] for role in ("server", "shells", "command")}), encoding="utf-8")
     for word in (["capture"], ["send"]):
         told = said(*word, "other", *(["char 61"] if word == ["send"] else []))
         check(f"mux {word[0]} tells of a session of an earlier roam", told[0] == 1 and "was begun by an earlier roam" in told[2], told)
@@ -237,7 +248,7 @@ while True:
 def earlier_start(folder):
     """In place of a client start of an earlier roam another is launched, once, by whatever needs one; the earlier one goes on."""
     subprocess.run(tool("mux", "new", "-d", "other"), check=True)
-    served = pathlib.Path(os.environ["XDG_RUNTIME_DIR"], "roam", "other")
+    served = window_of("other")
 
     def comes_earlier():
         """An earlier start at the session's socket, as it is noted."""
@@ -245,7 +256,7 @@ def earlier_start(folder):
         was = (served / "terminals").stat().st_ino
         process = subprocess.Popen([sys.executable, "-c", EARLIER_START, str(served / "terminals")])
         comes(lambda: (served / "terminals").stat().st_ino != was)
-        state = {**noted("other"), "terminals": [process.pid, begun(process.pid)]}
+        state = {**json.loads((served / "state.json").read_text(encoding="utf-8")), "terminals": [process.pid, begun(process.pid)]}
         (served / "state.json").write_text(json.dumps(state), encoding="utf-8")
         return process
 
@@ -332,19 +343,19 @@ def stopped():
 
 
 def processes_of(path):
-    """The processes whose words name a folder."""
+    """The processes whose words name a folder, or one of a window in it."""
     found = []
     for process in pathlib.Path("/proc").glob("[0-9]*"):
         with contextlib.suppress(OSError):
             words = (process / "cmdline").read_bytes().split(b"\0")
-            found += [process.name] if os.fsencode(path) in words else []
+            found += [process.name] if any(word == path or word.startswith(f"{path}/w/") for word in map(os.fsdecode, words)) else []
     return found
 
 
 @scene
 def killed_starts(folder):
     """A start that is killed at any moment: what it began is found, and ended."""
-    served = os.path.join(os.environ["XDG_RUNTIME_DIR"], "roam", "other")
+    served = str(folder_of("other"))
     left = []
     for number in range(KILLED_STARTS):
         process = subprocess.Popen(tool("mux", "new", "-d", "other"), stdout=subprocess.DEVNULL, stderr=subprocess.DEVNULL)

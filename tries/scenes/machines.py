@@ -7,7 +7,7 @@ import subprocess
 import time
 import xml.etree.ElementTree
 
-from tried import Outer, PROGRAM, check, children, comes, listed, noted, scene, tool
+from tried import Outer, PROGRAM, check, children, comes, listed, noted, scene, tool, window_of
 from roam_live.program import TOOLS
 
 
@@ -16,7 +16,7 @@ def relay(folder):
     """Clients go on through a relay whose far end is killed or says nothing, and it ends as it is told."""
     outer = Outer(tool("mux", "other"))
     outer.shows("$ ")
-    served = pathlib.Path(os.environ["XDG_RUNTIME_DIR"], "roam", "other")
+    served = window_of("other")
     session = (served / "session").read_text(encoding="utf-8").strip()
     far = tool("relay", "--far", "--session", session, "--server", str(noted("other")["server"][0]), "--dir", str(served), "-")
     near = folder / "near"
@@ -153,7 +153,7 @@ def far(folder):
 
 def far_ends(far):
     """The far ends of a session of another folder, as they note themselves, or as the relay here spawned them."""
-    noted_there = [note.read_text(encoding="utf-8").split()[0] for note in far.glob("roam/other/relays/*")]
+    noted_there = [note.read_text(encoding="utf-8").split()[0] for note in far.glob("roam/other/w/1/relays/*")]
     here = next(pathlib.Path(os.environ["XDG_RUNTIME_DIR"], "roam").glob("ssh:*"))
     return [int(word) for word in noted_there] or children(json.loads((here / "state.json").read_text(encoding="utf-8"))["relay"][0])
 

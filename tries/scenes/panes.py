@@ -8,7 +8,7 @@ import subprocess
 import termios
 import time
 
-from tried import KEEPS_NONE, SESSION, Outer, check, comes, is_part, listed, noted, said, scene, three_panes, tool
+from tried import KEEPS_NONE, SESSION, Outer, check, comes, is_part, listed, noted, said, scene, terminals_of, three_panes, tool
 from roam_live import terminal
 from roam_live.commands import NEW
 from roam_live.front_end import SIZES
@@ -405,7 +405,7 @@ def full(folder):
     """Sixteen terminals are taken: another is told so, and comes in once one has left."""
     outer = Outer(tool("mux", "other"))
     outer.shows("$ ")
-    links = [StartLink(os.path.join(os.environ["XDG_RUNTIME_DIR"], "roam", "other", "terminals"), False) for _ in range(15)]
+    links = [StartLink(terminals_of("other"), False) for _ in range(15)]
     for link in links:
         link.connect()
     check("fifteen more are taken", all(link.begins(5) for link in links), listed())

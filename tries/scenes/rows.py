@@ -5,7 +5,7 @@ import signal
 import subprocess
 import time
 
-from tried import SESSION, Outer, check, children, comes, is_filter, noted, said, scene, tool
+from tried import SESSION, Outer, check, children, comes, is_filter, noted, said, scene, tool, window_of
 from roam_live.asked_rows import RowsAsked
 from roam_live.program import TOOLS
 from roam_live.sessions import FolderSession
@@ -40,14 +40,14 @@ def grown(process):
 
 def count_of(name=SESSION, pane=1):
     """The numbers of the first row that is kept and of that behind the last."""
-    asked = RowsAsked(FolderSession.named(name))
+    asked = RowsAsked(FolderSession(window_of(name)))
     number, life = making_of(asked.session, pane)
     return asked.answer(lambda told: asked.link.count(number, life, told)) or (0, 0)
 
 
 def kept(name=SESSION, pane=1):
     """All rows that are kept of a pane, without what leads them."""
-    asked = RowsAsked(FolderSession.named(name))
+    asked = RowsAsked(FolderSession(window_of(name)))
     snapshot, found = asked.snapshot(pane), []
     while snapshot.first + len(found) < snapshot.end:
         rows = asked.rows(snapshot, snapshot.first + len(found), snapshot.end)
@@ -99,7 +99,7 @@ def kept_rows(folder):
 
 def sought(text, numbers):
     """The seconds that a search backward over all rows takes, the best of five."""
-    asked = RowsAsked(FolderSession.named(SESSION))
+    asked = RowsAsked(FolderSession(window_of(SESSION)))
     snapshot, best = asked.snapshot(1), 60.0
     for _ in range(5):
         begin = time.monotonic()
@@ -204,7 +204,7 @@ def small_rows(folder):
     """A pane of two rows and four columns."""
     subprocess.run([*tool("mux", "new", "-d", SESSION), "sh"], check=True)
     subprocess.run(tool("mux", "send", SESSION, "size 6 9", "split right", "split down"), check=True)
-    places = FolderSession.named(SESSION).places()
+    places = FolderSession(window_of(SESSION)).places()
     sizes = {pane: (rect.rows, rect.cols) for pane, rect in places.rects.items()}
     pane = min(sizes, key=lambda number: sizes[number])
     check(f"a pane has {sizes[pane][0]} rows and {sizes[pane][1]} columns", sizes[pane] <= (2, 4), sizes)
@@ -232,7 +232,7 @@ def buffers(folder):
     check("one that is too long isn't", too_long.returncode == 1 and b"1 MB" in too_long.stderr, too_long)
     check("an unknown one isn't pasted", said("buffer", "paste", SESSION, "9")[0] == 1)
     words = tool("relay", "--alone", "60", "--dir", str(folder / "near"), "-", str(TOOLS / "relay"), "--far", "--dir",
-                 str(folder / "roam" / SESSION), "-")
+                 str(window_of(SESSION)), "-")
     (folder / "near").mkdir(mode=0o700)
     relay = subprocess.Popen(words, stdout=subprocess.DEVNULL)
     run(outer, "clear; seq 1 5000", "counted")

@@ -4,7 +4,7 @@ import signal
 import subprocess
 import xml.etree.ElementTree
 
-from tried import Outer, PROGRAM, check, comes, failed, listed, noted, said, scene, tool
+from tried import Outer, PROGRAM, check, comes, failed, listed, noted, said, scene, tool, window_of
 from roam_live.bindings import Typing, help_with
 from roam_live.choices import PREFIXES
 from roam_live.keys import Keys
@@ -62,7 +62,7 @@ def slips():
 
 def all_starts():
     """A session that has had all client starts of its life says so; the one that is there goes on."""
-    served = os.path.join(os.environ["XDG_RUNTIME_DIR"], "roam", "other")
+    served = str(window_of("other"))
     for _ in range(64):
         words = [PROGRAM, "attach", "--dir", served, "--turns", "3"]
         subprocess.run(words, stdout=subprocess.DEVNULL, stderr=subprocess.DEVNULL, check=False)

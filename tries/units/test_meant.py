@@ -10,7 +10,7 @@ SLIPS = {
     "lst": "ls", "sl": "ls", "lss": "ls", "lis": "ls", "lits": "list", "lsit": "list", "atach": "attach", "attahc": "attach",
     "attch": "attach", "atttach": "attach", "detahc": "detach", "watc": "watch", "wacth": "watch", "wtch": "watch", "kil": "kill",
     "kll": "kill", "klil": "kill", "killl": "kill", "sned": "send", "captrue": "capture", "capure": "capture", "hlep": "help",
-    "hel": "help", "nwe": "new", "neww": "new", "shs": "ssh", "sssh": "ssh",
+    "hel": "help", "nwe": "new", "shs": "ssh", "sssh": "ssh",
 }
 
 # What nobody takes for a slip.

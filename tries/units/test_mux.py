@@ -11,7 +11,7 @@ from roam_live import asked_rows, brought, captures, choices, front_end, giving,
 from roam_live.places import Places, Rect
 from roam_live.program import Fault
 from roam_live.relayed import greeting
-from roam_live.sessions import FolderSession, NearSession, Session
+from roam_live.sessions import FolderSession, NearSession, WindowedSession
 
 mux = loaded("mux")
 PAGE = pathlib.Path(__file__).resolve().parents[2] / "docs/man/roam-mux.1"
@@ -38,15 +38,15 @@ class Mux(Case):
         self.patch_each("runs", lambda session, role=None: session.name in self.runs)
         self.patch_of(FolderSession, "demand_age", self.does("demand_age"))
         self.patch_each("busy", lambda session: {1: "vi"})
-        self.patch_of(Session, "busy_programs", FolderSession.busy_programs)
+        self.patch_of(WindowedSession, "busy_programs", FolderSession.busy_programs)
         # Its windows are no matter here: it is as one that has no others.
-        self.patch_of(Session, "served", "server")
-        self.patch_of(Session, "window", lambda session, number=None: session)
-        self.patch_of(Session, "windows", lambda session: [session])
+        self.patch_of(WindowedSession, "served", "server")
+        self.patch_of(WindowedSession, "window", lambda session, number=None: session)
+        self.patch_of(WindowedSession, "windows", lambda session: [session])
 
     def patch_each(self, name, does):
         """Has a session do something else, whether it has windows or not."""
-        for one in (FolderSession, Session):
+        for one in (FolderSession, WindowedSession):
             self.patch_of(one, name, does)
 
     def does(self, name):
@@ -186,7 +186,7 @@ class Starts(Mux):
 
     def test_not_ended(self):
         self.runs.add("main")
-        with mock.patch.object(Session, "end_all"):
+        with mock.patch.object(WindowedSession, "end_all"):
             self.refuses("session main doesn't end", "kill", "-f", "main")
 
     def test_ready(self):
@@ -227,7 +227,8 @@ class Starts(Mux):
             self.assertEqual((self.mux("buffer", *words), does[place].call_args[0][1:]), (place, told))
         self.refuses("buffers are of a session, and of no pane", "buffer", "show", "main.2")
         self.refuses("all buffers are listed", "buffer", "list", "main", "3")
-        for words in (("drop", "main"), ("list",), ()):
+        self.refuses("this is no pane of a session, so one has to be named", "buffer", "list")
+        for words in (("drop", "main"), ()):
             with self.assertRaises(SystemExit):
                 self.mux("buffer", *words)
 
@@ -259,7 +260,7 @@ class Starts(Mux):
             self.refuses("session main has no pane 3", "kill", "main.3")
             self.assertEqual((self.mux("kill", "-f", "main.1"), closes.call_args[0][1]), (0, 1))
             self.is_terminal = True
-            with mock.patch("sys.stdin") as asked, mock.patch.object(Session, "busy", lambda session: None):
+            with mock.patch("sys.stdin") as asked, mock.patch.object(WindowedSession, "busy", lambda session: None):
                 asked.readline.return_value = "n\n"
                 self.assertEqual(self.mux("kill", "main.2"), 1)
             self.assertIn("session main runs a program that isn't known; close it? [y/N] ", self.said.getvalue())
