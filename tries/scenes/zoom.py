@@ -125,7 +125,7 @@ def zoom_programs(folder):
     programs = {"vim": (f"vim -u NONE -i NONE -nN -c 'set noshowcmd shm+=I mouse=a ttymouse=sgr ruler' {text}", b"\x1b:q!\r"),
                 "htop": (f"HTOPRC={htop_options(folder)} htop --readonly -d 100 -p 1", b"q")}
     outer = three_panes()
-    outer.type(b"\x023")
+    outer.type(b"\x02q3")
     outer.status(" 1  2 [3]")
     told = Modes(terminals_of(SESSION).parent)
     for name, (command, quits) in programs.items():
@@ -159,7 +159,7 @@ def zoom_ends(folder):
     """What ends a zoom: keys of this person, deeds of others, leaving, and the next attach where a front end was killed."""
     outer = three_panes()
     before = there()
-    for keys, label, focus in ((b"\x02o", " 1 [2] 3", 2), (b"\x02;", "[1] 2  3", 1), (b"\x02\x1b[C", " 1 [2] 3", 2), (b"\x021", "[1] 2  3", 1)):
+    for keys, label, focus in ((b"\x02o", " 1 [2] 3", 2), (b"\x02;", "[1] 2  3", 1), (b"\x02\x1b[C", " 1 [2] 3", 2), (b"\x02q1", "[1] 2  3", 1)):
         outer.type(b"\x02z")
         outer.shows("Z")
         outer.type(keys)
@@ -309,7 +309,7 @@ def border_keys(folder):
 
 def is_zoomed(outer):
     """Whether a terminal's last row tells that a pane is zoomed."""
-    return outer.rows()[-1].rstrip().endswith(" Z")
+    return " Z " in f"{outer.rows()[-1]} "
 
 
 def is_line(outer):
