@@ -6,12 +6,13 @@ import shutil
 import signal
 import subprocess
 import time
+from collections import Counter
 
 from scenes.machines import ssh_words
 from scenes.mouse import report
 from scenes.mouse_programs import Modes
 from scenes.programs import htop_options
-from tried import SESSION, Outer, check, comes, connected, listed, part_at, scene, shown_above, terminals_of, three_panes, told_cells, tool
+from tried import SESSION, Outer, check, comes, connected, part_at, scene, shown_above, terminals_of, three_panes, told_cells, tool
 from roam_live.borders import NO_PANE
 from roam_live.mouse import tracking_of
 from roam_live.places import asked_places
@@ -20,16 +21,22 @@ from roam_live.terminal import MOST
 # The command of a pane that writes rows at its begin, and nothing more; so many there are, at most.
 STILL = "i=0; while [ $i -lt 30 ]; do i=$((i+1)); echo row $i of some rows that stand in a pane as they were written; done; exec sleep 10000"
 
-# Trees of panes by chance, and so many panes of each.
-TREES, FEWEST, MOST_PANES = 40, 2, 6
+# So many panes has a tree by chance; so many trees there are of each size, and where borders are moved, and in `tries/try_zoom` (TREES).
+FEWEST, MOST_PANES = 2, 6
+TREES = {"zoom": 3, "borders": 2}
 SEED = 7801
+
+# So many front ends are killed at some moment of a zoom.
+KILLS = 6
 
 KEYS = {"up": b"\x02\x1b[1;5A", "down": b"\x02\x1b[1;5B", "right": b"\x02\x1b[1;5C", "left": b"\x02\x1b[1;5D"}
 
 
 def there(name=SESSION):
     """Where the panes are."""
-    return asked_places(terminals_of(name).parent / "panes")
+    found = []
+    comes(lambda: found.append(asked_places(terminals_of(name).parent / "panes")) or found[-1])
+    return found[-1]
 
 
 def acts(*words):
@@ -82,7 +89,7 @@ def zoomed_back(size):
     subprocess.run(tool("mux", "new", "-d", SESSION, "sh", "-c", STILL), check=True)
     outer = Outer(tool("mux", SESSION), size)
     outer.status("[1]")
-    for _ in range(TREES):
+    for _ in range(TREES["zoom"]):
         before = tree(chance)
         comes(lambda places=before: outer.rows()[-1].rstrip() == places.labels().rstrip())
         cells = still_cells()
@@ -93,27 +100,28 @@ def zoomed_back(size):
         is_full = (rect.rows, rect.cols) == (size[0] - 1, size[1])
         full += is_full
         large += not is_full and (zoomed.size()[0] == MOST[0] or zoomed.size()[1] == MOST[1])
-        alone += comes(lambda pane=before.focus: shows_part(outer, pane), 5)
+        alone += comes(lambda pane=before.focus: shows_part(outer, pane))
         outer.type(b"\x02z")
         comes(lambda: not is_zoomed(outer) and there().size() == size)
-        exact += there() == before
+        exact += (there().rects, there().focus) == (before.rects, before.focus)
         rows += still_cells().cells == cells.cells
-    print(f"        seed {SEED}, {size[0]} by {size[1]}: fills the terminal in {full} of {TREES}, {large} at the session's limits", flush=True)
-    check(f"in all {TREES} trees the pane fills the terminal, or has all that 200 by 500 give it", full + large == TREES, (full, large))
-    check("nothing else is shown in any", alone == TREES, alone)
-    check("on the way back all panes are where they were in all", exact == TREES, exact)
-    check("and all rows as they were", rows == TREES, rows)
+    count = TREES["zoom"]
+    print(f"        seed {SEED}, {size[0]} by {size[1]}: fills the terminal in {full} of {count}, {large} at the session's limits", flush=True)
+    check(f"in all {count} trees the pane fills the terminal, or has all that 200 by 500 give it", full + large == count, (full, large))
+    check("nothing else is shown in any", alone == count, alone)
+    check("on the way back all panes are where they were in all", exact == count, exact)
+    check("and all rows as they were", rows == count, rows)
 
 
 @scene
 def zoom_trees(folder):
-    """40 trees of 2 to 6 panes at 24 by 80: there and back."""
+    """Trees of 2 to 6 panes at 24 by 80: there and back."""
     zoomed_back((24, 80))
 
 
 @scene
 def zoom_trees_large(folder):
-    """40 trees of 2 to 6 panes at 50 by 160: there and back."""
+    """Trees of 2 to 6 panes at 50 by 160: there and back."""
     zoomed_back((50, 160))
 
 
@@ -205,11 +213,11 @@ def zoom_killed(folder):
     outer.type(b"\x02d")
     outer.ends()
     before, chance, seen = there(), random.Random(SEED), set()
-    for count in range(12):
+    for count in range(KILLS):
         outer = Outer(tool("mux", SESSION))
         outer.status("[1] 2  3")
         outer.type(b"\x02z" * (1 + count % 2))
-        time.sleep(chance.uniform(0, 0.03) if count < 9 else 0.5)
+        time.sleep(chance.uniform(0, 0.03) if count < KILLS - 2 else 0.5)
         os.kill(outer.process.pid, signal.SIGKILL)
         outer.process.wait()
         time.sleep(0.1)
@@ -272,39 +280,27 @@ def zoom_far(folder):
 @scene
 def border_keys(folder):
     """Borders by keys in a grid and in trees by chance, and even shares."""
-    chance, moved, stuck = random.Random(SEED), 0, 0
+    chance, found = random.Random(SEED), Counter()
     subprocess.run(tool("mux", "new", "-d", SESSION, "sleep", "10000"), check=True)
     outer = Outer(tool("mux", SESSION))
     outer.status("[1]")
-    for count in range(8):
+    for count in range(TREES["borders"]):
         if count:
             tree(chance)
         else:
             acts("split right", "split down", "focus 1", "split down")
         for pane in there().rects:
-            for side, step in (("right", 1), ("left", -1), ("down", 1), ("up", -1)):
-                acts(f"focus {pane}")
-                before = there()
-                comes(lambda before=before: outer.rows()[-1].startswith(before.labels()))
-                outer.type(KEYS[side])
-                is_told = comes(lambda before=before: there().rects != before.rects or is_line(outer), 3)
-                time.sleep(0.05)
-                after = there()
-                is_moved = edges(after.rects[pane], side) == edges(before.rects[pane], side, step) and after.focus == pane
-                moved += after.rects != before.rects and is_moved
-                stuck += after.rects == before.rects
-                if not (is_told and (is_moved or after.rects == before.rects and after.focus == pane)):
-                    check(f"{side} in {before} moves the border, or words say why not", False, (after, outer.rows()[-1]))
-                comes(lambda: not is_line(outer), 4)
-    print(f"        seed {SEED}: {moved} keys moved a border, {stuck} said why not", flush=True)
-    check("borders go by keys, or words say why not", moved > stuck, (moved, stuck))
+            for side in KEYS:
+                found[moved(outer, pane, side)] += 1
+    told = f"{found['moved']} keys moved a border, {found['told']} said why not, {found['odd']} did neither"
+    print(f"        seed {SEED}: {told}", flush=True)
+    check("borders go by keys, or words say why not", found["moved"] and not found["odd"], told)
     outer.type(b"\x02 ")
     time.sleep(1)
     first = there()
     outer.type(b"\x02 ")
     time.sleep(1)
     check("C-b Space again changes nothing", there().rects == first.rects, (first, there()))
-    check("`ls` tells one terminal", "1" in listed(), listed)
 
 
 def is_zoomed(outer):
@@ -312,24 +308,28 @@ def is_zoomed(outer):
     return " Z " in f"{outer.rows()[-1]} "
 
 
+def moved(outer, pane, side):
+    """What comes of a key for a border of a pane: it is `moved` by one, with the focus where it was, or it is `told` why not, or it is `odd`."""
+    acts(f"focus {pane}")
+    before = there()
+    comes(lambda: outer.rows()[-1].startswith(before.labels()))
+    outer.type(KEYS[side])
+    comes(lambda: there().rects != before.rects or is_line(outer), 3)
+    time.sleep(0.05)
+    after, is_told = there(), is_line(outer)
+    comes(lambda: not is_line(outer), 4)
+    step = 1 if side in ("right", "down") else -1
+    goes = [then + step == now for then, now in zip(edges(before.rects[pane], side), edges(after.rects[pane], side))]
+    if after.focus == pane and after.rects != before.rects and any(goes):
+        return "moved"
+    return "told" if after.focus == pane and after.rects == before.rects and is_told else "odd"
+
+
 def is_line(outer):
     """Whether a line stands in the last row that tells why a border doesn't go."""
     return any(words in outer.rows()[-1] for words in ("no border", NO_PANE[:20], "as far as it can be"))
 
 
-def edges(rect, side, step=0):
-    """Where a pane's borders are along a way; where it is moved, those of which one is to be."""
-    first, end = (rect.col, rect.col + rect.cols) if side in ("left", "right") else (rect.row, rect.row + rect.rows)
-    return (first, end) if not step else Either((first + step, end + step))
-
-
-class Either:
-    """Borders of which one is where it is to be."""
-
-    def __init__(self, wanted):
-        self.wanted = wanted
-
-    def __eq__(self, found):
-        return any(one == other for one, other in zip(self.wanted, found))
-
-    __hash__ = None
+def edges(rect, side):
+    """Where a pane begins and ends, along the way of a side."""
+    return (rect.col, rect.col + rect.cols) if side in ("left", "right") else (rect.row, rect.row + rect.rows)
