@@ -236,9 +236,9 @@ class Outer:
         """Whether a text comes to stand at a row and a column, from 0."""
         return comes(lambda: self.rows()[row][col:].startswith(text), seconds)
 
-    def status(self, text, seconds=WAIT):
-        """Whether the last row comes to begin with a text. What is painted above it may come before or after that."""
-        return comes(lambda: self.rows()[-1].startswith(text), seconds)
+    def status(self, text, seconds=WAIT, end=""):
+        """Whether the last row comes to begin with a text, and to end in another. What is painted above it may come before or after that."""
+        return comes(lambda: self.rows()[-1].startswith(text) and self.rows()[-1].endswith(end), seconds)
 
     def resize(self, rows, cols):
         """Gives the terminal another size, as a person does."""
@@ -319,7 +319,7 @@ def three_panes(name=SESSION, environment=None):
     outer = Outer(tool("mux", name), environment=environment)
     # What keeps the shells follows the panes from here on, and knows where the focus was.
     outer.shows("$ ")
-    for keys, label in ((b"", "[1]"), (b"\x02%", " 1 [2]"), (b'\x02"', " 1  2 [3]"), (b"\x021", "[1] 2  3")):
+    for keys, label in ((b"", "[1]"), (b"\x02%", " 1 [2]"), (b'\x02"', " 1  2 [3]"), (b"\x02q1", "[1] 2  3")):
         outer.type(keys)
         outer.status(label)
     return outer

@@ -21,8 +21,7 @@ WISHES = {"%": "split right", '"': "split down", "x": "close", "d": "detach", "r
           **{str(digit): f"go {digit or 10}" for digit in range(10)}, "q": "panes", "t": "row", "D": "leave others"}
 BORDERS = {"C-right": "border right", "C-down": "border down", "C-left": "border left", "C-up": "border up"}
 
-# For so many seconds after a border was moved the next move needs no prefix; and for so many after the wish for a pane by its number a digit
-# is one.
+# For so many seconds after a border was moved the next move needs no prefix; and for so many after C-b q a digit is a pane's.
 REPEATS = 0.5
 PICKS = 3.0
 DIGITS = "123456789"

@@ -254,6 +254,8 @@ class Commands:
             self.moved_to = None
         if self.given == self.session_size():
             self.forget_given()
+            # What is shown of one that is smaller now may begin too far below, or to the right.
+            self.display.choose(is_anew=self.display.place != (0, 0))
         self.foci.told()
         self.pointing.told()
         self.border_keys.told()
@@ -612,8 +614,8 @@ class Commands:
         self.showed_all = False
 
     def follows(self, size: terminal.Size, own: terminal.Size, showed_all: bool) -> bool:
-        """Whether the session follows this terminal: it grows where nobody else types, and a lone terminal that showed all of it is followed to
-        any size. Nothing else makes one smaller, but the end of a zoom."""
+        """Whether the session follows this terminal: it grows where nobody else types, and a lone terminal that showed all of it is followed
+        to any size. Nothing else makes one smaller, but the end of a zoom."""
         is_smaller = own[0] < size[0] or own[1] < size[1]
         return showed_all and self.is_alone() if is_smaller else not self.has_others()
 
@@ -639,7 +641,9 @@ class Commands:
         """Closes the pane in focus: where something else than a shell may run there, only once that is confirmed."""
         places, busy = self.places(), self.session.busy()
         pane = places.focus if places else 0
-        if places and pane and len(places.rects) == 1:
+        if places and pane and len(places.rects) == 1 and self.windows and not self.windows.why_one():
+            self.windows.ask_shut()
+        elif places and pane and len(places.rects) == 1:
             self.display.tell("the last pane goes with its shell, and the session with it")
         elif busy == {} or busy and pane and pane not in busy:
             self.act("close")

@@ -137,8 +137,8 @@ class Display:
         self.may_be_whole = False
         self.asked: terminal.Size | None = None
         self.painted_size, self.place = NO_SIZE, (0, 0)
-        # The rectangle of the session that alone is shown, where a pane is zoomed, and the corner that was asked for; and whether nothing new is
-        # shown until the session has the size that it is to have.
+        # The rectangle of the session that alone is shown, where a pane is zoomed, and the corner that was asked for; and whether nothing
+        # new is shown until the session has the size that it is to have.
         self.zoomed: Rect | None = None
         self.corner: tuple[int, int] | None = None
         self.is_held = False
@@ -150,22 +150,17 @@ class Display:
         self.silent = 0
         self.labels = ""
         # What a person is asked, above all that is told, and whether that is a line that is typed.
-        self.question = ""
-        self.is_typed = False
-        # The labels of the windows, and which of them is shown here; what stands at the end of the last row; and whether that row is hidden
-        # while nothing is drawn, so that one more of the session is shown.
+        self.question, self.is_typed = "", False
+        # The labels of the windows, and which of them is shown here; what stands at the end of the last row; whether that row is hidden
+        # while nothing is drawn; and whether what stands on the terminal is still of the window that was left.
         self.windows: tuple[list[str], int] = ([], 0)
         self.status = ""
-        self.is_row_hidden = False
-        # Whether what stands there is still of the window that was left.
-        self.is_entering = False
-        # What is drawn over a part of what is painted, and the line that stands in the last row meanwhile; whether the start was told of
-        # its mask; and what is called where what is shown of the session may be another part.
+        self.is_row_hidden = self.is_entering = False
+        # What is drawn over a part of what is painted, and the line that stands in the last row meanwhile; whether that is asked for there;
+        # whether the start was told of its mask; and what is called where what is shown of the session may be another part.
         self.drawing: Drawing | None = None
         self.drawing_line = ""
-        # Whether that line is one that is asked for there.
-        self.is_drawing_asking = False
-        self.is_masked = False
+        self.is_drawing_asking = self.is_masked = False
         self.moved: Callable[[], object] = lambda: None
         # What tells which key fits the session to this terminal, where that may be, and which leaves.
         self.fits_line = self.leaves_line = ""

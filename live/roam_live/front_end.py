@@ -3,6 +3,7 @@ from __future__ import annotations
 
 import contextlib
 import signal
+import time
 from collections.abc import Callable
 
 from roam_live.bells import BellFollower
@@ -40,6 +41,9 @@ PROBES = 2.0
 # So many seconds a line stands that tells what a person has lost.
 LOSS_TOLD = 3.0
 
+# So many seconds each of several starts has at least for what was typed before a person left.
+LEAST_WAIT = 0.1
+
 # What is said by one that another has detached.
 DETACHED = "[detached from elsewhere]"
 
@@ -60,6 +64,8 @@ class FrontEnd:
         self.shells = ShellsWatch(session, self.loop, lambda line: self.display.tell(line, LOSS_TOLD))
         self.display = Display(self.loop, self.say)
         self.parting = Parting(self.loop)
+        # The windows of which all was shown as they were left: they follow the terminal then, once the person is there again.
+        self.shown_whole: set[int] = set()
         self.visit = self.begun(session)
         self.watch_server()
         self.visit.shells.brings = brings_to(session, watches)
@@ -146,13 +152,14 @@ class FrontEnd:
     def forget(self, number: int) -> None:
         """Waits for nothing more of a window that is gone."""
         self.parting.forget(number)
+        self.shown_whole.discard(number)
 
     def go(self, number: int) -> None:
         """Goes to another window, which is shown in place of this one: what was typed here goes on its way. Fault tells why that can't
         be."""
         session = self.visit.session.window(number)
         before, visit = self.visit, self.parting.taken(number)
-        before.showed_all = self.display.shows_all()
+        (self.shown_whole.add if self.display.shows_all() else self.shown_whole.discard)(before.number)
         self.parting.add(before)
         if visit:
             visit.take_up(self.followed(session), self.heard_bells(session))
@@ -163,7 +170,7 @@ class FrontEnd:
             visit.commands.has_windows(self.windows)
         self.visit = visit
         self.watch_server()
-        visit.commands.follow_on(before.commands, visit.showed_all)
+        visit.commands.follow_on(before.commands, number in self.shown_whole)
         self.display.begin_window()
         if self.link.peer:
             self.show_window()
@@ -329,6 +336,16 @@ class FrontEnd:
         if self.session.folder and not self.link.watches:
             self.display.outer.ask_colours()
 
+    def part(self) -> None:
+        """Closes the connections: where the person has left the starts are given what was typed, all together in so many seconds."""
+        links = [self.link, *(visit.link for visit in self.parting.visits.values())]
+        end = time.monotonic() + LAST_WAIT
+        for link in links if self.left is not None else []:
+            if link.part(max(LEAST_WAIT, end - time.monotonic())) and link is self.link:
+                self.commands.zooming.drop_note()
+        for link in links:
+            link.close()
+
     def hands_over(self) -> bool:
         """Whether a paste is still handed over where the person has left: that is waited for, as for what was typed last."""
         if self.left_at is None:
@@ -354,12 +371,7 @@ class FrontEnd:
         finally:
             self.commands.left()
             self.display.outer.leave(self.left and self.left + self.unpasted())
-            links = [self.link, *(visit.link for visit in self.parting.visits.values())]
-            for link in links if self.left is not None else []:
-                if link.part() and link is self.link:
-                    self.commands.zooming.drop_note()
-            for link in links:
-                link.close()
+            self.part()
         return self.status
 
 

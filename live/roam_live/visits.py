@@ -28,8 +28,6 @@ class Visit:
         self.number = session.number
         # What tells of the end of the server, where its process is known.
         self.server: int | None = None
-        # Whether all of the window was shown as it was left: it follows the terminal then, once the person is there again.
-        self.showed_all = False
 
     # ---- the server
 

@@ -5,7 +5,7 @@ from __future__ import annotations
 from roam_live import terminal
 from roam_live.borders import splits_of
 from roam_live.loops import Loop
-from roam_live.shares import above, area_of, laid, size_at, size_for
+from roam_live.shares import above, area_of, laid, size_for
 from roam_live.zoom_notes import MOST_ASKED, ZoomNote
 
 TYPE_CHECKING = False
@@ -30,6 +30,15 @@ OTHERS = "the session has another size now: nothing is zoomed any more"
 
 # Acts after which nothing is zoomed, beside those that put another pane in focus.
 ENDS = ("split", "close", "next", "grow", "size")
+
+
+def places_at(places: Places, size: Size) -> Places:
+    """Where panes are once their session has a size."""
+    parts = splits_of(places.rects)
+    if not parts or size == places.size():
+        return places
+    box = area_of(places.rects)._replace(rows=size[0] - 1, cols=size[1])
+    return places._replace(rects=laid(parts, places.rects, box))
 
 
 class Zooming:
@@ -69,17 +78,25 @@ class Zooming:
             self.end()
             return
         places = self.commands.places()
-        why = self.refusal(places)
+        size = self.own_size(places)
+        before = places_at(places, size) if places and places.focus and places.is_covered() else None
+        why = self.refusal(before)
         if why or not places:
             self.commands.display.tell(why, TOLD)
             return
-        self.pane, self.before, self.showed_all = places.focus, places, self.commands.display.shows_all()
-        self.note = ZoomNote(self.commands.given or places.size(), ())
+        self.pane, self.before, self.showed_all = places.focus, before, self.commands.display.shows_all()
+        self.note = ZoomNote(size, ())
         self.ask(places)
 
+    def own_size(self, places: Places | None) -> Size:
+        """The session's size where nobody has a zoom: that which another's end gives back."""
+        shells, size = self.commands.shells, self.commands.given or (places.size() if places else (0, 0))
+        note = shells.zoomed[1] if shells else None
+        return note.size if note and size in note.asked else size
+
     def refusal(self, places: Places | None) -> str:
-        """Why the pane in focus isn't zoomed; nothing where it is."""
-        if not places or not places.focus or not places.is_covered():
+        """Why the pane in focus isn't zoomed, by where the panes are while nobody has a zoom; nothing where it is."""
+        if not places:
             return UNTOLD
         rect, area = places.rects[places.focus], self.area()
         if len(places.rects) == 1:
@@ -153,9 +170,10 @@ class Zooming:
             self.tell_over()
             return
         sizes = [self.note.size, *self.note.asked]
+        earlier = [self.awaited.size(), *sizes[:-1]] if self.awaited else []
         if places.focus != self.pane or places.rects.keys() != (self.before or places).rects.keys():
             self.end()
-        elif not places.is_covered() or self.awaited and places.size() in sizes[:-1]:
+        elif not places.is_covered() or places.size() in earlier:
             return
         elif places.size() != sizes[-1]:
             self.lose()
@@ -177,14 +195,10 @@ class Zooming:
         if not places or not self.before or not places.is_covered() or not terminal.is_large_enough(own):
             return
         size = own if self.commands.follows(self.note.size, own, self.showed_all) else self.note.size
-        parts = splits_of(self.before.rects)
-        if parts and size != self.note.size:
-            box = area_of(self.before.rects)._replace(rows=size[0] - 1, cols=size[1])
-            self.before = self.before._replace(rects=laid(parts, self.before.rects, box))
-        self.note = ZoomNote(size, self.note.asked[-1:])
-        rows, cols = size_at(size, above(self.pane, parts, self.before.rects)) if parts else (0, 0)
-        if rows > self.area()[0] or cols > self.area()[1]:
-            self.commands.display.tell(LARGER.format(self.pane, rows, cols), TOLD)
+        self.before, self.note = places_at(self.before, size), ZoomNote(size, self.note.asked[-1:])
+        why = self.refusal(self.before._replace(focus=self.pane))
+        if why:
+            self.commands.display.tell(why, TOLD)
             self.end()
             return
         self.tell_keeper()

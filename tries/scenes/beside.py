@@ -119,7 +119,7 @@ def clipboard(folder):
     check("nor where no key went to it, or somebody watches", not any(has_set(one, b"first") for one in (other, watcher)), other.rows)
     outer.type(b"\x02%")
     outer.status(" 1 [2]")
-    outer.type(b"\x021(sleep 3; printf '\\033]52;c;bGF0ZQ==\\007')&\r\x022true\r")
+    outer.type(b"\x02q1(sleep 3; printf '\\033]52;c;bGF0ZQ==\\007')&\r\x02q2true\r")
     time.sleep(5)
     check("nor by a pane that isn't in focus", not has_set(outer, b"late"), bytes(outer.written[-200:]))
     text = bytes(random.Random(1).randrange(256) for _ in range(98304))

@@ -48,7 +48,7 @@ def brought(folder):
     check("a new pane has what that brought, and no more", first.shows(f"<unset><{HOSTILE}>"), first.rows)
     first.type(b'clear; readlink "$SSH_AUTH_SOCK"\r')
     check("and the agent", first.shows(two), first.rows)
-    first.type(b"\x021clear; " + f'eval "$({TOOLS}/mux env other)"; printf "<%s>" "${{DISPLAY-unset}}" "$SSH_CONNECTION"\r'.encode())
+    first.type(b"\x02q1clear; " + f'eval "$({TOOLS}/mux env other)"; printf "<%s>" "${{DISPLAY-unset}}" "$SSH_CONNECTION"\r'.encode())
     check("the older shell has it by mux env", first.shows(f"<unset><{HOSTILE}>"), first.rows)
     third = Outer(tool("mux", "attach", "other"), environment=NOTHING)
     check("one without an agent leaves that", third.shows("$ ") and readlink(first, two) is True, first.rows)

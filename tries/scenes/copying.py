@@ -124,9 +124,9 @@ def copy_meanwhile(folder):
     check("in a pane that is split too", is_split and "copy mode" in outer.rows()[-1], outer.rows)
     outer.type(b"q")
     check("and q has the session again", outer.shows("small") and comes(lambda: is_part_of(outer, told_cells(SESSION))), outer.rows)
-    outer.type(b"\x021\x02[")
+    outer.type(b"\x02q1\x02[")
     outer.status("[")
-    other.type(b"\x021exit\r")
+    other.type(b"\x02q1exit\r")
     check("the pane's end ends it", comes(lambda: "copy mode" not in outer.rows()[-1]), outer.rows)
 
 

@@ -84,7 +84,7 @@ def idle(folder):
     outer = Outer(tool("mux", "other"))
     outer.status("[1]")
     for pane, way in zip(range(2, 10), '%""%""%""'):
-        outer.type(b"\x02" + way.encode() + (b"\x021" if pane in (4, 7) else b""))
+        outer.type(b"\x02" + way.encode() + (b"\x02q1" if pane in (4, 7) else b""))
         outer.shows(f"{pane}")
     check("nine panes are there", comes(lambda: listed()[4:6] == ["9", "panes"]), (listed(), outer.rows()))
     own = [noted("other")[role][0] for role in ("server", "shells", "terminals")] + [outer.process.pid]
@@ -128,10 +128,10 @@ def refused(folder):
     with limited(shells, resource.RLIMIT_NOFILE, 3):
         outer.type(b"\x02%")
         outer.status(" 1 [2]")
-        outer.type(b"\x021echo st''ays\r")
+        outer.type(b"\x02q1echo st''ays\r")
         check("where no descriptor is left the panes go on", outer.shows("stays"), outer.rows)
     check("a pane that came then has its shell later", comes(lambda: outer.rows()[0][40:].startswith("$ ")), outer.rows)
-    outer.type(b"\x022")
+    outer.type(b"\x02q2")
     outer.status(" 1 [2]")
     not_started(outer, shells)
     with limited(shells, resource.RLIMIT_FSIZE, 0):

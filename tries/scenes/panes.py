@@ -106,7 +106,7 @@ def keeper(folder):
     wanted = "4 panes 1 terminal, what keeps its shells is stopped"
     check("ls counts the server's panes, and says so", line.endswith(wanted), line)
     os.kill(keeper, signal.SIGCONT)
-    outer.type(b"\x024echo aw''ake\r")
+    outer.type(b"\x02q4echo aw''ake\r")
     check("continued it has a shell there", outer.shows("awake"), outer.rows)
     check("and ls says nothing more", comes(lambda: " ".join(listed()).endswith("4 panes 1 terminal")), listed)
     outer.type(b"\x02d")
@@ -126,7 +126,7 @@ def sizes(folder):
     time.sleep(NEW + 0.5)
     outer.resize(40, 120)
     check("a larger terminal is filled", outer.status("[1] 2  3") and outer.stands(3, 59, "\u2502"), outer.rows)
-    outer.type(b"\x021clear; stty size\r")
+    outer.type(b"\x02q1clear; stty size\r")
     check("the programs are told", outer.shows("39 59"), outer.rows)
     outer.resize(2, 30)
     check("a very small one shows a line", comes(lambda: outer.rows()[0].startswith("too small: 2 by 30 of 3 by 4")), outer.rows)
@@ -220,15 +220,15 @@ def paste(folder):
 def busy(folder):
     """A pane that writes without end leaves the others usable."""
     outer = three_panes()
-    outer.type(b"\x022yes\r")
+    outer.type(b"\x02q2yes\r")
     check("yes fills its pane", comes(lambda: sum(row[40:].startswith("y ") for row in outer.rows()) > 5), outer.rows)
-    outer.type(b"\x021clear; echo us''able\r")
+    outer.type(b"\x02q1clear; echo us''able\r")
     check("the pane beside it is usable", outer.shows("usable", 5), outer.rows)
     delays = [delay(outer, letter) for letter in "abcdefghij"]
     print(f"        a key's echo beside it: {statistics.median(delays) * 1000:.1f} ms in the median of {len(delays)}", flush=True)
-    outer.type(b"\x15\x022\x03clear\r")
+    outer.type(b"\x15\x02q2\x03clear\r")
     check("C-c ends yes", comes(lambda: not any(row[40:].startswith("y ") for row in outer.rows())), outer.rows)
-    outer.type(b"\x021")
+    outer.type(b"\x02q1")
     outer.status("[1]")
     delays = [delay(outer, "abcdefghij"[k % 10]) for k in range(100)]
     ordered = sorted(delays)
@@ -251,7 +251,7 @@ def delay(outer, letter):
 def closed(folder):
     """A pane that is closed hangs up its programs, whatever they do."""
     outer = three_panes()
-    outer.type(b'\x021\x02"')
+    outer.type(b'\x02q1\x02"')
     outer.status(" 1 [4]")
     outer.type(f"echo $$ > {folder}/closed; echo no''ted; yes > /dev/null\r".encode())
     outer.shows("noted")
@@ -261,9 +261,9 @@ def closed(folder):
     check("C-b x asks where something else than a shell runs", outer.status("close yes in pane 4? y closes it"), outer.rows)
     outer.type(b"n")
     check("another key than y keeps it", outer.status(" 1 [4]"), outer.rows)
-    outer.type(b"\x021")
+    outer.type(b"\x02q1")
     outer.status("[1] 4 ")
-    outer.type(b"\x024\x02x")
+    outer.type(b"\x02q4\x02x")
     check("also right after the focus went there", outer.status("close yes in pane 4? y closes it"), outer.rows)
     outer.type(b"y")
     check("y closes the pane", outer.status("[1] 2  3 "), outer.rows)
@@ -274,12 +274,12 @@ def closed(folder):
 def ends(folder):
     """A shell that ends closes its pane, and the last the session."""
     outer = three_panes()
-    for keys, label in ((b"\x023", " 1  2 [3]"), (b"\x021", "[1] 2  3")):
+    for keys, label in ((b"\x02q3", " 1  2 [3]"), (b"\x02q1", "[1] 2  3")):
         outer.type(keys)
         outer.status(label)
     outer.type(b"exit\r")
     check("a shell's end closes its pane, and the focus goes back", outer.status(" 2 [3]"), outer.rows)
-    outer.type(b"\x022sleep 0.5; exit\r\x023")
+    outer.type(b"\x02q2sleep 0.5; exit\r\x02q3")
     check("also where another has the focus", outer.status("[3]") and not outer.rows()[-1].startswith(" 2"), outer.rows)
     outer.type(b"exit\r")
     check("the last one's ends the session", outer.ends() and outer.process.returncode == 0, outer.process.returncode)
@@ -293,8 +293,11 @@ def told(folder):
     outer = Outer(tool("mux", "other"), environment=KEEPS_NONE)
     outer.shows("$ ")
     means = "means nothing; C-b ? shows the keys"
-    last = "the last pane goes with its shell, and the session with it"
-    for keys, text in ((b"\x02x", last), (b"\x02Z", f"C-b Z {means}"), (b"\x02\x01", f"C-b C-a {means}")):
+    outer.type(b"\x02x")
+    check("the last pane's close is the session's end, and asked for", outer.status("shut window 1 and end the session, whose last it is? y"),
+          outer.rows)
+    outer.type(b"n")
+    for keys, text in ((b"\x02Z", f"C-b Z {means}"), (b"\x02\x01", f"C-b C-a {means}")):
         outer.type(keys)
         check(f"{keys!r} is told of", outer.status(text), outer.rows)
         check("and the status comes back", outer.status("[1]", 5), outer.rows)
@@ -309,7 +312,7 @@ def told(folder):
     check("the status of the scroll mode tells how far back", outer.status("12 rows back: "), outer.rows)
     outer.type(b"\x02%")
     check("a command ends it first", outer.status(" 1 [2]") and outer.stands(21, 0, "100"), outer.rows)
-    outer.type(b"\x021sleep 1; printf '\\033]0;title\\007'; sleep 1; printf '\\a'\r\x022")
+    outer.type(b"\x02q1sleep 1; printf '\\033]0;title\\007'; sleep 1; printf '\\a'\r\x02q2")
     outer.status(" 1 [2]")
     before = len(outer.written)
     check("a bell in another pane rings, and is told", outer.status("bell in pane 1"), outer.rows)
@@ -374,7 +377,7 @@ def smaller(folder):
     outer.shows("right-9")
     before = outer.rows()
     small = Outer(tool("mux", "attach", "other"), size=(12, 40))
-    check("a smaller one shows the part with the cursor, and is told the key", small.status("[1]".ljust(30) + FITS) and small.shows("$ "),
+    check("a smaller one shows the part with the cursor, and is told the key", small.status("[1]", end=FITS) and small.shows("$ "),
           small.rows)
     check("which is a part of what the other shows", comes(lambda: is_part(small, outer)), (small.rows(), outer.rows()))
     check("and nothing is cut", listed()[1:4] == ["24", "by", "100"] and outer.rows() == before, outer.rows)
@@ -389,11 +392,11 @@ def smaller(folder):
     check("which disturbs nobody", outer.rows() == before, outer.rows)
     large.type(b"\x02r")
     check("C-b r has the session be as large", large.status("[1]") and comes(lambda: listed()[1:4] == ["40", "by", "120"]), large.rows)
-    check("and the other shows a part of it", outer.status("[1]".ljust(90) + FITS) and comes(lambda: is_part(outer, large)), outer.rows)
+    check("and the other shows a part of it", outer.status("[1]", end=FITS) and comes(lambda: is_part(outer, large)), outer.rows)
     large.type(b"\x02d")
     outer.type(b"\x02r")
     is_fitted = large.ends() and comes(lambda: listed()[1:4] == ["24", "by", "100"])
-    check("until the key is typed there", is_fitted and outer.shows("right-9") and outer.status("[1]".ljust(100)), outer.rows)
+    check("until the key is typed there", is_fitted and outer.shows("right-9") and comes(lambda: FITS not in outer.rows()[-1]), outer.rows)
     outer.type(b"\x02?")
     is_narrow = outer.shows("these keys, until the next key") and not any(row[80:].strip() for row in outer.rows())
     check("the keys fit 80 columns", is_narrow, outer.rows)

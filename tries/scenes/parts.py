@@ -96,7 +96,7 @@ def two_sizes(folder):
     check("the second shows all of a smaller session", are_right([first, second]), (first.rows(), second.rows()))
     first.type(b"\x02%")
     first.status(" 1 [2]")
-    second.type(PAINTS.encode() + b"\r\x021")
+    second.type(PAINTS.encode() + b"\r\x02q1")
     first.status("[1] 2 ")
     first.type(b"echo ")
     second.shows("$ echo ")
@@ -110,7 +110,7 @@ def two_sizes(folder):
     check("all of them came, each terminal's in their order", found == ["typedhere", "123456789"], row)
     small = Outer(tool("mux", "attach", "other"), (12, 40), guesses)
     check("a small one shows a part", small.shows("echo ") and are_right([first, second, small]), small.rows)
-    small.type(b"\x022" + PAINTS.encode() + b"\r")
+    small.type(b"\x02q2" + PAINTS.encode() + b"\r")
     for letter in b"more":
         small.type(bytes([letter]))
         time.sleep(0.05)
@@ -133,10 +133,10 @@ def small_and_back(folder):
     outer.type(b"\x02d")
     outer.ends()
     small = Outer(tool("mux", "other"), (12, 40))
-    check("alone too it shows a part", small.status("[1]".ljust(30) + FITS) and are_right([small]), small.rows)
+    check("alone too it shows a part", small.status("[1]", end=FITS) and are_right([small]), small.rows)
     small.type(b"\x15")
     small.resize(14, 36)
-    check("drawn otherwise it shows another", small.status("[1]".ljust(26) + FITS) and are_right([small]), small.rows)
+    check("drawn otherwise it shows another", small.status("[1]", end=FITS) and are_right([small]), small.rows)
     check("and the session has its size", listed()[1:4] == ["24", "by", "100"], listed())
     small.type(b"\x02d")
     small.ends()
@@ -195,13 +195,13 @@ def is_trusted(small, large, keeper):
 
 def trust_and_ask(small, large, goes):
     """Has a terminal trust keys in the first pane, and a password asked for in the same row of the second, where one of both goes."""
-    small.type(b"\x022" + ASKS)
+    small.type(b"\x02q2" + ASKS)
     comes(lambda: not any(row[50:].strip() for row in large.rows()[:-1]))
-    small.type(b"\x021\x15")
+    small.type(b"\x02q1\x15")
     comes(lambda: large.rows()[0][:49].strip() == "$")
     keeper = noted("other")["shells"][0]
     check("a key is shown in the first pane that nothing echoes: it is trusted", is_trusted(small, large, keeper), small.rows)
-    goes.type(b"\x022")
+    goes.type(b"\x02q2")
     if goes is large:
         small.status(" 1 [2]")
     type_each(small, SECRET[:5])
@@ -355,7 +355,7 @@ def whole_by_hand(folder):
     os.kill(server.pid, signal.SIGCONT)
     check("and goes", outer.status("[1]     ") and comes(lambda: outer.rows() == beside.rows()), outer.rows)
     beside.resize(12, 40)
-    check("on a smaller terminal a part is shown, and the key", beside.status("[1]".ljust(30) + FITS) and beside.shows("100"), beside.rows)
+    check("on a smaller terminal a part is shown, and the key", beside.status("[1]", end=FITS) and beside.shows("100"), beside.rows)
     outer.type(b"clear; stty size\r")
     check("and the session has its size", outer.shows("23 80"), outer.rows)
     beside.resize(24, 80)

@@ -251,7 +251,7 @@ def paste_words(folder):
     paths = [folder / name for name in ("one", "two")]
     outer.type(b"\x02%")
     outer.status(" 1 [2]")
-    for keys, path in ((b"\x021", paths[0]), (b"\x022", paths[1])):
+    for keys, path in ((b"\x02q1", paths[0]), (b"\x02q2", paths[1])):
         outer.type(keys)
         reads(outer, path, r"\033[?2004h")
     text = b"a\r\n\x1b[31mred\x1b[201~\tb\x00" + bytes(random.Random(9).choices(range(0x20, 0x7F), k=50_000))
@@ -285,10 +285,10 @@ def focus_told(folder):
     outer.shows("$ ")
     outer.type(b"\x02%")
     outer.status(" 1 [2]")
-    outer.type(b"\x021")
+    outer.type(b"\x02q1")
     reads(outer, path, r"\033[?1004h")
     time.sleep(0.5)
-    for keys, wanted in ((b"\x022", b"\x1b[O"), (b"\x021", b"\x1b[O\x1b[I"), (b"\x02o\x02o", b"\x1b[O\x1b[I\x1b[O\x1b[I")):
+    for keys, wanted in ((b"\x02q2", b"\x1b[O"), (b"\x02q1", b"\x1b[O\x1b[I"), (b"\x02o\x02o", b"\x1b[O\x1b[I\x1b[O\x1b[I")):
         outer.type(keys)
         comes(lambda: path.read_bytes().startswith(wanted), 3)
         time.sleep(0.3)

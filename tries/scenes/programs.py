@@ -96,7 +96,7 @@ def check_program(name, command, quits):
             return
     known = " ".join(f"{word}={value}" for word, value in terminal.names().items())
     tmux = Tmux(f"export {known}; {command}", *PANE)
-    outer.type(b"\x021clear\r")
+    outer.type(b"\x02q1clear\r")
     outer.type(f"{command}; clear; echo le''ft {name}\r".encode())
     wanted = tmux.cells()
 

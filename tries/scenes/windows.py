@@ -1,6 +1,8 @@
 """Windows of a session at a person's terminal: what is typed goes to the window where the person is, however it is cut, and each terminal has
 its own."""
+import json
 import os
+import pathlib
 import random
 import signal
 
@@ -14,10 +16,10 @@ SEED = 7
 KEEPS = "stty raw -echo; echo ke''eps; cat >{}\r"
 
 
-def opened(outer, path, keys=b"\x02c"):
-    """Opens a window in which all that is typed is kept in a file, by keys in one piece."""
-    outer.type(keys + KEEPS.format(path).encode())
-    check(f"what is typed behind a window that is opened is for it: {path.name}", outer.shows("keeps"), outer.rows)
+def opened(outer, window, path):
+    """Opens a window in which all that is typed is kept in a file, by keys in one piece; the first is there."""
+    outer.type((b"\x02c" if window > 1 else b"") + KEEPS.format(path).encode())
+    check(f"what is typed behind a window that is opened is for it: {window}", outer.shows(f"{window}:cat*"), outer.rows)
 
 
 def typed_in(path):
@@ -58,7 +60,7 @@ def window_switches(folder):
     outer, chance = Outer(tool("mux", SESSION)), random.Random(SEED)
     check("a session has a window", outer.status("[1] 1:"), outer.rows)
     for window, path in paths.items():
-        opened(outer, path, b"" if window == 1 else b"\x02c")
+        opened(outer, window, path)
     person = Person(list(paths))
     for number in range(SWITCHES):
         pieces = [person.types(f"<{number}a>"), person.switch(chance), person.types(f"<{number}b>")]
@@ -70,6 +72,71 @@ def window_switches(folder):
         check(f"window {window} has all that was typed there, in order, and nothing else", comes(lambda: typed_in(path) == wanted, 60),
               lambda: differs(typed_in(path), wanted))
     check("the last row has the windows", outer.stands(23, 0, "[1] 1:"), outer.rows)
+
+
+def window_process(window, role):
+    """A process of a window."""
+    path = pathlib.Path(os.environ["XDG_RUNTIME_DIR"], "roam", SESSION, "w", str(window), "state.json")
+    return json.loads(path.read_text(encoding="utf-8"))[role][0]
+
+
+def two_windows(folder):
+    """A terminal at the second of two windows, in each of which all that is typed is kept in a file."""
+    paths = [folder / f"window{window}" for window in (1, 2)]
+    outer = Outer(tool("mux", SESSION))
+    outer.status("[1] 1:")
+    for window, path in enumerate(paths, 1):
+        opened(outer, window, path)
+    return outer, paths
+
+
+@scene
+def window_stopped(folder):
+    """A keeper, or a start, that is stopped stops nobody from typing, from going elsewhere and from leaving; all that was typed comes where it
+    was meant for, once it goes on."""
+    outer, paths = two_windows(folder)
+    keeper = noted(SESSION)["shells"][0]
+    os.kill(keeper, signal.SIGSTOP)
+    outer.type(b"tw\x021on\x02ce\r")
+    check("who opens a window is told that nobody answers, and what becomes of what was typed for it",
+          outer.status("no window is opened yet: what keeps them is silent; keys for it are dropped"), outer.rows)
+    outer.type(b"e\x02lo")
+    check("he goes from one to another meanwhile", outer.status("[1] 1:cat- 2:cat*"), outer.rows)
+    os.kill(keeper, signal.SIGCONT)
+    wanted = ["one", "two"]
+    check("what he typed comes where he was", comes(lambda: [typed_in(path) for path in paths] == wanted), [*map(typed_in, paths)])
+    check("the window is there a moment later", outer.status("window 3 is there now") or outer.shows("3:"), outer.rows)
+    start = window_process(2, "terminals")
+    os.kill(start, signal.SIGSTOP)
+    outer.type(b" t\x021 o\x022wo")
+    check("a window that isn't painted shows nothing of the one before", comes(lambda: "1:" in outer.rows()[23] and not outer.rows()[0].strip()),
+          outer.rows)
+    outer.type(b"\x021ne\x02d")
+    check("he leaves", outer.ends() and outer.is_restored(), outer.rows)
+    os.kill(start, signal.SIGCONT)
+    check("what was typed is taken then", comes(lambda: [typed_in(path) for path in paths] == ["one one", "two two"]), [*map(typed_in, paths)])
+
+
+@scene
+def window_kills(folder):
+    """A window whose server is killed gives way to the one before; a keeper that is killed is followed by another, which has the windows; the
+    last window's end is the session's."""
+    outer, paths = two_windows(folder)
+    os.kill(window_process(2, "server"), signal.SIGKILL)
+    outer.type(b"")
+    check("the one before is shown", outer.status("window 2 is gone") and outer.status("[1] 1:"), outer.rows)
+    outer.type(b"here")
+    check("and typed in", comes(lambda: typed_in(paths[0]) == "here"), typed_in(paths[0]))
+    keeper = noted(SESSION)["shells"][0]
+    os.kill(keeper, signal.SIGKILL)
+    check("another keeper comes", comes(lambda: noted(SESSION)["shells"][0] != keeper), lambda: noted(SESSION))
+    check("a window has a new shell", outer.shows("a new shell"), outer.rows)
+    check("one more is opened", comes(lambda: outer.type(b"\x02c") or outer.status("[1] 1:sh- 2:sh*", 3)), outer.rows)
+    outer.type(b"exit\r")
+    check("a shell's end is its window's", outer.status("window 2 is gone") and outer.status("[1] 1:sh*"), outer.rows)
+    outer.type(b"exit\r")
+    check("that of the last is the session's", outer.ends() and outer.process.returncode == 0, outer.rows)
+    check("which is told", b"[the session has ended]" in outer.written, bytes(outer.written[-80:]))
 
 
 def differs(seen, wanted):

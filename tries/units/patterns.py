@@ -31,6 +31,7 @@ KNOWN = {
     ("roam_live/asides.py", "", "ESC"): WRITES,
     ("roam_live/asides.py", "shaped", "ESC"): WRITES,
     ("roam_live/asides.py", "titled", "ESC"): WRITES,
+    ("roam_live/asked_line.py", "LEAVES", "ESC"): TYPED,
     ("roam_live/bells.py", "Bells.go_on", "ESC"): PROGRAM,
     ("roam_live/bells.py", "Bells.rung", "ESC"): PROGRAM,
     ("roam_live/bells.py", "ENDS", "re"): PROGRAM,
@@ -40,7 +41,7 @@ KNOWN = {
     ("roam_live/bindings.py", "SCROLL_ENDS", "ESC"): TYPED,
     ("roam_live/cells.py", "parted", "ESC"): CELLS,
     ("roam_live/cells.py", "sgr_of", "ESC"): CELLS,
-    ("roam_live/choosing.py", "Choosing.lines", "ESC"): WRITES,
+    ("roam_live/choosing.py", "ChoiceList.lines", "ESC"): WRITES,
     ("roam_live/choosing.py", "LEAVES", "ESC"): TYPED,
     ("roam_live/copy_keys.py", "ESCAPE", "ESC"): TYPED,
     ("roam_live/copy_keys.py", "WITH_META", "ESC"): TYPED,
@@ -54,6 +55,7 @@ KNOWN = {
     ("roam_live/colours.py", "BEGINS", "ESC"): COLOURS,
     ("roam_live/colours.py", "BEGUN", "re"): COLOURS,
     ("roam_live/colours.py", "BEGUN", "ESC"): COLOURS,
+    ("roam_live/display.py", "Display.line_text", "ESC"): WRITES,
     ("roam_live/display.py", "Display.put_line", "ESC"): WRITES,
     ("roam_live/display.py", "Display.take_painting", "RESET"): BEGIN,
     ("roam_live/keypads.py", "ASKED", "re"): PROGRAM,
@@ -110,6 +112,8 @@ KNOWN = {
     ("roam_live/window_lines.py", "SHUT", "re"): LINES,
     ("roam_live/window_processes.py", "NUMBER", "re"): NAMES,
     ("roam_live/window_shells.py", "", "ESC"): "is typed where the focus comes and goes, and reads nothing",
+    ("roam_live/window_wishes.py", "OPENED", "re"): LINES,
+    ("roam_live/windows_link.py", "TOLD", "re"): LINES,
     ("show_client", "", "ESC"): WRITES,
 }
 

@@ -327,6 +327,16 @@ class Sizes(unittest.TestCase):
         person.paints(11, 40, "part")
         self.assertEqual(person.shown()[10:], ["part", " " * 30 + FITS])
 
+    def test_smaller_anew(self):
+        """Once a session has a smaller size that it was given what is shown of it is asked for anew, where that began further on."""
+        person = Person(12, 60, told=places(13, 60))
+        person.commands.given = 12, 60
+        person.commands.show_known()
+        person.answers()
+        person.display.place = 1, 0
+        person.tell(places(12, 60))
+        self.assertEqual((person.said(), person.commands.given), (["part 11 60"], None))
+
     def test_wider_and_lower(self):
         """Neither side may be cut."""
         for size, part in (((20, 200), "part 19 80"), ((60, 70), "part 23 70")):

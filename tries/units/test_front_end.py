@@ -84,6 +84,7 @@ class Fronts(Case):
         self.front = FrontEnd(self.place, False, "C-b", "adaptive", lambda places: False, StillLoop())
         self.addCleanup(lambda: closed(self.front.display.outer.end))
         self.addCleanup(lambda: self.front.link.close())
+        self.addCleanup(lambda: self.front.bells.close())
 
     def give_back(self, kept, slave):
         """Gives this process its own input and output."""
@@ -232,7 +233,7 @@ class Loop(Fronts):
         with mock.patch.object(self.front, "connect"), mock.patch.object(self.front.link, "part") as parts, \
                 mock.patch.object(self.front.display.outer, "enter"):
             self.assertEqual(self.front.run(), 0)
-        parts.assert_called_once_with()
+        parts.assert_called_once_with(links.LAST_WAIT)
         self.assertTrue(self.shown().endswith(terminal.LEFT + b"[detached]\r\n"))
         self.assertEqual(termios.tcgetattr(self.slave), self.before)
         self.front.leave("another", 5)

@@ -10,6 +10,7 @@ from roam_live.following import PAUSES
 from roam_live.presence import MOST_OTHERS, Presence, ToldOthers, presence_said, terminal_name
 from roam_live.shells import LONGEST_LINE, MOST_PEERS, MOST_WAITING, ShellsSocket
 from roam_live.shells_link import KNOWS, ShellsLink
+from roam_live.zoom_notes import ZoomNote
 
 A, B = "here:/dev/pts/1 24 80 edits", "there:/dev/pts/2 12 40 watches"
 
@@ -318,6 +319,40 @@ class Links(Sockets):
         self.now += PAUSES[0]
         self.turn(one, other)
         self.assertEqual((one.has_others(), other.has_others()), (True, True))
+
+    def test_zoom(self):
+        """A zoom is told of at once, anew to a keeper that comes, and stays noted where its terminal has left; who comes is told of it before
+        the others are."""
+        one, other = self.link(), self.link()
+        self.turn(one, other)
+        note = ZoomNote((24, 80), ((48, 160),))
+        one.note_zoom(note)
+        self.assertEqual(one.waiting, b"")
+        self.turn(one, other)
+        number = self.socket.peers[0].number
+        self.assertEqual((other.zoomed, one.zoomed), ((number, note),) * 2)
+        one.lost("ended")
+        self.turn(other)
+        self.assertEqual((other.zoomed, one.zoomed), ((0, note), (0, None)))
+        self.now += PAUSES[-1]
+        self.turn(one, other, count=12)
+        self.assertEqual(other.zoomed, (self.socket.peers[-1].number, note))
+        one.leave()
+        self.turn(other)
+        late = self.connect(b"who\n")
+        self.assertEqual(read_now(late).splitlines()[-2:], [b"zoomed 0 24 80 48 160", b"others 1"])
+        other.note_zoom(None)
+        self.turn(other)
+        self.assertEqual(read_now(late).splitlines(), [b"zoomed none", b"others 1"])
+
+    def test_no_zoom(self):
+        """Who watches makes none, and neither do lines that tell of none."""
+        for text in (f"here {B}\nzoom 24 80 48 160\n", "zoom\n", "zoom 24 80\n", "zoom 24 80 48 999\n", "zoom 24 80 \x1b[c 160\n"):
+            one = self.connect(text.encode())
+            self.assertEqual((read_now(one), self.socket.zoom.note), (b"bad line\n", None), text)
+        link = self.link()
+        link.take(["zoomed 0 24 80 48 160", "zoomed 1 \x1b[c 80 48 160", "zoomed", "zoomed none none", "zoomed -1 24 80 48 160"])
+        self.assertEqual(link.zoomed, (0, ZoomNote((24, 80), ((48, 160),))))
 
     def test_brings(self):
         """What a terminal brings is brought once to each keeper, and not again where a connection to the same one comes again."""
