@@ -76,8 +76,8 @@ class Lasting:
                 os.utime(path, follow_symlinks=False)
 
     def paths(self) -> Iterator[str]:
-        """The folder, what lies there, and the notes of clients and of far ends."""
+        """The folder, what lies there, and the notes of clients and of far ends, and windows."""
         yield self.folder
-        for folder in (self.folder, *(os.path.join(self.folder, name) for name in ("attached", "relays"))):
+        for folder in (self.folder, *(os.path.join(self.folder, name) for name in ("attached", "relays", "w"))):
             with contextlib.suppress(OSError):
                 yield from [entry.path for entry in os.scandir(folder)]

@@ -7,6 +7,7 @@ import signal
 import socket
 from collections.abc import Callable
 
+from roam_live.lasting import Lasting
 from roam_live.pane_commands import Options
 from roam_live.program import Fault, connected_now, read, reason, say
 from roam_live.programs import working_folder
@@ -27,11 +28,14 @@ OPENING, THERE, ENDING = "opening", "there", "ending"
 # So often it is looked whether what was begun is there, or has ended, and so many seconds it has for that.
 STEP = 0.004
 OPENS = 10.0
-ENDS = 2.0
+ENDS = 1.0
 AGAIN = 1.0
 
 # So many seconds lie between two lines that tell of one window that something was written, or of one pane that it rang.
 APART = 1.0
+
+# What tells of a socket at which somebody may listen soon.
+SOON_THERE = (FileNotFoundError, ConnectionRefusedError, BlockingIOError)
 
 FULL = f"a session has {MOST_WINDOWS} windows at most"
 OVER = "the session ends"
@@ -70,6 +74,10 @@ class Windows:
         self.folder = windows_folder(asked.common)
         self.windows: dict[int, KeptWindow] = {}
         self.last = 0
+        # Why there is no first window.
+        self.refusal = ""
+        self.lasting = Lasting(asked.common)
+        self.loop.each(self.make_last)
         self.lines = common.shells.lines = WindowLines(self, common.shells.sockets)
         self.take_over()
 
@@ -206,7 +214,7 @@ class Windows:
             return False
         try:
             peer = connected_now(processes.path("panes"))
-        except OSError:
+        except SOON_THERE:
             return False
         try:
             if window.has_start and not processes.runs(TERMINALS):
@@ -229,7 +237,7 @@ class Windows:
         """Whether a window's start takes terminals: it has the size typed that was asked for, once."""
         try:
             peer = connected_now(window.processes.path("terminals"))
-        except OSError:
+        except SOON_THERE:
             if not window.processes.runs(TERMINALS):
                 raise Fault("its client start has ended") from None
             return False
@@ -292,7 +300,7 @@ class Windows:
         """Ends all windows, and waits for that, no longer than they have."""
         for window in [one for one in self.windows.values() if one.state != ENDING]:
             self.end(window, is_meant=True)
-        end = self.loop.clock() + 2 * ENDS
+        end = self.loop.clock() + 1.5 * ENDS
         while self.windows and self.loop.clock() < end:
             self.loop.turn()
         with contextlib.suppress(OSError):
@@ -332,22 +340,28 @@ class Windows:
                 self.common.tell(f"window {window.number}: its server was killed, or has failed")
             self.end(window, is_meant=shells.is_meant)
 
+    def make_last(self) -> float:
+        """Sees to what has to last of the session's folder, and tells when that is due again."""
+        self.lasting.turn()
+        return self.lasting.due
+
     def run(self) -> int:
-        """Keeps the windows until the last of them ends."""
+        """Keeps the windows until the last of them ends. Where that can't be gone on with another takes them over: they stay then."""
         try:
             if not self.windows:
                 self.open(None, 0, self.first)
             while not self.common.is_over:
                 self.turn()
-        finally:
             self.end_all()
+        finally:
             self.common.close()
+        if self.refusal:
+            raise Fault(f"no window can be opened: {self.refusal}")
         return 0
 
     def first(self, number: int, why: str) -> None:
         """Takes note of the first window, without which there is no session."""
-        if not number:
-            raise Fault(f"no window can be opened: {why}")
+        self.refusal = "" if number else why
 
 
 class SizeAct:

@@ -1,0 +1,474 @@
+"""Windows at the keeper: how they are opened, named, told, shut and taken over, with processes and servers that are played."""
+import os
+import signal
+import socket
+from unittest import mock
+
+from aids import Case, StillLoop, read_now
+from roam_live import pane_commands, window_processes, window_shells, windows
+from roam_live.program import Fault, begun
+from roam_live.window_lines import MOST_WINDOWS, name_in, name_word
+from roam_live.window_processes import SERVER, TERMINALS, WindowProcesses, note_ends, numbers_in
+from roam_live.windows import ENDING, ENDS, FULL, OPENS, OVER, THERE, Windows
+
+
+class Played(Case):
+    """A keeper of windows whose servers, starts and commands are played by sockets and pipes."""
+
+    def setUp(self):
+        self.stop_clock()
+        self.environment(ROAM_HISTORY="0", ROAM_PANE=None)
+        self.folder, self.said = self.made_folder(), self.heard()
+        self.wakeup = self.pipe()[0]
+        self.made, self.spawned, self.killed = [], [], []
+        self.patch_of(pane_commands.terminal, "forked", side_effect=self.forked)
+        self.patch_of(window_shells, "has_ended", return_value=False)
+        self.patch_of(WindowProcesses, "spawn", lambda processes, role, words: self.spawn(processes, role))
+        self.patch_of(window_processes, "program", lambda: "/roam")
+        self.patch_of(window_processes, "is_running", lambda process, moment: process in self.alive)
+        self.patch("os.kill", self.kill)
+        self.alive, self.servers = set(), {}
+        self.common = window_shells.Common(self.wakeup, StillLoop(lambda: self.now))
+        self.windows = Windows(pane_commands.Options(folder=str(self.folder), command=["sh"]), self.common)
+        self.addCleanup(self.leave)
+
+    def leave(self):
+        """Closes what a keeper has."""
+        self.common.close()
+        for one in (self.common.spare, self.common.voice):
+            one.free()
+
+    def forked(self, size):
+        """A command's process and terminal: a socket here."""
+        one, other = self.pair()
+        self.made.append((size, other))
+        return 70 + len(self.made), os.dup(one.fileno())
+
+    def spawn(self, processes, role):
+        """A process of a window that is played."""
+        self.spawned.append((processes.number, role))
+        number = 1000 * processes.number + (role == TERMINALS)
+        processes.noted[role] = number, 1
+        self.alive.add(number)
+        return number
+
+    def kill(self, process, number):
+        """A signal, by which one that is played ends, or doesn't."""
+        self.killed.append((process, number))
+        if process < 1000 or process in self.stubborn and number != signal.SIGKILL:
+            return
+        self.alive.discard(process)
+
+    stubborn = ()
+
+    def path(self, number, name):
+        """What lies in a window's folder."""
+        return self.folder / f"w/{number}/{name}"
+
+    def comes_up(self, number):
+        """Has a window's server, and its start, be there."""
+        for name in ("panes", "p1"):
+            self.servers[number, name] = self.listening(self.path(number, name))
+        self.path(number, "session").touch()
+        self.now += 0.01
+        self.windows.turn()
+        server = self.servers[number] = self.taken(self.servers[number, "panes"])
+        server.send(b"1 1 1 23 80 4\nfocus 1\nstarts 1 of 64\n")
+        self.servers[number, "terminals"] = self.listening(self.path(number, "terminals"))
+        self.turns(3)
+
+    def turns(self, count=1):
+        """So many turns, each a moment after the one before."""
+        for _ in range(count):
+            self.now += 0.01
+            self.windows.turn()
+
+    def opened(self, size=None):
+        """Has a window opened, and tells what was told of it."""
+        told = []
+        self.windows.open(size, 0, lambda *words: told.append(words))
+        number = max(number for number, _ in self.spawned)
+        self.comes_up(number)
+        return told
+
+    def asker(self, number, text=b"windows\n"):
+        """One who is connected at a window, and says this."""
+        one = socket.socket(socket.AF_UNIX, socket.SOCK_STREAM)
+        self.addCleanup(one.close)
+        one.connect(str(self.path(number, "shells")))
+        one.setblocking(False)
+        one.send(text)
+        self.turns(3)
+        return one
+
+    def said_by(self, one, text):
+        """What is told to who says a line."""
+        one.send(text)
+        self.turns(3)
+        return read_now(one)
+
+
+class Opened(Played):
+    """How windows are opened."""
+
+    def test_first(self):
+        """The first has no size and no start: who launches the session sees to that."""
+        self.assertEqual(self.opened(), [(1, "")])
+        self.assertEqual((self.spawned, self.windows.named(), self.made[0][0]), ([(1, SERVER)], {1: ""}, (23, 80)))
+        self.assertEqual(os.stat(self.path(1, "")).st_mode & 0o777, 0o700)
+
+    def test_sized(self):
+        """Another has its start, to which its size is typed once, and its first command has that size from the beginning."""
+        self.opened()
+        self.assertEqual(self.opened((40, 120)), [(2, "")])
+        self.assertEqual((self.spawned[1:], self.made[1][0]), ([(2, SERVER), (2, TERMINALS)], (39, 120)))
+        start = self.taken(self.servers[2, "terminals"])
+        self.assertEqual(start.recv(100), b"size 40 120\n")
+        start.close()
+        self.turns(2)
+        sizes = self.patch_of(pane_commands.terminal, "set_size")
+        self.servers[2].send(b"1 1 1 39 120 4\n")
+        self.turns()
+        sizes.assert_not_called()
+        self.servers[2].send(b"1 1 1 30 100 4\n")
+        self.turns()
+        self.assertEqual(sizes.call_args[0][1:], (30, 100))
+
+    def test_untold_size(self):
+        """A size that isn't had goes by what is told."""
+        self.opened()
+        self.opened((40, 120))
+        sizes = self.patch_of(pane_commands.terminal, "set_size")
+        self.now += OPENS
+        self.turns()
+        self.assertEqual(sizes.call_args[0][1:], (23, 80))
+
+    def test_smallest(self):
+        """A window has the smallest number that is free, and there are 99 at most."""
+        for _ in range(3):
+            self.opened()
+        self.windows.shut(2)
+        self.turns(3)
+        self.assertEqual(sorted(self.windows.windows), [1, 3])
+        told = []
+        self.windows.open(None, 0, lambda *words: told.append(words))
+        self.assertEqual(self.spawned[-1], (2, SERVER))
+        self.windows.windows.update({number: mock.Mock(state=ENDING, shells=None) for number in range(4, MOST_WINDOWS + 1)})
+        self.windows.open(None, 0, lambda *words: told.append(words))
+        self.assertEqual(told, [(0, FULL)])
+        self.windows.windows = {1: self.windows.windows[1]}
+        self.common.is_over = True
+        self.windows.open(None, 0, lambda *words: told.append(words))
+        self.assertEqual(told[1:], [(0, OVER)])
+
+    def test_fails(self):
+        """What can't be spawned, ends, doesn't come up or can't be reached is told, and leaves nothing."""
+        self.opened()
+
+        def never(number):
+            """Nothing comes up in time."""
+            self.now += OPENS
+
+        def ends(number):
+            """The server ends."""
+            self.alive &= {1000}
+
+        def start_ends(number):
+            """The start ends, once the server is there."""
+            for name in ("panes", "p1"):
+                self.listening(self.path(number, name))
+            self.path(number, "session").touch()
+            self.turns()
+            self.alive.discard(1000 * number + 1)
+
+        for does, why in ((never, "its server or its client start doesn't come up"), (ends, "its server has ended"),
+                          (start_ends, "its client start has ended")):
+            told = []
+            self.opened_by(told)
+            number = self.spawned[-1][0]
+            does(number)
+            self.turns(3)
+            self.assertEqual(told, [(0, why)])
+            self.now += 2 * ENDS
+            self.turns(3)
+            self.assertEqual((numbers_in(str(self.folder / "w")), self.windows.named()), ([1], {1: ""}), why)
+        with mock.patch.object(WindowProcesses, "spawn", side_effect=OSError(11, "Resource temporarily unavailable")):
+            told = []
+            self.opened_by(told)
+        self.assertEqual(told, [(0, "Resource temporarily unavailable")])
+        with mock.patch.object(windows, "connected_now", side_effect=OSError(24, "Too many open files")):
+            told = []
+            self.opened_by(told)
+            self.path(self.spawned[-1][0], "session").touch()
+            self.turns()
+        self.assertEqual(told, [(0, "Too many open files")])
+
+    def opened_by(self, told):
+        """Has one opened, of a size."""
+        self.windows.open((24, 80), 0, lambda *words: told.append(words))
+
+    def test_no_first(self):
+        """A session whose first window can't be opened is none."""
+        with mock.patch.object(WindowProcesses, "make_folder", side_effect=OSError(28, "No space left on device")):
+            with self.assertRaisesRegex(Fault, "^no window can be opened: No space left on device$"):
+                self.windows.run()
+
+
+class Told(Played):
+    """What is said and told at the sockets."""
+
+    def test_lines(self):
+        """Windows are told in order, and each change; who only watches changes none."""
+        self.opened()
+        one = self.asker(1)
+        self.assertEqual(read_now(one), b"window 1 -\nwindows 1\n")
+        self.opened((24, 80))
+        self.assertEqual(read_now(one), b"window 2 -\nactivity 2\n".replace(b"activity 2\n", b""))
+        for line, wanted in ((b"name 2 6162\n", b"window 2 6162\n"), (b"name 2 -\n", b"window 2 -\n"), (b"name 7 61\n", b"gone 7\n"),
+                             (b"name 2 1b\n", b"bad line\n"), (b"name 2 ff\n", b"bad line\n"), (b"name 0 61\n", b"bad line\n"),
+                             (b"shut 7\n", b"gone 7\n"), (b"shut 100\n", b"bad line\n"), (b"open 0 80\n", b"bad line\n"),
+                             (b"open 24\n", b"bad line\n"), (b"windows 2\n", b"bad line\n")):
+            self.assertEqual(self.said_by(one, line), wanted, line)
+        self.assertEqual(self.said_by(one, b"name 1 " + "\u00e9\u4e2d".encode().hex().encode() + b"\n"), b"window 1 c3a9e4b8ad\n")
+        self.assertEqual(self.path(1, "name").read_text(encoding="ascii"), "c3a9e4b8ad\n")
+        self.assertEqual(self.said_by(one, b"shut 2\n"), b"gone 2\n")
+        watcher = self.asker(1, b"here a:/dev/pts/1 24 80 watches\n")
+        for line in (b"name 1 61\n", b"shut 1\n", b"leave 1\n"):
+            self.assertEqual(self.said_by(watcher, line), b"bad line\n")
+        self.assertEqual(self.said_by(watcher, b"open 24 80\n"), b"opened none a terminal that only watches opens none\n")
+
+    def test_opened(self):
+        """Who asks is answered once a window is there, behind what is told of it, and may ask for four at once."""
+        self.opened()
+        one = self.asker(1, b"windows\nopen 30 90\n")
+        read_now(one)
+        self.comes_up(2)
+        self.assertEqual(read_now(one).replace(b"activity 2\n", b""), b"window 2 -\nopened 2\n")
+        self.assertEqual(self.said_by(one, b"open 30 90\n" * 5), b"opened none 4 are being opened\n")
+        one.close()
+        self.turns(2)
+        self.comes_up(3)
+        self.assertIn(3, self.windows.named())
+
+    def test_clients(self):
+        """Terminals are told of all windows, each with the window where it is; one is told to leave, or all others are."""
+        self.opened()
+        self.opened((24, 80))
+        self.patch_of(self.common.shells.attended, "clock", lambda: 1000.5)
+        one, two = self.asker(1, b"here a:/dev/pts/1 24 80 edits\n"), self.asker(2, b"here b:/dev/pts/2 30 90 watches\n")
+        self.assertEqual((self.folder / "w/last").read_text(encoding="ascii"), "2\n")
+        self.assertEqual(self.said_by(one, b"clients\n"), b"client 1 a:/dev/pts/1 24 80 1 1000 edits\n"
+                         b"client 2 b:/dev/pts/2 30 90 2 1000 watches\nclients 2\n")
+        self.assertEqual((self.said_by(one, b"leave 2\n"), read_now(two)), (b"left 2\n", b"leave\n"))
+        self.assertEqual(self.said_by(one, b"leave 9\n"), b"left none\n")
+        self.assertEqual((self.said_by(one, b"leave others\n"), read_now(two)), (b"left 1\n", b"leave\n"))
+        # One that goes to another window stays since when it was there; one that comes later is there anew.
+        one.close()
+        self.turns()
+        self.patch_of(self.common.shells.attended, "clock", lambda: 1060.5)
+        again = self.asker(2, b"here a:/dev/pts/1 24 80 edits\n")
+        self.assertIn(b" 24 80 2 1000 edits\n", self.said_by(again, b"clients\n"))
+        again.close()
+        self.turns()
+        self.now += 10
+        later = self.asker(2, b"here a:/dev/pts/1 24 80 edits\n")
+        self.assertIn(b" 24 80 2 1060 edits\n", self.said_by(later, b"clients\n"))
+
+    def test_news(self):
+        """What is written where nobody is, and bells, are told once a second at most."""
+        self.opened()
+        self.opened((24, 80))
+        one = self.asker(1)
+        self.now += 2
+        self.turns(2)
+        read_now(one)
+        for text, passed, wanted in ((b"x", 0, b"activity 2\n"), (b"y\x07", 0, b"bell 2 1\n"), (b"\x07", 0, b""), (b"", 1, b"activity 2\n"),
+                                     (b"\x07", 1.1, b"bell 2 1\nactivity 2\n")):
+            self.now += passed
+            self.made[1][1].send(text)
+            self.turns(2)
+            self.assertEqual(read_now(one), wanted, text)
+        self.asker(2, b"here a:/dev/pts/1 24 80 edits\n")
+        self.now += 2
+        self.made[1][1].send(b"z")
+        self.turns(2)
+        self.assertEqual(read_now(one), b"")
+
+    def test_common(self):
+        """Texts, buffers and what was brought are one for all windows; panes and rows are those of the window where they are asked for."""
+        self.opened()
+        self.opened((24, 80))
+        one, two = self.asker(1, b""), self.asker(2, b"")
+        name = "0123456789abcdef"
+        self.assertEqual(self.said_by(one, f"give {name} 4\ntext".encode()), f"held {name}\n".encode())
+        self.assertEqual(self.said_by(two, f"ask {name}\n".encode()), f"held {name}\n".encode())
+        self.assertEqual(self.said_by(one, b"buffer add 2\nab"), b"buffer add 1 2\n")
+        self.assertEqual(self.said_by(two, b"buffer show 1\n"), b"buffer show 1 2\nab")
+        self.assertEqual(self.said_by(one, b"brings DISPLAY 3a37\n"), b"")
+        self.assertIn(b"brought DISPLAY 3a37\n", self.said_by(two, b"brought\n"))
+        one.send(b"who\nhere a:/dev/pts/1 24 80 edits\n")
+        two.send(b"who\nhere b:/dev/pts/2 24 80 edits\n")
+        self.turns(2)
+        told = f"keeper {self.common.shells.name}\nothers 0\n".encode()
+        self.assertEqual([read_now(one), read_now(two)], [told, told])
+        self.assertEqual(pane_commands.surroundings(self.windows.windows[2].shells.asked, 3, mock.Mock(set_values=dict))["ROAM_PANE"],
+                         f"{self.folder}/w/2:3")
+
+    def test_names(self):
+        """A name is printable, of 64 characters and 119 bytes."""
+        for name in ("a", "\u00e9 b", "x" * 64, "-"):
+            self.assertEqual(name_in(name_word(name)), name)
+        for word in ("", "zz", "6", "ff", "1b", "c2", name_word("x" * 65), name_word("a\nb"), name_word("\u202e")):
+            self.assertIsNone(name_in(word), word)
+        self.assertEqual((name_word(""), name_in("-")), ("-", ""))
+
+
+class Ended(Played):
+    """How windows end."""
+
+    def test_shut(self):
+        """Its shells are hung up, its server ended, and nothing of it is left; the end is noted as one on purpose."""
+        self.opened()
+        self.opened((24, 80))
+        self.assertTrue(self.windows.shut(2))
+        self.assertFalse(self.windows.shut(2))
+        self.turns()
+        self.alive.discard(2001)
+        self.turns(3)
+        self.assertEqual((self.killed[:3], sorted(self.windows.windows)), ([(2000, signal.SIGTERM), (72, signal.SIGHUP), (72, signal.SIGCONT)]
+                         if self.killed[0][0] == 2000 else [(72, signal.SIGHUP), (72, signal.SIGCONT), (2000, signal.SIGTERM)], [1]))
+        self.assertEqual((self.path(2, "").exists(), (self.folder / "ended").read_text(encoding="ascii")), (False, "2000 1\n"))
+        self.assertFalse(self.common.is_over)
+
+    def test_by_force(self):
+        """What doesn't end is ended by force a second later."""
+        self.opened()
+        self.opened((24, 80))
+        self.stubborn = {2000, 2001}
+        self.windows.shut(2)
+        self.now += ENDS / 2
+        self.turns(2)
+        self.assertEqual(self.windows.windows[2].state, ENDING)
+        self.now += ENDS / 2
+        self.turns(3)
+        self.assertIn((2000, signal.SIGKILL), self.killed)
+        self.assertIn((2001, signal.SIGKILL), self.killed)
+        self.assertNotIn(2, self.windows.windows)
+
+    def test_last_command(self):
+        """The end of a window's last command is the window's, and the last window's end the session's."""
+        self.opened()
+        self.opened((24, 80))
+        one = self.asker(1)
+        read_now(one)
+        for number, process in ((2, 72), (1, 71)):
+            self.windows.windows[number].shells.panes[1].has_ended = True
+            self.turns()
+            self.alive.clear() if number == 1 else self.alive.discard(2001)
+            self.turns(4)
+            self.assertEqual(number in self.windows.windows, False, process)
+        self.assertTrue(self.common.is_over)
+        self.assertEqual((self.folder / "ended").read_text(encoding="ascii"), "2000 1\n1000 1\n")
+
+    def test_server_gone(self):
+        """A server's end is its window's, and isn't noted as one on purpose."""
+        self.opened()
+        self.opened((24, 80))
+        one = self.asker(1)
+        read_now(one)
+        self.patch_of(window_shells, "is_running", lambda process, moment: process in self.alive)
+        self.alive -= {2000, 2001}
+        self.servers[2].close()
+        self.turns(4)
+        self.assertEqual((read_now(one), sorted(self.windows.windows)), (b"gone 2\n", [1]))
+        self.assertFalse((self.folder / "ended").exists())
+        self.assertIn("window 2: its server was killed, or has failed\n", self.said.getvalue())
+
+    def test_all(self):
+        """Where the keeper is told to end all windows do, and no folder of one is left."""
+        self.opened()
+        self.opened((24, 80))
+        self.common.is_over = True
+        turn = self.common.loop.turn
+
+        def passed():
+            self.now += 0.01
+            turn()
+
+        self.patch_of(self.common.loop, "turn", passed)
+        self.assertEqual(self.windows.run(), 0)
+        self.assertEqual((self.windows.windows, self.alive, (self.folder / "w").exists()), ({}, set(), False))
+
+
+class TakenOver(Played):
+    """What another keeper left."""
+
+    def test_taken_over(self):
+        """Windows whose servers run are gone on with, by their names, with new shells; what is left of others is removed."""
+        for number in (2, 5, 7):
+            os.makedirs(self.path(number, ""), 0o700)
+            processes = WindowProcesses(str(self.folder), number)
+            processes.noted = {SERVER: (1000 * number, 1), TERMINALS: (1000 * number + 1, 1)}
+            processes.note()
+        self.path(5, "name").write_text("6162\n", encoding="ascii")
+        self.alive |= {5000, 7001}
+        self.windows.take_over()
+        self.assertEqual((sorted(self.windows.windows), numbers_in(str(self.folder / "w")), self.killed), ([5], [5], [(7001, signal.SIGKILL)]))
+        for name in ("panes", "p1"):
+            self.servers[name] = self.listening(self.path(5, name))
+        self.turns(2)
+        self.now += 1
+        self.turns(2)
+        self.assertEqual((self.windows.named(), self.spawned), ({5: "ab"}, []))
+        server = self.taken(self.servers["panes"])
+        server.send(b"1 1 1 23 80 4\nfocus 1\nstarts 1 of 64\n")
+        self.turns(2)
+        self.assertEqual(self.made, [])
+        self.now += 0.5
+        self.turns(2)
+        self.assertEqual(len(self.made), 1)
+
+    def test_unnoted(self):
+        """Where the note is lost who listens at its socket is known."""
+        os.makedirs(self.path(3, ""), 0o700)
+        self.path(3, "state.json").write_text("[", encoding="ascii")
+        self.listening(self.path(3, "clients"))
+        processes = WindowProcesses(str(self.folder), 3)
+        processes.find()
+        self.assertEqual(processes.noted, {SERVER: (os.getpid(), begun(os.getpid()))})
+
+    def test_state(self):
+        """A window that is taken over is there at once, also where its start isn't."""
+        self.assertEqual((windows.OPENING, THERE, ENDING), ("opening", "there", "ending"))
+
+
+class Noted(Case):
+    """What is noted of windows."""
+
+    def test_ends(self):
+        """The last 128 processes that are ended on purpose are noted, each once; where that can't be, nothing is said."""
+        folder = self.made_folder()
+        note_ends(str(folder), [])
+        self.assertEqual(os.listdir(folder), [])
+        for number in range(200):
+            note_ends(str(folder), [f"{number} 1"])
+        note_ends(str(folder), ["100 1", "199 1"])
+        lines = (folder / "ended").read_text(encoding="ascii").splitlines()
+        self.assertEqual((len(lines), lines[0], lines[-3:]), (128, "72 1", ["198 1", "100 1", "199 1"]))
+        note_ends(str(folder / "none"), ["1 1"])
+
+    def test_spawned(self):
+        """A process notes itself before it runs its words, has a session of its own, and no name of a pane."""
+        folder = self.made_folder()
+        self.environment(ROAM_PANE="/x:1")
+        processes = WindowProcesses(str(folder), 4)
+        processes.make_folder()
+        told = folder / "told"
+        process = processes.spawn(SERVER, ["/bin/sh", "-c", f"echo $ROAM_PANE. > {told}.new; mv {told}.new {told}; cat {processes.path('state.json')}"
+                                           f" > {told}; exec sleep 60"])
+        self.addCleanup(os.waitpid, process, 0)
+        self.addCleanup(os.kill, process, signal.SIGKILL)
+        while not told.exists() or b"}" not in told.read_bytes():
+            pass
+        self.assertEqual((processes.state()[SERVER], os.getsid(process)), ([process, begun(process)], process))
+        self.assertTrue(processes.runs(SERVER))
