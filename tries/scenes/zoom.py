@@ -258,7 +258,7 @@ def zoom_far(folder):
     outer.shows("$ ")
     outer.type(b"\x02%")
     outer.status(" 1 [2]")
-    panes = far / "roam" / "other" / "panes"
+    panes = far / "roam" / "other" / "w" / "1" / "panes"
     before = asked_places(panes)
     outer.type(b"\x02z")
     check("it fills the terminal", outer.status(" 1 [2] Z") and asked_places(panes).rects[2][2:] == (23, 80), outer.rows)
