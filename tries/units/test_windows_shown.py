@@ -482,6 +482,24 @@ class Named(Windows):
         self.assertEqual(self.typed[1], "yz")
 
 
+class Pointed(Windows):
+    """Where roam has the mouse a label goes to its window."""
+
+    def test_labels(self):
+        """What is told there has no labels, and nothing is pointed at."""
+        self.tell_list()
+        for is_on, wanted in ((False, 1), (True, 2)):
+            self.front.commands.pointing.is_on = is_on
+            self.type(b"\x1b[<0;8;24M\x1b[<0;8;24mx")
+            self.assertEqual(self.front.number, wanted)
+        self.assertEqual(self.typed, {1: "x", 2: "x"})
+        self.front.display.tell("[1] 1- 2*")
+        self.type(b"\x1b[<0;5;24My")
+        self.front.display.end_told()
+        self.type(b"\x1b[<0;5;23M\x1b[<0;5;23m")
+        self.assertEqual((self.front.number, self.typed[2]), (2, "xy"))
+
+
 class Hidden(Windows):
     """The last row may be hidden."""
 
