@@ -118,8 +118,8 @@ class Windows(Case):
             self.front.turn()
             for number, window in self.windows.items():
                 for start in self.accepted(window.starts):
-                    start.send(b"\ntold\n")
                     self.starts[start] = number, 0
+                    self.send(start, b"\ntold\n")
                 self.keepers += [(peer, number) for peer in self.accepted(window.shells)]
             for start in list(self.starts) if paints else []:
                 self.answer(start)
