@@ -1,6 +1,7 @@
 """What a process waits for: ends that come and go, with what is done there, and moments."""
 from __future__ import annotations
 
+import contextlib
 import math
 import select
 import selectors
@@ -149,7 +150,10 @@ class Loop:
             if events & WRITE:
                 writes.append(number)
         if max([*reads, *writes], default=0) >= MOST_SELECTED:
-            return polled(reads, writes, seconds)
+            # Where the limit was lowered below as many as there are those go on that may be selected.
+            with contextlib.suppress(OSError):
+                return polled(reads, writes, seconds)
+            reads, writes = ([number for number in numbers if number < MOST_SELECTED] for numbers in (reads, writes))
         # This needs no descriptor of its own, takes any file, and as many as there are where the limit was lowered since.
         readable, writable, _ = select.select(reads, writes, (), seconds)
         found = dict.fromkeys(readable, READ)

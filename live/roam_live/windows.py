@@ -50,6 +50,7 @@ class KeptWindow:
         self.name = processes.name()
         self.shells: Shells | None = None
         self.size: Size | None = None
+        self.sizes: SizeAct | None = None
         # Where its first pane's command begins, whether another keeper had it before, and whether it has a start here from the beginning:
         # of a session's first window who launches it sees to that, or a terminal of another machine has one there.
         self.begins_in, self.is_again, self.has_start = "", False, True
@@ -242,8 +243,7 @@ class Windows:
                 raise Fault("its client start has ended") from None
             return False
         if window.size:
-            SizeAct(self.loop, peer, window.size)
-            window.size = None
+            window.sizes, window.size = SizeAct(self.loop, peer, window.size), None
         else:
             peer.close()
         return True
@@ -276,6 +276,8 @@ class Windows:
             self.lines.tell(f"{GONE} {window.number}")
         if window.shells:
             window.shells.hang_up()
+        if window.sizes:
+            window.sizes.close()
         window.processes.end(signal.SIGTERM, SERVER)
         window.until = self.loop.clock() + ENDS
         self.step_end(window)
@@ -369,16 +371,24 @@ class SizeAct:
 
     def __init__(self, loop: Loop, peer: socket.socket, size: Size) -> None:
         self.loop, self.peer = loop, peer
+        # A start that is stopped takes nothing: it is closed then too.
+        self.name = f"size {peer.fileno()} is taken"
+        loop.add(peer, self.hear)
+        loop.later(self.name, OPENS, self.close)
         try:
             peer.send(f"{size_act(size)}\n".encode())
             peer.shutdown(socket.SHUT_WR)
         except OSError:
-            peer.close()
-            return
-        loop.add(peer, self.hear)
+            self.close()
 
     def hear(self) -> None:
         """Passes over what is painted, until the start has closed it."""
         if read(self.peer.fileno()) == b"":
+            self.close()
+
+    def close(self) -> None:
+        """Closes it."""
+        if self.peer.fileno() >= 0:
             self.loop.remove(self.peer)
+            self.loop.drop(self.name)
             self.peer.close()

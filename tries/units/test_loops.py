@@ -167,6 +167,17 @@ class Ends(Case):
         self.assertFalse(is_taken(other, 0.01))
 
 
+
+class Many(Ends):
+    """The same where a process has more ends than may be selected."""
+
+    def setUp(self):
+        super().setUp()
+        self.patch("roam_live.loops.MOST_SELECTED", 0)
+
+    test_lowered = None
+
+
 class Moments(Case):
     """What is due, by a clock that is handed in."""
 

@@ -34,6 +34,9 @@ class Played(Case):
 
     def leave(self):
         """Closes what a keeper has."""
+        for window in self.windows.windows.values():
+            if isinstance(window.sizes, windows.SizeAct):
+                window.sizes.close()
         self.common.close()
         for one in (self.common.spare, self.common.voice):
             one.free()
@@ -450,8 +453,8 @@ class Noted(Case):
         folder = self.made_folder()
         note_ends(str(folder), [])
         self.assertEqual(os.listdir(folder), [])
-        for number in range(200):
-            note_ends(str(folder), [f"{number} 1"])
+        (folder / "ended").write_text("".join(f"{number} 1\n" for number in range(199)), encoding="ascii")
+        note_ends(str(folder), ["199 1"])
         note_ends(str(folder), ["100 1", "199 1"])
         lines = (folder / "ended").read_text(encoding="ascii").splitlines()
         self.assertEqual((len(lines), lines[0], lines[-3:]), (128, "72 1", ["198 1", "100 1", "199 1"]))
