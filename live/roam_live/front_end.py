@@ -104,6 +104,7 @@ class FrontEnd:
         self.commands.fit_first()
         self.commands.act(*([] if self.commands.typing.left() else [NEWEST]))
         if loss:
+            self.commands.give_again()
             self.display.tell(loss, LOSS_TOLD)
 
     def say(self, line: str) -> None:
