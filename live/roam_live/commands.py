@@ -513,6 +513,12 @@ class Commands:
         self.zooming.overrule()
         self.show_known()
 
+    def give_again(self) -> None:
+        """Gives the session again the size that it is to have: with a connection that act may be lost."""
+        size = self.zooming.awaited_size() or self.given
+        if size and not self.link.watches:
+            self.type_together(terminal.size_act(size))
+
     def mend(self) -> None:
         """Gives the session the size back that it had before a zoom that a front end has left, and then the one that it has at this
         terminal."""

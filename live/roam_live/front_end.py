@@ -204,6 +204,7 @@ class FrontEnd:
         loss = self.keeper.connected()
         self.show_window()
         if loss:
+            self.commands.give_again()
             self.display.tell(loss, LOSS_TOLD)
 
     def show_window(self) -> None:
