@@ -1,10 +1,11 @@
 """A person's front end of a session with windows, whose starts and keeper are played: where what is typed goes, and what is asked for."""
 import os
 import pty
+from unittest import mock
 
 from aids import Case, StillLoop, closed, read_now, record
 from emulated import Emulated
-from roam_live import front_end, terminal
+from roam_live import front_end, terminal, visits
 from roam_live.front_end import FrontEnd
 from roam_live.keys import acts_of_bytes
 from roam_live.program import Fault
@@ -222,6 +223,14 @@ class Switches(Windows):
         self.assertEqual((self.typed[1], self.rows()[1]), ("ab", "there is no window 5"))
         self.type(b"\x02lcd")
         self.assertEqual((self.typed[1], self.rows()[1]), ("abcd", "there is no last window"))
+
+    def test_not_had(self):
+        """A window of which the system refuses what is needed isn't gone to: all stays as it is, and says why."""
+        self.windows[2].processes["server"] = 1
+        with mock.patch.object(visits, "opened_process", side_effect=Fault("no descriptor is left")):
+            self.type(b"a\x022b")
+        self.assertEqual((self.front.number, self.typed, self.rows()[1]), (1, {1: "ab", 2: ""}, "no descriptor is left"))
+        self.assertEqual(self.front.parting.visits, {})
 
     def test_not_painted(self):
         """Until a window is painted nothing of it is shown, and a moment later nothing of the one before."""
