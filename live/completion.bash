@@ -6,7 +6,13 @@ _roam_mux_names() {
     "$@" ls 2> /dev/null | while read -r name _; do echo "$name"; done
 }
 
-_roam_mux_words="attach new ls list watch kill send paste capture log buffer env ssh help --help --version"
+# The numbers of the windows of a session.
+_roam_mux_windows() {
+    "${@:2}" list-windows "$1" 2> /dev/null | while read -r number _; do echo "$number"; done
+}
+
+_roam_mux_words="attach new ls list list-windows new-window rename-window clients watch kill send paste capture log buffer env ssh help --help
+    --version"
 
 # The acts that a client types, a line each; a number, a size or a character is left to the person.
 _roam_acts() {
@@ -54,8 +60,11 @@ _roam_mux() {
     case ${COMP_WORDS[COMP_CWORD - 1]} in
     ssh) mapfile -t COMPREPLY < <(compgen -A hostname -W "--ssh --far --guess --help" -- "$word") && return ;;
     mux | roam-mux | */mux | */roam-mux) words="$_roam_mux_words $(_roam_mux_names "${mux[@]}")" ;;
-    attach) words="--guess --help $(_roam_mux_names "${mux[@]}")" ;;
-    watch | env) words="--help $(_roam_mux_names "${mux[@]}")" ;;
+    attach) words="-d --guess --help $(_roam_mux_names "${mux[@]}")" ;;
+    :) words=$(_roam_mux_windows "${COMP_WORDS[COMP_CWORD - 2]}" "${mux[@]}") ;;
+    new-window) words="-n --help $(_roam_mux_names "${mux[@]}")" ;;
+    -n) words= ;;
+    watch | env | list-windows | rename-window | clients) words="--help $(_roam_mux_names "${mux[@]}")" ;;
     send) words="-l --help $(_roam_mux_names "${mux[@]}")" ;;
     paste) words="--raw --help $(_roam_mux_names "${mux[@]}")" ;;
     kill) words="-f --help $(_roam_mux_names "${mux[@]}")" ;;
@@ -63,7 +72,7 @@ _roam_mux() {
     log) words="-e -J --help $(_roam_mux_names "${mux[@]}")" ;;
     buffer) words="list show set paste --help" ;;
     -S | -E) words="-" ;;
-    --svg | --raw | -f | -e | -J) words=$(_roam_mux_names "${mux[@]}") ;;
+    --svg | --raw | -f | -e | -J | -d) words=$(_roam_mux_names "${mux[@]}") ;;
     new) words="-d --guess --help" ;;
     --guess) words="adaptive always never" ;;
     help) words=$_roam_mux_words ;;
@@ -93,7 +102,7 @@ _roam_pane_shells() {
     done
     case ${COMP_WORDS[COMP_CWORD - 1]} in
     --server) COMPREPLY=() ;;
-    *) _roam_folder "$word" "--close --server --again --help" ;;
+    *) _roam_folder "$word" "--close --server --again --windows --help" ;;
     esac
 }
 

@@ -631,8 +631,9 @@ class Window(FolderSession):
         """Removes what it left, with its folder."""
         super().clean()
         (self.folder / "name").unlink(missing_ok=True)
-        with contextlib.suppress(OSError):
-            self.folder.rmdir()
+        for folder in (self.folder / "relays", self.folder):
+            with contextlib.suppress(OSError):
+                folder.rmdir()
 
 
 class NearSession(FolderSession):

@@ -198,9 +198,10 @@ class WindowProcesses:
                     os.kill(self.noted[role][0], number)
 
     def clean(self) -> None:
-        """Removes what they left."""
-        with contextlib.suppress(OSError):
-            for name in os.listdir(self.folder):
-                with contextlib.suppress(OSError):
-                    os.unlink(self.path(name))
-            os.rmdir(self.folder)
+        """Removes what they left, and the notes of far relays."""
+        for folder in (self.path("relays"), self.folder):
+            with contextlib.suppress(OSError):
+                for name in os.listdir(folder):
+                    with contextlib.suppress(OSError):
+                        os.unlink(os.path.join(folder, name))
+                os.rmdir(folder)

@@ -8,7 +8,7 @@ from roam_live.program import TOOLS
 
 COMPLETES = r"""
 source "$1"
-mux() { printf 'main 24 by 80\nwork 24 by 80\n'; }
+mux() { [ "$1" = list-windows ] && printf ' 1 -\n12 a b\n' || printf 'main 24 by 80\nwork 24 by 80\n'; }
 shift
 call=$1; shift
 COMP_WORDS=("$@") COMP_CWORD=$(($# - 1)) COMPREPLY=()
@@ -78,9 +78,17 @@ class Completion(unittest.TestCase):
             self.assertEqual(completed("_roam_pane_shells", "pane_shells", "nea", cwd=folder), ["near"])
 
     def test_pane_shells(self):
-        self.assertEqual(completed("_roam_pane_shells", "pane_shells", "--"), ["--close", "--server", "--again", "--help"])
+        self.assertEqual(completed("_roam_pane_shells", "pane_shells", "--"), ["--close", "--server", "--again", "--windows", "--help"])
         self.assertIn("bash", completed("_roam_pane_shells", "pane_shells", "--close", "--server", "7", "near", "bas"))
         self.assertEqual(completed("_roam_pane_shells", "pane_shells", "--server", ""), [])
+
+    def test_windows(self):
+        """The words for windows, and the numbers of a session's windows, which bash has behind a colon."""
+        self.assertEqual(completed("_roam_mux", "mux", "new-"), ["new-window"])
+        for word in ("list-windows", "new-window", "rename-window", "clients"):
+            self.assertEqual(completed("_roam_mux", "mux", word, "w"), ["work"])
+        self.assertEqual(completed("_roam_mux", "mux", "attach", "-d", "w"), ["work"])
+        self.assertEqual(completed("_roam_mux", "mux", "kill", "work", ":", ""), ["1", "12"])
 
     def test_sessions(self):
         self.assertEqual(completed("_roam_mux", "mux", "attach", "m"), ["main"])
