@@ -312,8 +312,9 @@ class Commands:
 
     def fit_drawn(self) -> None:
         """Has what is drawn over a pane go by where that is now."""
-        self.copying.fit()
-        self.choosing.fit()
+        if not self.display.is_held:
+            self.copying.fit()
+            self.choosing.fit()
 
     def copy(self, wish: str) -> None:
         """Opens copy mode in the pane in focus, a page up or in its search where that is asked; where no rows are kept the view that all
