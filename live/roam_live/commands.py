@@ -454,6 +454,8 @@ class Commands:
 
     def fit_drawn(self) -> None:
         """Has what is drawn over a pane go by where that is now."""
+        if self.display.is_held:
+            return
         self.copying.fit()
         self.choosing.fit()
         if self.choosing_window:

@@ -233,11 +233,10 @@ class Display:
         """Asks for a part of the session, or for all of it: for that part with the cursor that is nearest to the first row and column, or,
         where something is drawn over it, for the one that is shown."""
         self.asked, self.is_stale = part, True
-        if part and self.corner:
-            self.says("part {} {} {} {}".format(*self.corner, *part))
-        elif part and self.drawing:
+        if part and (self.corner or self.drawing):
             rows, cols = self.size()
-            top, left = (max(0, min(place, most)) for place, most in zip(self.place, (rows - 1 - part[0], cols - part[1])))
+            top, left = self.corner or (max(0, min(place, most)) for place, most in zip(self.place, (rows - 1 - part[0], cols - part[1])))
+            self.place = top, left
             self.says(f"part {top} {left} {part[0]} {part[1]}")
         else:
             self.says("part {} {}".format(*part) if part else "whole")
