@@ -107,6 +107,8 @@ class Commands:
         # another size itself.
         self.given: terminal.Size | None = None
         self.showed_all = False
+        # The size that this window had as it was left, where all of it was shown here then: one that nobody changed since follows the terminal.
+        self.left_size = NO_SIZE
         self.copying, self.choosing = Copying(self, loop), Choosing(self)
         self.zooming, self.border_keys, self.foci = Zooming(self, loop), BorderKeys(self, loop), Foci(panes)
         display.moved = self.fit_drawn
@@ -319,13 +321,13 @@ class Commands:
         for name in OF_WINDOW:
             self.loop.drop(name)
 
-    def follow_on(self, before: Commands, showed_all: bool) -> None:
+    def follow_on(self, before: Commands, left_size: terminal.Size) -> None:
         """Goes on in this window with what the person has begun elsewhere: an escape, a paste, a question or a line that is asked for. The
-        window may have been shown whole as it was left."""
+        window may have been shown whole as it was left, with a size."""
         self.keys, self.typing, self.prefix, self.help = before.keys, before.typing, before.prefix, before.help
         self.asks, self.asked_line, self.pointing.is_on = before.asks, before.asked_line, before.pointing.is_on
         self.display.moved = self.fit_drawn
-        self.is_fitted, self.showed_all = False, showed_all
+        self.is_fitted, self.showed_all, self.left_size = False, False, left_size
         if self.typing.mode == self.typing.pasting:
             self.pastes.begin(WINDOW_GONE)
 
@@ -590,6 +592,7 @@ class Commands:
         """Fits the session to this terminal, as far as that may be: a new session goes by each size. Who else is there has to be known for
         the rest, and may be told soon."""
         size, own = self.given or self.session_size(), terminal.largest(self.display.room())
+        self.showed_all = self.showed_all or size == self.left_size != NO_SIZE
         if self.shells:
             self.shells.say_here()
         if self.zooming.is_on():
@@ -604,7 +607,7 @@ class Commands:
                 self.follow(size, own)
                 return
             self.fit()
-        self.showed_all = False
+        self.showed_all, self.left_size = False, NO_SIZE if size != NO_SIZE else self.left_size
 
     def others_told(self) -> None:
         """Does at once what waited until it is known who else is there."""
@@ -619,7 +622,7 @@ class Commands:
             self.ask_size()
         elif own[0] >= size[0] and own[1] >= size[1]:
             self.display.tell(f"{size[0]} by {size[1]}, as another terminal has it; {self.prefix} r fits this one", FITS_TOLD)
-        self.showed_all = False
+        self.showed_all, self.left_size = False, NO_SIZE
 
     def follows(self, size: terminal.Size, own: terminal.Size, showed_all: bool) -> bool:
         """Whether the session follows this terminal: it grows where nobody else types, and a lone terminal that showed all of it is followed

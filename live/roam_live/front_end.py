@@ -11,7 +11,7 @@ from roam_live.bindings import NEWEST
 from roam_live.brought import brings_to
 from roam_live.choices import sets_clipboard, wants_mouse
 from roam_live.commands import Commands
-from roam_live.display import Display
+from roam_live.display import NO_SIZE, Display
 from roam_live.following import AWAITED, PanesFollower
 from roam_live.links import LAST_WAIT, Keeper, StartLink
 from roam_live.loops import Loop
@@ -25,6 +25,7 @@ TYPE_CHECKING = False
 if TYPE_CHECKING:
     from roam_live.any_session import AnySession
     from roam_live.places import Places
+    from roam_live.terminal import Size
     from roam_live.told import ToldRecord
 
 # So many bytes may wait for the terminal, and so many for the session, before what brings more is left alone.
@@ -64,8 +65,8 @@ class FrontEnd:
         self.shells = ShellsWatch(session, self.loop, lambda line: self.display.tell(line, LOSS_TOLD))
         self.display = Display(self.loop, self.say)
         self.parting = Parting(self.loop)
-        # The windows of which all was shown as they were left: they follow the terminal then, once the person is there again.
-        self.shown_whole: set[int] = set()
+        # The sizes of the windows of which all was shown as they were left, by their numbers.
+        self.shown_whole: dict[int, Size] = {}
         server = opened_server(session)
         self.visit = self.begun(session)
         self.watch_server(server)
@@ -153,7 +154,7 @@ class FrontEnd:
     def forget(self, number: int) -> None:
         """Waits for nothing more of a window that is gone."""
         self.parting.forget(number)
-        self.shown_whole.discard(number)
+        self.shown_whole.pop(number, None)
 
     def go(self, number: int) -> None:
         """Goes to another window, which is shown in place of this one: what was typed here goes on its way. Fault tells why that can't
@@ -161,7 +162,7 @@ class FrontEnd:
         session = self.visit.session.window(number)
         server = opened_server(session)
         before, visit = self.visit, self.parting.taken(number)
-        (self.shown_whole.add if self.display.shows_all() else self.shown_whole.discard)(before.number)
+        self.shown_whole[before.number] = before.commands.session_size() if self.display.shows_all() else NO_SIZE
         self.parting.add(before)
         if visit:
             visit.take_up(self.followed(session), self.heard_bells(session))
@@ -172,7 +173,7 @@ class FrontEnd:
             visit.commands.has_windows(self.windows)
         self.visit = visit
         self.watch_server(server)
-        visit.commands.follow_on(before.commands, number in self.shown_whole)
+        visit.commands.follow_on(before.commands, self.shown_whole.get(number, NO_SIZE))
         self.display.begin_window()
         if self.link.peer:
             self.show_window()

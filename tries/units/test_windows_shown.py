@@ -254,21 +254,24 @@ class Switches(Windows):
         self.assertEqual((self.typed[1], self.typed[2]), (f"a\x9f{name}\x9cb", "c"))
 
     def test_sizes(self):
-        """A window that was left while all of it was shown follows the terminal once the person is there again and alone; another's size
-        stays."""
+        """A window that was left while all of it was shown follows the terminal once the person is there again and alone; one whose size
+        another changed stays."""
         for window in self.windows.values():
             window.told = places(24, 80)
-        self.type(b"\x022\x021")
+        self.add(3).told = places(24, 80)
+        self.type(b"\x022\x023\x021")
+        self.windows[3].told = places(24, 90)
         terminal.set_size(0, 20, 70)
         self.front.resized()
         self.now += 1
         self.turn()
-        self.type(b"\x022")
-        for peer, _ in self.keepers:
-            self.send(peer, b"keeper 00112233445566aa\nothers 0\n")
-        self.now += 1
-        self.turn(8)
-        self.assertIn("<size 20 70>", self.typed[2])
+        for number, wanted in ((2, "<size 20 70>"), (3, "")):
+            self.type(b"\x02%d" % number)
+            for peer, _ in self.keepers:
+                self.send(peer, b"keeper 00112233445566aa\nothers 0\n")
+            self.now += 1
+            self.turn(8)
+            self.assertEqual(self.typed[number], wanted)
 
 
 class Opened(Windows):
