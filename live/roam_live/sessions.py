@@ -407,7 +407,7 @@ class WindowedSession(FolderSession):
         there = self.windows()
         found = [window for window in there if window.number == (self.last() if number is None else number)]
         if not found and (number is not None or not there):
-            raise Fault(f"session {self.name} has no window{'' if number is None else f' {number}'}")
+            raise Fault(f"session {self.name} has no window {number}" if number is not None else f"session {self.name} has ended")
         return (found or there)[0]
 
     def last(self) -> int:
@@ -456,7 +456,8 @@ class WindowedSession(FolderSession):
         before = self.logged()
         with self.whole():
             self.spawn_shells()
-            self.wait_for("shells", before, self.is_ready)
+            # A command that ends at once may have ended it already.
+            self.wait_for("shells", before, lambda: self.is_ready() or self.own["shells"].poll() == 0)
 
     def spawn_shells(self, more: Iterable[str] = ()) -> None:
         """Spawns what keeps its windows."""
@@ -472,8 +473,9 @@ class WindowedSession(FolderSession):
             self.wait_for("shells", before, self.is_ready)
 
     def demand_terminals(self, earlier: int | None = None) -> None:
-        """Sees that the start of the window runs where somebody was last."""
-        self.window().demand_terminals(earlier)
+        """Sees that the start of the window runs where somebody was last, while there is one."""
+        if self.windows():
+            self.window().demand_terminals(earlier)
 
     def revive_shells(self) -> bool:
         """Spawns what keeps its windows anew where it has ended, and takes them over; tells whether it runs."""
