@@ -213,7 +213,7 @@ class ChoosingWindow(ChoiceList):
         self.numbers = self.windows.numbers()
         here = self.windows.here()
         self.chosen = self.numbers.index(here) if here in self.numbers else 0
-        return self.open()
+        return self.is_on() and self.open()
 
     def told_anew(self) -> None:
         """Goes by other windows, or other names of them: the chosen one stays so where it is there still."""

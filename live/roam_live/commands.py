@@ -454,6 +454,8 @@ class Commands:
 
     def fit_drawn(self) -> None:
         """Has what is drawn over a pane go by where that is now."""
+        if self.display.is_held:
+            return
         self.copying.fit()
         self.choosing.fit()
         if self.choosing_window:
@@ -512,6 +514,12 @@ class Commands:
         self.loop.later("given", REFUSES, self.refused)
         self.zooming.overrule()
         self.show_known()
+
+    def give_again(self) -> None:
+        """Gives the session again the size that it is to have: with a connection that act may be lost."""
+        size = self.zooming.awaited_size() or self.given
+        if size and not self.link.watches:
+            self.type_together(terminal.size_act(size))
 
     def mend(self) -> None:
         """Gives the session the size back that it had before a zoom that a front end has left, and then the one that it has at this

@@ -9,7 +9,7 @@ from collections.abc import Callable
 from roam_live import terminal
 from roam_live.asides import GivenAside, GivenClip
 from roam_live.colours import ASKED
-from roam_live.last_row import ZOOMED, columns, fitted, row_text, tail
+from roam_live.last_row import ZOOMED, columns, fitted, label_at, row_text, tail
 from roam_live.loops import Loop
 from roam_live.places import Rect
 from roam_live.program import Fault, write
@@ -233,11 +233,10 @@ class Display:
         """Asks for a part of the session, or for all of it: for that part with the cursor that is nearest to the first row and column, or,
         where something is drawn over it, for the one that is shown."""
         self.asked, self.is_stale = part, True
-        if part and self.corner:
-            self.says("part {} {} {} {}".format(*self.corner, *part))
-        elif part and self.drawing:
+        if part and (self.corner or self.drawing):
             rows, cols = self.size()
-            top, left = (max(0, min(place, most)) for place, most in zip(self.place, (rows - 1 - part[0], cols - part[1])))
+            top, left = self.corner or (max(0, min(place, most)) for place, most in zip(self.place, (rows - 1 - part[0], cols - part[1])))
+            self.place = top, left
             self.says(f"part {top} {left} {part[0]} {part[1]}")
         else:
             self.says("part {} {}".format(*part) if part else "whole")
@@ -461,11 +460,22 @@ class Display:
             return self.drawing_line
         return "" if self.asked is None or not self.has_row() else self.labels_line(self.outer.size()[1])
 
+    def panes_label(self) -> str:
+        """The labels of the panes, and whether that in focus is zoomed."""
+        return f"{self.labels.rstrip()} {ZOOMED}" if self.zoomed and self.labels else self.labels
+
     def labels_line(self, width: int) -> str:
         """The labels of the panes and of the windows, and at the end of the row which key fits the session to this terminal, where it isn't
         all shown; else the status."""
-        panes = f"{self.labels.rstrip()} {ZOOMED}" if self.zoomed and self.labels else self.labels
-        return row_text(panes, *self.windows, self.status if self.shows_all() else self.fits_line, width)
+        return row_text(self.panes_label(), *self.windows, self.status if self.shows_all() else self.fits_line, width)
+
+    def window_at(self, row: int, col: int) -> int | None:
+        """The place of the window whose label is shown at a row and a column of the terminal, from 1; None where none is."""
+        rows, width = self.outer.size()
+        line = self.labels_line(width)
+        if row != rows or self.cover or self.asked is None or self.line() != line:
+            return None
+        return label_at(line, self.windows[0], len(self.panes_label()), col)
 
     def line_text(self, text: str, width: int) -> str:
         """The last row as it is written: reversed, but for the place behind a line that is typed."""

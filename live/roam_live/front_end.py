@@ -17,7 +17,7 @@ from roam_live.links import LAST_WAIT, Keeper, StartLink
 from roam_live.loops import Loop
 from roam_live.program import Fault, noted_front_end, read, woken
 from roam_live.shells_link import ShellsLink
-from roam_live.visits import Parting, Visit
+from roam_live.visits import Parting, Visit, opened_server
 from roam_live.watches import ShellsWatch
 from roam_live.window_wishes import WindowWishes
 
@@ -66,8 +66,9 @@ class FrontEnd:
         self.parting = Parting(self.loop)
         # The windows of which all was shown as they were left: they follow the terminal then, once the person is there again.
         self.shown_whole: set[int] = set()
+        server = opened_server(session)
         self.visit = self.begun(session)
-        self.watch_server()
+        self.watch_server(server)
         self.visit.shells.brings = brings_to(session, watches)
         self.windows = WindowWishes(self, self.loop)
         self.commands.has_windows(self.windows)
@@ -108,10 +109,10 @@ class FrontEnd:
         """What keys mean in the window."""
         return self.visit.commands
 
-    def watch_server(self) -> None:
-        """Sees the end of the server of the window where the person is."""
+    def watch_server(self, server: int | None) -> None:
+        """Sees the end of the server of the window where the person is, as its process was opened."""
         visit = self.visit
-        visit.watch(self.loop, lambda: self.server_ended(visit))
+        visit.watch(self.loop, server, lambda: self.server_ended(visit))
 
     def server_ended(self, visit: Visit) -> None:
         """Goes on in another window where the server of this one has ended; where there is none the session has."""
@@ -158,6 +159,7 @@ class FrontEnd:
         """Goes to another window, which is shown in place of this one: what was typed here goes on its way. Fault tells why that can't
         be."""
         session = self.visit.session.window(number)
+        server = opened_server(session)
         before, visit = self.visit, self.parting.taken(number)
         (self.shown_whole.add if self.display.shows_all() else self.shown_whole.discard)(before.number)
         self.parting.add(before)
@@ -169,7 +171,7 @@ class FrontEnd:
             visit.shells.follow_on(before.shells)
             visit.commands.has_windows(self.windows)
         self.visit = visit
-        self.watch_server()
+        self.watch_server(server)
         visit.commands.follow_on(before.commands, number in self.shown_whole)
         self.display.begin_window()
         if self.link.peer:
@@ -204,6 +206,7 @@ class FrontEnd:
         loss = self.keeper.connected()
         self.show_window()
         if loss:
+            self.commands.give_again()
             self.display.tell(loss, LOSS_TOLD)
 
     def show_window(self) -> None:

@@ -81,6 +81,22 @@ def marked(labels: list[str], first: int, end: int) -> str:
     return (BEFORE if first else "") + BETWEEN.join(labels[first:end]) + (BEHIND if end < len(labels) else "")
 
 
+def label_at(text: str, labels: list[str], begin: int, col: int) -> int | None:
+    """The place of the label that has a column of a row, from 1, in which labels stand from a character on; None where none has that is shown
+    whole."""
+    for place, label in enumerate(labels):
+        at = text.find(label, begin)
+        while at > 0 and text[at - 1] != " " or at >= 0 and text[at + len(label) : at + len(label) + 1] not in ("", " "):
+            at = text.find(label, at + 1)
+        if at < 0:
+            continue
+        first = columns(text[:at]) + 1
+        if first <= col < first + columns(label):
+            return place
+        begin = at + len(label)
+    return None
+
+
 def row_text(panes: str, labels: list[str], current: int, end: str, width: int) -> str:
     """The row: the labels of the panes, those of the windows of which one is at a place, and what stands at the end. What stands at the end
     goes first; of the rest the panes have room before the windows."""

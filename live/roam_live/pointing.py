@@ -83,6 +83,8 @@ class Pointing:
             self.held.pop(report.number(), None)
         if not holder and not self.border and self.copies(report):
             return
+        if self.is_on and not holder and self.goes(report):
+            return
         if report.is_release:
             self.grasped = None
         elif self.border and not report.moves():
@@ -98,6 +100,17 @@ class Pointing:
             self.point_back(report, places, place)
         elif commands.typing.is_typing():
             self.point(report, places, place, holder)
+
+    def goes(self, report: MouseReport) -> bool:
+        """Goes to the window whose label in the last row a button is held on, and tells whether it does."""
+        commands = self.commands
+        is_press = not report.is_release and not report.moves() and report.number() == 0
+        place = commands.display.window_at(report.row, report.col) if is_press and commands.typing.is_typing() else None
+        if place is None or not commands.windows:
+            return False
+        self.end_drag()
+        commands.windows.go_to(commands.windows.shown[place])
+        return True
 
     def point(self, report: MouseReport, places: Places, place: Place, holder: int = 0) -> None:
         """Goes by a report at a place of the session. The pane whose program was told that a button is held has the reports of that button,

@@ -18,6 +18,12 @@ if TYPE_CHECKING:
     from roam_live.shells_link import ShellsLink
 
 
+def opened_server(session: AnySession) -> int | None:
+    """The process whose end is a window's, as a file that tells of it; None where it isn't known. Fault tells why it can't be had."""
+    process = session.process(session.served)
+    return opened_process(process) if process else None
+
+
 class Visit:
     """The connections of a front end to one window."""
 
@@ -31,12 +37,11 @@ class Visit:
 
     # ---- the server
 
-    def watch(self, loop: Loop, ends: Callable[[], object]) -> None:
-        """Sees the end of the window's server, where its process is known."""
-        process = self.session.process(self.session.served)
-        self.server = opened_process(process) if process else None
-        if self.server is not None:
-            loop.add(self.server, ends)
+    def watch(self, loop: Loop, server: int | None, ends: Callable[[], object]) -> None:
+        """Sees the end of the window's server, as its process was opened."""
+        self.server = server
+        if server is not None:
+            loop.add(server, ends)
 
     def watch_no_more(self, loop: Loop) -> None:
         """Sees that end no more."""

@@ -89,6 +89,8 @@ class WindowWishes:
         self.told = ToldWindows()
         # Where the person was before, the last one at the end.
         self.visited: list[int] = []
+        # The numbers of those whose labels stand in the last row.
+        self.shown: list[int] = []
         # Whether a window is being opened, and what is typed for it.
         self.is_opening = False
         self.held: list[Key] = []
@@ -159,6 +161,7 @@ class WindowWishes:
         """Has the last row show the windows, and what is chosen from a list of them."""
         self.told.seen(self.here())
         numbers, here, last = self.numbers() if self.front.number else [], self.here(), self.last()
+        self.shown = numbers
         labels = [self.told.label(number, here, last) for number in numbers]
         place = numbers.index(here) if here in numbers else 0
         if self.front.display.windows != (labels, place):

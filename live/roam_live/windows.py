@@ -332,11 +332,12 @@ class Windows:
         if runs != window.runs:
             window.runs = runs
             self.lines.tell(f"{RUNS} {window.number} {runs}")
-        if shells.has_news and now >= window.active_at:
+        if shells.has_news and window.has_terminals():
+            # Whoever is there saw it.
             shells.has_news = False
-            if not window.has_terminals():
-                window.active_at = now + APART
-                self.lines.tell(f"{ACTIVITY} {window.number}")
+        elif shells.has_news and now >= window.active_at:
+            shells.has_news, window.active_at = False, now + APART
+            self.lines.tell(f"{ACTIVITY} {window.number}")
         if shells.is_over:
             if not shells.is_meant:
                 self.common.tell(f"window {window.number}: its server was killed, or has failed")

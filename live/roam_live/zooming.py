@@ -61,6 +61,10 @@ class Zooming:
         """Whether a pane is zoomed, or will be soon."""
         return self.pane > 0
 
+    def awaited_size(self) -> Size | None:
+        """The size that the session was asked for, while it may come."""
+        return self.note.asked[-1] if self.awaited else None
+
     def area(self) -> Size:
         """The rows and columns that a pane has to fill."""
         rows, cols = terminal.largest(self.commands.display.room())

@@ -156,7 +156,7 @@ def not_started(outer, shells):
         if keys == b"x":
             check("and a key there tries again", comes(lambda: any(row[40:].startswith("$ ") for row in outer.rows()[12:])), outer.rows)
         else:
-            check("and can be closed", outer.status(" 1 [2]  "), outer.rows)
+            check("and can be closed", outer.status(" 1 [2] 1:"), outer.rows)
     held = [os.readlink(path) for shell in children(shells) for path in pathlib.Path(f"/proc/{shell}/fd").iterdir()]
     check("no shell has the other end of a pane's terminal", not any(path.endswith("ptmx") for path in held), held)
 

@@ -52,10 +52,14 @@ class Person:
         self.typed[self.here] += text
         return text
 
+    def pastes(self, text):
+        """What the terminal sends of a paste there."""
+        return f"\x1b[200~{self.types(text)}\x1b[201~"
+
 
 @scene
 def window_switches(folder):
-    """Two hundred switches with keys typed in one piece round each: none is lost, and none goes to another window."""
+    """Two hundred switches with keys, and pastes, typed in one piece round each: none is lost, and none goes to another window."""
     paths = {window: folder / f"window{window}" for window in (1, 2, 3)}
     outer, chance = Outer(tool("mux", SESSION)), random.Random(SEED)
     check("a session has a window", outer.status("[1] 1:"), outer.rows)
@@ -66,6 +70,8 @@ def window_switches(folder):
         pieces = [person.types(f"<{number}a>"), person.switch(chance), person.types(f"<{number}b>")]
         for _ in range(chance.randrange(3)):
             pieces += [person.switch(chance), person.types(f"<{number}c>")]
+            if chance.random() < 0.2:
+                pieces += [person.pastes(f"[{number}{'p' * chance.choice((9, 60, 3000))}]"), person.types(f"<{number}d>")]
         outer.type("".join(pieces).encode())
     for window, path in paths.items():
         wanted = person.typed[window]

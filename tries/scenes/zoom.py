@@ -58,8 +58,11 @@ def tree(chance):
         panes = list(there().rects)
         if len(panes) < count:
             acts(f"focus {chance.choice(panes)}", chance.choice(("split right", "split down")), f"grow {chance.randint(-6, 6)}")
-    places = there()
-    acts(f"focus {chance.choice(list(places.rects))}")
+    focus = chance.choice(list(there().rects))
+    # What was taken last is told a moment later.
+    acts(f"focus {focus}")
+    time.sleep(0.2)
+    comes(lambda: there().focus == focus)
     return there()
 
 
@@ -258,7 +261,7 @@ def zoom_far(folder):
     outer.shows("$ ")
     outer.type(b"\x02%")
     outer.status(" 1 [2]")
-    panes = far / "roam" / "other" / "panes"
+    panes = far / "roam" / "other" / "w" / "1" / "panes"
     before = asked_places(panes)
     outer.type(b"\x02z")
     check("it fills the terminal", outer.status(" 1 [2] Z") and asked_places(panes).rects[2][2:] == (23, 80), outer.rows)
@@ -311,6 +314,7 @@ def is_zoomed(outer):
 def moved(outer, pane, side):
     """What comes of a key for a border of a pane: it is `moved` by one, with the focus where it was, or it is `told` why not, or it is `odd`."""
     acts(f"focus {pane}")
+    comes(lambda: there().focus == pane)
     before = there()
     comes(lambda: outer.rows()[-1].startswith(before.labels()))
     outer.type(KEYS[side])

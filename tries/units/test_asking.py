@@ -1,5 +1,6 @@
 """Asking for a sealed path: names, keys and notes; a process that outlives its command; and where the other end is looked for."""
 import errno
+import gc
 import os
 import pathlib
 import signal
@@ -186,6 +187,8 @@ class Parted(Case):
 
     def test_refused(self):
         """Where the system refuses a pipe or a process, none is made."""
+        # What other tests left is closed before.
+        gc.collect()
         before = len(os.listdir("/proc/self/fd"))
         with mock.patch("os.pipe", side_effect=OSError(errno.EMFILE, "no")):
             self.assertIsNone(part_from_command(()))

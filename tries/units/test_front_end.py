@@ -389,7 +389,7 @@ class Loop(Fronts):
         reader, writer = self.pipe()
         self.place.processes["server"] = 1
         with mock.patch.object(visits, "opened_process", return_value=reader):
-            self.front.watch_server()
+            self.front.watch_server(visits.opened_server(self.place))
         os.close(writer)
         self.turn(1)
         self.assertEqual((self.front.left, self.front.status), ("[the session has ended]", 0))

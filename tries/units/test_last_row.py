@@ -1,7 +1,7 @@
 """The text of the last row: what is cut where it is narrow, and which windows are shown there."""
 import unittest
 
-from roam_live.last_row import columns, cut, fitted, row_text, tail, window_label, windows_shown
+from roam_live.last_row import columns, cut, fitted, label_at, row_text, tail, window_label, windows_shown
 
 # A text, a width, and what of it has room; what is wide is two columns.
 CUTS = (("abc", 5, "abc"), ("abc", 3, "abc"), ("abc", 2, "ab"), ("abc", 0, ""), ("abc", -1, ""), ("中文", 4, "中文"), ("中文", 3, "中"),
@@ -38,6 +38,15 @@ class LastRow(unittest.TestCase):
         for width, place, wanted in SHOWN:
             self.assertEqual(windows_shown(LABELS, place, width), wanted, (width, place))
         self.assertEqual((windows_shown([], 0, 9), window_label(3, "", "*"), window_label(3, "a b", "")), ("", "3*", "3:a b"))
+
+    def test_pointed(self):
+        """A label that is shown whole has its columns, a wide character two."""
+        text = row_text("[1]", LABELS, 1, "", 40)
+        found = [label_at(text, LABELS, 3, col) for col in range(1, 41)]
+        self.assertEqual(found, [None] * 4 + [0] * 7 + [None] + [1] * 6 + [None] + [2] * 6 + [None] + [3] * 7 + [None] * 7)
+        labels = ["1:sh", "2:sh*", "11:sh", "22:sh"]
+        self.assertEqual([label_at("< 2:sh* 11:sh >", labels, 0, col) for col in (1, 3, 9, 10, 14)], [None, 1, 2, 2, None])
+        self.assertEqual(label_at("< 11:sh >", labels, 0, 4), 2)
 
     def test_many(self):
         """Of 99 windows that is shown in any width which is of this terminal."""

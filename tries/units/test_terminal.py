@@ -2,6 +2,7 @@
 import contextlib
 import errno
 import fcntl
+import gc
 import os
 import pty
 import select
@@ -166,6 +167,8 @@ class Commands(Case):
 
     def test_not_forked(self):
         """Where no process or no size is to be had nothing is left open."""
+        # What other tests left is closed before.
+        gc.collect()
         before = sorted(os.listdir("/proc/self/fd"))
         for name in ("os.fork", "roam_live.terminal.set_size"):
             with mock.patch(name, side_effect=OSError(11, "none")), self.assertRaises(OSError):

@@ -1,10 +1,11 @@
 """A person's front end of a session with windows, whose starts and keeper are played: where what is typed goes, and what is asked for."""
 import os
 import pty
+from unittest import mock
 
 from aids import Case, StillLoop, closed, read_now, record
 from emulated import Emulated
-from roam_live import front_end, terminal
+from roam_live import front_end, terminal, visits
 from roam_live.front_end import FrontEnd
 from roam_live.keys import acts_of_bytes
 from roam_live.program import Fault
@@ -118,8 +119,8 @@ class Windows(Case):
             self.front.turn()
             for number, window in self.windows.items():
                 for start in self.accepted(window.starts):
-                    start.send(b"\ntold\n")
                     self.starts[start] = number, 0
+                    self.send(start, b"\ntold\n")
                 self.keepers += [(peer, number) for peer in self.accepted(window.shells)]
             for start in list(self.starts) if paints else []:
                 self.answer(start)
@@ -222,6 +223,14 @@ class Switches(Windows):
         self.assertEqual((self.typed[1], self.rows()[1]), ("ab", "there is no window 5"))
         self.type(b"\x02lcd")
         self.assertEqual((self.typed[1], self.rows()[1]), ("abcd", "there is no last window"))
+
+    def test_not_had(self):
+        """A window of which the system refuses what is needed isn't gone to: all stays as it is, and says why."""
+        self.windows[2].processes["server"] = 1
+        with mock.patch.object(visits, "opened_process", side_effect=Fault("no descriptor is left")):
+            self.type(b"a\x022b")
+        self.assertEqual((self.front.number, self.typed, self.rows()[1]), (1, {1: "ab", 2: ""}, "no descriptor is left"))
+        self.assertEqual(self.front.parting.visits, {})
 
     def test_not_painted(self):
         """Until a window is painted nothing of it is shown, and a moment later nothing of the one before."""
@@ -480,6 +489,24 @@ class Named(Windows):
         self.assertEqual([line.rstrip() for line in self.emulated.lines()][:2], ["1:sh*", ""])
         self.type(b"qz")
         self.assertEqual(self.typed[1], "yz")
+
+
+class Pointed(Windows):
+    """Where roam has the mouse a label goes to its window."""
+
+    def test_labels(self):
+        """What is told there has no labels, and nothing is pointed at."""
+        self.tell_list()
+        for is_on, wanted in ((False, 1), (True, 2)):
+            self.front.commands.pointing.is_on = is_on
+            self.type(b"\x1b[<0;8;24M\x1b[<0;8;24mx")
+            self.assertEqual(self.front.number, wanted)
+        self.assertEqual(self.typed, {1: "x", 2: "x"})
+        self.front.display.tell("[1] 1- 2*")
+        self.type(b"\x1b[<0;5;24My")
+        self.front.display.end_told()
+        self.type(b"\x1b[<0;5;23M\x1b[<0;5;23m")
+        self.assertEqual((self.front.number, self.typed[2]), (2, "xy"))
 
 
 class Hidden(Windows):
