@@ -22,8 +22,9 @@ from roam_live.window_processes import NUMBER, WINDOWS, WINDOWS_VERSION, note_en
 
 NAME = re.compile(r"[A-Za-z0-9_-]{1,32}")
 
-# What stands here for a session of another machine: ssh, the host, the session, and a number where ssh is called in another way.
-NEAR_NAME = re.compile(r"ssh:[A-Za-z0-9_.@-]{1,128}:[A-Za-z0-9_-]{1,32}(:[0-9a-f]{8})?")
+# What stands here for a session of another machine: ssh, the host, the session, its window where one was named, and a number where ssh is
+# called in another way.
+NEAR_NAME = re.compile(r"ssh:[A-Za-z0-9_.@-]{1,128}:[A-Za-z0-9_-]{1,32}(?::(?P<window>[1-9]\d?))?(:[0-9a-f]{8})?", re.ASCII)
 
 # A socket's path has at most so many bytes.
 LONGEST_PATH = 107
@@ -646,7 +647,8 @@ class NearSession(FolderSession):
 
     def window(self, number: int | None = None) -> FolderSession:
         """Its one window: which of the other machine's it is was said where it was attached to."""
-        if number is not None:
+        named = NEAR_NAME.fullmatch(self.folder.name)
+        if number is not None and str(number) != (named and named["window"]):
             raise Fault(f"session {self.name} is of another machine: other windows of it can't be had here yet, but by `mux ssh HOST "
                         f"NAME:{number}`")
         return self
