@@ -550,6 +550,7 @@ class Window(FolderSession):
     the session's."""
 
     version = WINDOWS_VERSION
+    sockets = {"server": "clients", "terminals": "terminals"}
 
     def __init__(self, session: WindowedSession, number: int, server: int | None = None) -> None:
         super().__init__(session.folder_of_windows / str(number), f"{session.name}:{number}", server)
@@ -584,10 +585,6 @@ class Window(FolderSession):
             return self.session.process(role)
         return super().process(role)
 
-    def find(self) -> bool:
-        """Whether it runs: as is noted, or as the process tells that answers at its socket."""
-        return super().find()
-
     def busy(self) -> dict[int, str] | None:
         """The panes in which another program than a shell runs, and its name."""
         from roam_live.programs import busy_panes
@@ -615,6 +612,11 @@ class Window(FolderSession):
     def launch(self, command: Iterable[str] = ()) -> None:
         """Refuses: what keeps the session's windows opens them."""
         raise Fault(f"session {self.session.name}: what keeps its windows opens them")
+
+    def demand_terminals(self, earlier: int | None = None) -> None:
+        """Sees that the start of this machine's terminals runs, and is ready; what was found by its sockets is noted again."""
+        self.note_found()
+        super().demand_terminals(earlier)
 
     def demand_shells(self) -> None:
         """Sees that what keeps the session's windows runs."""
