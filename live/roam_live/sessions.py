@@ -22,8 +22,9 @@ from roam_live.window_processes import NUMBER, WINDOWS, WINDOWS_VERSION, note_en
 
 NAME = re.compile(r"[A-Za-z0-9_-]{1,32}")
 
-# What stands here for a session of another machine: ssh, the host, the session, and a number where ssh is called in another way.
-NEAR_NAME = re.compile(r"ssh:[A-Za-z0-9_.@-]{1,128}:[A-Za-z0-9_-]{1,32}(:[0-9a-f]{8})?")
+# What stands here for a session of another machine: ssh, the host, the session, its window where one was named, and a number where ssh is
+# called in another way.
+NEAR_NAME = re.compile(r"ssh:[A-Za-z0-9_.@-]{1,128}:[A-Za-z0-9_-]{1,32}(?::(?P<window>[1-9]\d?))?(:[0-9a-f]{8})?", re.ASCII)
 
 # A socket's path has at most so many bytes.
 LONGEST_PATH = 107
@@ -407,7 +408,7 @@ class WindowedSession(FolderSession):
         there = self.windows()
         found = [window for window in there if window.number == (self.last() if number is None else number)]
         if not found and (number is not None or not there):
-            raise Fault(f"session {self.name} has no window{'' if number is None else f' {number}'}")
+            raise Fault(f"session {self.name} has no window {number}" if number is not None else f"session {self.name} has ended")
         return (found or there)[0]
 
     def last(self) -> int:
@@ -456,7 +457,8 @@ class WindowedSession(FolderSession):
         before = self.logged()
         with self.whole():
             self.spawn_shells()
-            self.wait_for("shells", before, self.is_ready)
+            # A command that ends at once may have ended it already.
+            self.wait_for("shells", before, lambda: self.is_ready() or self.own["shells"].poll() == 0)
 
     def spawn_shells(self, more: Iterable[str] = ()) -> None:
         """Spawns what keeps its windows."""
@@ -472,8 +474,9 @@ class WindowedSession(FolderSession):
             self.wait_for("shells", before, self.is_ready)
 
     def demand_terminals(self, earlier: int | None = None) -> None:
-        """Sees that the start of the window runs where somebody was last."""
-        self.window().demand_terminals(earlier)
+        """Sees that the start of the window runs where somebody was last, while there is one."""
+        if self.windows():
+            self.window().demand_terminals(earlier)
 
     def revive_shells(self) -> bool:
         """Spawns what keeps its windows anew where it has ended, and takes them over; tells whether it runs."""
@@ -547,6 +550,7 @@ class Window(FolderSession):
     the session's."""
 
     version = WINDOWS_VERSION
+    sockets = {"server": "clients", "terminals": "terminals"}
 
     def __init__(self, session: WindowedSession, number: int, server: int | None = None) -> None:
         super().__init__(session.folder_of_windows / str(number), f"{session.name}:{number}", server)
@@ -581,10 +585,6 @@ class Window(FolderSession):
             return self.session.process(role)
         return super().process(role)
 
-    def find(self) -> bool:
-        """Whether it runs: as is noted, or as the process tells that answers at its socket."""
-        return super().find()
-
     def busy(self) -> dict[int, str] | None:
         """The panes in which another program than a shell runs, and its name."""
         from roam_live.programs import busy_panes
@@ -612,6 +612,11 @@ class Window(FolderSession):
     def launch(self, command: Iterable[str] = ()) -> None:
         """Refuses: what keeps the session's windows opens them."""
         raise Fault(f"session {self.session.name}: what keeps its windows opens them")
+
+    def demand_terminals(self, earlier: int | None = None) -> None:
+        """Sees that the start of this machine's terminals runs, and is ready; what was found by its sockets is noted again."""
+        self.note_found()
+        super().demand_terminals(earlier)
 
     def demand_shells(self) -> None:
         """Sees that what keeps the session's windows runs."""
@@ -644,7 +649,8 @@ class NearSession(FolderSession):
 
     def window(self, number: int | None = None) -> FolderSession:
         """Its one window: which of the other machine's it is was said where it was attached to."""
-        if number is not None:
+        named = NEAR_NAME.fullmatch(self.folder.name)
+        if number is not None and str(number) != (named and named["window"]):
             raise Fault(f"session {self.name} is of another machine: other windows of it can't be had here yet, but by `mux ssh HOST "
                         f"NAME:{number}`")
         return self

@@ -7,7 +7,7 @@ import subprocess
 import time
 import xml.etree.ElementTree
 
-from tried import Outer, PROGRAM, check, children, comes, listed, noted, scene, tool, window_of
+from tried import Outer, PROGRAM, check, children, comes, listed, noted, said, scene, tool, window_of
 from roam_live.program import TOOLS
 
 
@@ -116,6 +116,31 @@ def is_asked(outer):
     holds = outer.status("close whatever runs in pane 2? y closes it", 2)
     outer.type(b"" if holds else b"n")
     return holds
+
+
+@scene
+def far_window(folder):
+    """`mux ssh` shows the window that is named, which can't have others here; another window's end is none of its own."""
+    far = folder / "far"
+    words, there = ssh_words(folder, far, folder / "asked"), {**os.environ, "XDG_RUNTIME_DIR": str(far)}
+    for more in (("new", "-d", "other"), ("new-window", "other"), ("new-window", "other"), ("send", "-l", "echo sec''ond\r", "other:2")):
+        subprocess.run(tool("mux", *more), env=there, stdout=subprocess.DEVNULL, check=True)
+    outer = Outer([*words[:-1], "other:2"])
+    check("mux ssh shows the window that is named", outer.shows("second"), outer.rows)
+    outer.type(b"\x02c")
+    check("which tells that it can't have others here", outer.status("this session has one window"), outer.rows)
+    name = next(path.name for path in pathlib.Path(os.environ["XDG_RUNTIME_DIR"], "roam").glob("ssh:*"))
+    told = said("capture", name)
+    check("it has a name of its own here", name.startswith("ssh:there:other:2:") and told[0] == 0 and "second" in told[1], (name, told))
+    subprocess.run(tool("mux", "kill", "other:3"), env=there, check=True)
+    outer.type(b"echo st''ays\r")
+    check("it goes on where another window is shut", outer.shows("stays"), outer.rows)
+    subprocess.run(tool("mux", "kill", "other:2"), env=there, check=True)
+    is_told = outer.ends() and outer.process.returncode == 0 and outer.shows("[the session has ended]")
+    check("its own end is told here", is_told, outer.rows)
+    left = subprocess.run(tool("mux", "list-windows", "other"), env=there, stdout=subprocess.PIPE, check=False).stdout.decode()
+    check("and the rest goes on there", left.split()[:1] == ["1"], left)
+    subprocess.run(tool("mux", "kill", "-f", "other"), env=there, check=True)
 
 
 @scene

@@ -146,6 +146,22 @@ class Named(Sessions):
             self.assertEqual(programs.pane_in(value), programs.NOWHERE, value)
 
 
+class Near(Sessions):
+    """Windows of another machine's session: each that is attached to stands here by itself."""
+
+    def test_near(self):
+        for name in ("ssh:h:n", "ssh:h:n:2", "ssh:h:n:2:0123abcd", "ssh:h:n:0123abcd"):
+            (self.base / name).mkdir()
+        for word, name in (("ssh:h:n", "ssh:h:n"), ("ssh:h:n:2.1", "ssh:h:n:2"), ("ssh:h:n:3", "ssh:h:n"),
+                           ("ssh:h:n:2:0123abcd", "ssh:h:n:2:0123abcd"), ("ssh:h:n:0123abcd:2", "ssh:h:n:0123abcd")):
+            self.assertEqual(session_of(target_of(word)).folder.name, name, word)
+        one = session_named("ssh:h:n:2")
+        self.assertEqual((one.window(2), one.window(), one.number), (one, one, 0))
+        for session in (one, session_named("ssh:h:n")):
+            with self.assertRaisesRegex(Fault, "of another machine: other windows of it can't be had here yet"):
+                session.window(3)
+
+
 class Asked(Sessions):
     """What commands ask of a keeper, which is played."""
 
