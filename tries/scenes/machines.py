@@ -289,7 +289,7 @@ def far_alone(folder):
         time.sleep(1)
         check("and nothing shrinks", listed()[1:4] == ["20", "by", "60"], listed)
         outer.resize(20, 60)
-        outer.status("[1]".ljust(60))
+        outer.status("[1] 1:")
         second.type(b"\x02d")
         check("the second leaves", second.ends() and second.is_restored(), second.rows)
     time.sleep(1)
