@@ -60,9 +60,9 @@ INTERRUPT = "\x03"
 
 # So many seconds a line stands.
 SAID = 2.0
-ONE = "this session has one window, and can't have others"
-FAR = f"{ONE}: it is of another machine"
-EARLIER = f"{ONE}: it was begun by an earlier roam, or by hand"
+ONE = "no other window can be had here"
+FAR = f"{ONE}: the session is another machine's"
+EARLIER = f"{ONE}: the session is an earlier roam's, or by hand"
 NOBODY = "what keeps the windows isn't there just now"
 LATE = "no window is opened yet: what keeps them is silent"
 DROPPED = "; keys for it are dropped"

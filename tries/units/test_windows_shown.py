@@ -10,7 +10,7 @@ from roam_live.front_end import FrontEnd
 from roam_live.keys import acts_of_bytes
 from roam_live.program import Fault
 from roam_live.choosing import WINDOWS_LINE
-from roam_live.window_wishes import DROPPED, EARLIER, LATE, OPENS
+from roam_live.window_wishes import DROPPED, EARLIER, FAR, LATE, OPENS
 from test_display import PlayedPanes, painting, places
 from test_front_end import AnySession
 
@@ -338,6 +338,18 @@ class Opened(Windows):
         self.tell("bad line")
         self.type(b"\x02ca")
         self.assertEqual((self.front.display.told, self.typed[1]), (EARLIER, "a"))
+
+    def test_far(self):
+        """A session that is no window of several has one alone, and which of another machine is said so; nothing is asked of its keeper."""
+        for served, words in (("server", EARLIER), ("relay", FAR)):
+            self.starts.clear()
+            self.keepers.clear()
+            self.place.number, self.place.served = 0, served
+            self.front_of()
+            self.type(b"\x02ca\x022b\x02n\x02&")
+            self.assertEqual((self.front.display.told, self.rows()[1], self.typed), (words, words, {1: "ab", 2: ""}))
+            self.assertNotIn("windows", self.said())
+            self.typed[1] = ""
 
     def test_watches(self):
         """Who only watches goes from one to another, and changes none."""
