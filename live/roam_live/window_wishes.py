@@ -12,7 +12,7 @@ from roam_live.mouse import MOUSE
 from roam_live.program import Fault, reason
 from roam_live.programs import told
 from roam_live.terminal import LEAST, is_large_enough, largest
-from roam_live.window_lines import LONGEST_BYTES, LONGEST_NAME, MOST_WINDOWS, name_word
+from roam_live.window_lines import BELL, LONGEST_BYTES, LONGEST_NAME, MOST_WINDOWS, name_word
 from roam_live.windows_link import ToldWindows, WindowsLink
 from roam_live.words import printable
 
@@ -144,11 +144,10 @@ class WindowWishes:
             if opened:
                 self.opened(int(opened["window"] or 0), printable(opened["why"] or ""))
                 continue
-            rang = self.told.rung - {self.here()}
-            gone = self.told.take(line) or []
-            if self.told.rung - rang - {self.here()}:
+            gone = self.told.take(line)
+            if gone is not None and line.startswith(f"{BELL} ") and not line.startswith(f"{BELL} {self.here()} "):
                 self.front.display.ring()
-            for number in gone:
+            for number in gone or ():
                 self.gone(number)
         self.show()
 

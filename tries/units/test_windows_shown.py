@@ -368,7 +368,10 @@ class Told(Windows):
     def test_flags(self):
         """What rang, and what was written, is shown until the person is there."""
         self.tell_list()
-        self.tell("bell 2 1", "activity 2", "runs 1 vim", "runs 2 sh", "bell 1 1")
+        rings = self.patch_of(self.front.display, "ring")
+        self.tell("bell 2 1", "activity 2", "runs 1 vim", "runs 2 sh", "bell 1 1", "bell 2 1", "bell 0 1")
+        # The one where the person is rings by its own socket.
+        self.assertEqual(rings.call_count, 2)
         self.assertEqual(self.rows()[1], "[1] 1:vim* 2:sh#!")
         self.type(b"\x022")
         self.assertEqual(self.rows()[1], "[1] 1:vim- 2:sh*")
