@@ -136,8 +136,8 @@ class Display:
         self.may_be_whole = False
         self.asked: terminal.Size | None = None
         self.painted_size, self.place = NO_SIZE, (0, 0)
-        # The rectangle of the session that alone is shown, where a pane is zoomed, and the corner that was asked for; and whether nothing new is
-        # shown until the session has the size that it is to have.
+        # The rectangle of the session that alone is shown, where a pane is zoomed, and the corner that was asked for; and whether nothing
+        # new is shown until the session has the size that it is to have.
         self.zoomed: Rect | None = None
         self.corner: tuple[int, int] | None = None
         self.is_held = False
