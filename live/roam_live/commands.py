@@ -625,8 +625,8 @@ class Commands:
         self.showed_all, self.left_size = False, NO_SIZE
 
     def follows(self, size: terminal.Size, own: terminal.Size, showed_all: bool) -> bool:
-        """Whether the session follows this terminal: it grows where nobody else types, and a lone terminal that showed all of it is followed
-        to any size. Nothing else makes one smaller, but the end of a zoom."""
+        """Whether the session follows this terminal: it grows where nobody else types, and a lone one that showed all of it is followed to
+        any size. Nothing else makes one smaller, but the end of a zoom."""
         is_smaller = own[0] < size[0] or own[1] < size[1]
         return showed_all and self.is_alone() if is_smaller else not self.has_others()
 

@@ -1,5 +1,5 @@
-"""A pane that fills the terminal, with real programs, and the way back; borders that are moved by keys; and what follows where a front end is
-killed meanwhile."""
+"""A pane that fills the terminal, with real programs, and the way back; borders that are moved by keys; and what follows where a front end
+is killed meanwhile."""
 import os
 import random
 import shutil
@@ -19,7 +19,7 @@ from roam_live.places import asked_places
 from roam_live.terminal import MOST
 
 # The command of a pane that writes rows at its begin, and nothing more; so many there are, at most.
-STILL = "i=0; while [ $i -lt 30 ]; do i=$((i+1)); echo row $i of some rows that stand in a pane as they were written; done; exec sleep 10000"
+STILL = "i=0; while [ $i -lt 30 ]; do i=$((i+1)); echo row $i of some that stand in a pane as they were written; done; exec sleep 10000"
 
 # So many panes has a tree by chance; so many trees there are of each size, and where borders are moved, and in `tries/try_zoom` (TREES).
 FEWEST, MOST_PANES = 2, 6
@@ -109,7 +109,8 @@ def zoomed_back(size):
         exact += (there().rects, there().focus) == (before.rects, before.focus)
         rows += still_cells().cells == cells.cells
     count = TREES["zoom"]
-    print(f"        seed {SEED}, {size[0]} by {size[1]}: fills the terminal in {full} of {count}, {large} at the session's limits", flush=True)
+    told = f"fills the terminal in {full} of {count}, {large} at the session's limits"
+    print(f"        seed {SEED}, {size[0]} by {size[1]}: {told}", flush=True)
     check(f"in all {count} trees the pane fills the terminal, or has all that 200 by 500 give it", full + large == count, (full, large))
     check("nothing else is shown in any", alone == count, alone)
     check("on the way back all panes are where they were in all", exact == count, exact)
@@ -151,8 +152,8 @@ def zoom_programs(folder):
         check("its cells are shown, and nothing else", comes(lambda: shows_part(outer, 3)), outer.rows)
         if name == "vim":
             outer.type(report(0, 7, 13) + report(0, 7, 13, True))
-            check("a click puts its cursor there", outer.shows("7,13") and comes(lambda: (outer.emulation().row, outer.emulation().col) == (6, 12)),
-                  outer.rows)
+            is_there = comes(lambda: (outer.emulation().row, outer.emulation().col) == (6, 12))
+            check("a click puts its cursor there", is_there and outer.shows("7,13"), outer.rows)
             outer.type(b"ix\x1bGo")
         else:
             outer.type(report(0, 23, 3) + report(0, 23, 3, True))
@@ -170,7 +171,8 @@ def zoom_ends(folder):
     """What ends a zoom: keys of this person, deeds of others, leaving, and the next attach where a front end was killed."""
     outer = three_panes()
     before = there()
-    for keys, label, focus in ((b"\x02o", " 1 [2] 3", 2), (b"\x02;", "[1] 2  3", 1), (b"\x02\x1b[C", " 1 [2] 3", 2), (b"\x02q1", "[1] 2  3", 1)):
+    for keys, label, focus in ((b"\x02o", " 1 [2] 3", 2), (b"\x02;", "[1] 2  3", 1), (b"\x02\x1b[C", " 1 [2] 3", 2),
+                               (b"\x02q1", "[1] 2  3", 1)):
         outer.type(b"\x02z")
         outer.shows("Z")
         outer.type(keys)
@@ -312,7 +314,7 @@ def is_zoomed(outer):
 
 
 def moved(outer, pane, side):
-    """What comes of a key for a border of a pane: it is `moved` by one, with the focus where it was, or it is `told` why not, or it is `odd`."""
+    """What comes of a key for a border of a pane: it is `moved` by one, with the focus where it was, or `told` why not, or it is `odd`."""
     acts(f"focus {pane}")
     comes(lambda: there().focus == pane)
     before = there()
@@ -326,7 +328,10 @@ def moved(outer, pane, side):
     goes = [then + step == now for then, now in zip(edges(before.rects[pane], side), edges(after.rects[pane], side))]
     if after.focus == pane and after.rects != before.rects and any(goes):
         return "moved"
-    return "told" if after.focus == pane and after.rects == before.rects and is_told else "odd"
+    if after.focus == pane and after.rects == before.rects and is_told:
+        return "told"
+    print(f"        odd: {side} of {pane} in {before}, then {after}, {outer.rows()[-1]!r}", flush=True)
+    return "odd"
 
 
 def is_line(outer):
