@@ -323,7 +323,7 @@ class WindowWishes:
         """Asks for the name of the window where the person is."""
         number = self.here()
         asked = AskedName(number, self.told.names.get(number, ""))
-        self.front.commands.ask_line(asked, lambda text: self.say(f"name {number} {name_word(text)}"))
+        self.front.commands.prompts.ask_line(asked, lambda text: self.say(f"name {number} {name_word(text)}"))
 
     def ask_shut(self) -> None:
         """Shuts the window where the person is: once that is confirmed, where something runs there, or it is the last."""
@@ -334,4 +334,4 @@ class WindowWishes:
             self.say(f"shut {number}")
             return
         end = " and end the session, whose last it is" if is_last else ""
-        self.front.commands.ask(f"shut window {number}{runs}{end}? y shuts it", lambda: self.say(f"shut {number}"))
+        self.front.commands.prompts.ask(f"shut window {number}{runs}{end}? y shuts it", lambda: self.say(f"shut {number}"))

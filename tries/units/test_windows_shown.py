@@ -460,7 +460,7 @@ class Named(Windows):
             self.type(leaves)
             self.now += 0.1
             self.turn()
-            self.assertEqual((self.said(), self.front.display.question), ([], ""))
+            self.assertEqual((self.said(), self.front.display.prompt), ([], ""))
 
     def test_pasted_name(self):
         """Of a paste the first line is a name; one with escapes is none, and no name is longer than a line may be."""
