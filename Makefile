@@ -46,6 +46,7 @@ try: all
 	tries/two_processes
 	tries/run -j "$$(nproc)"
 	tries/try_faults
+	tries/try_windows
 
 PREFIX ?= /usr/local
 installed = $(DESTDIR)$(PREFIX)
