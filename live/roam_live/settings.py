@@ -120,7 +120,7 @@ class FileSettings:
         line = 0
         for command in commands:
             line, word = command.line, command.words[0]
-            if isinstance(word, str) and word in CONDITIONS:
+            if command.is_condition and word in CONDITIONS:
                 self.branch(stack, command, name)
             elif all(branches.is_read for branches in stack):
                 try:

@@ -33,7 +33,16 @@ OTHER_NAMES = {"ic": "insert", "dc": "delete", "ppage": "pageup", "pgup": "pageu
 
 
 class BadWord(Exception):
-    """What a command says can't be had; why, in words."""
+    """What a command says can't be had; why, in words. Of what can't be read it may have the line."""
+
+    line = 0
+
+
+def bad_word(words: str, line: int) -> BadWord:
+    """What can't be read from a line on."""
+    fault = BadWord(words)
+    fault.line = line
+    return fault
 
 
 class Block(namedtuple("Block", "commands")):
@@ -42,15 +51,16 @@ class Block(namedtuple("Block", "commands")):
     commands: list[FileCommand]
 
 
-class FileCommand(namedtuple("FileCommand", "line words")):
-    """A command: the line at which it begins, and its words, or a condition's, which begin with `%`."""
+class FileCommand(namedtuple("FileCommand", "line words is_condition", defaults=(False,))):
+    """A command: the line at which it begins, and its words; or of a condition its word, which begins with `%`, and the rest."""
 
     line: int
     words: list[Word]
+    is_condition: bool
 
 
 class SettingsReader:
-    """Reads a text into commands. What can't be read ends at the line's end, and is told with its line."""
+    """Reads a text into commands. What can't be read is told with its line, at whose end it ends; a brace that isn't closed ends all."""
 
     def __init__(self, text: str, environment: dict[str, str], tells: Callable[[int, str], object]) -> None:
         self.environment, self.tells = environment, tells
@@ -68,7 +78,6 @@ class SettingsReader:
     def commands(self, depth: int = 0) -> Iterator[FileCommand]:
         """The commands up to the end, or of a block up to its brace: each is read once those before it are taken, which set variables."""
         while self.next():
-            begin = self.at
             try:
                 if self.next() == "}" and depth:
                     break
@@ -76,8 +85,7 @@ class SettingsReader:
             except BadWord as fault:
                 if depth:
                     raise
-                self.at = begin
-                self.tells(self.line(), str(fault))
+                self.tells(fault.line or self.line(), str(fault))
                 self.skip_line()
                 continue
             if command.words:
@@ -103,7 +111,7 @@ class SettingsReader:
         begin = self.at
         self.skip_line()
         word, _, rest = self.text[begin : self.at].strip().partition(" ")
-        return FileCommand(line, [word, rest.strip()])
+        return FileCommand(line, [word, rest.strip()], True)
 
     def skip_blanks(self) -> None:
         """Goes on behind blanks."""
@@ -132,10 +140,11 @@ class SettingsReader:
         """The block that begins here."""
         if depth > DEEPEST:
             raise BadWord("braces stand too deep in one another")
+        line = self.line()
         self.at += 1
         commands = list(self.commands(depth))
         if self.next() != "}":
-            raise BadWord("a brace isn't closed")
+            raise bad_word("a brace isn't closed", line)
         self.at += 1
         return Block(commands)
 
@@ -162,10 +171,11 @@ class SettingsReader:
 
     def quoted(self) -> str:
         """What stands between double quotes."""
+        begin, parts = self.at, list[str]()
         self.at += 1
-        parts: list[str] = []
         while self.next() != '"':
             if not self.next():
+                self.at = begin
                 raise BadWord("a quote isn't closed")
             parts.append(self.plain())
         self.at += 1

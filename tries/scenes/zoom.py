@@ -319,11 +319,12 @@ def moved(outer, pane, side):
     comes(lambda: there().focus == pane)
     before = there()
     comes(lambda: outer.rows()[-1].startswith(before.labels()))
+    comes(lambda: not is_told_in(outer.rows()[-1]), 4)
+    begin = len(outer.written)
     outer.type(KEYS[side])
-    comes(lambda: there().rects != before.rects or is_line(outer), 3)
+    comes(lambda: is_told_in(outer.written[begin:].decode(errors="replace")) or there().rects != before.rects, 5)
     time.sleep(0.05)
-    after, is_told = there(), is_line(outer)
-    comes(lambda: not is_line(outer), 4)
+    after, is_told = there(), is_told_in(outer.written[begin:].decode(errors="replace"))
     step = 1 if side in ("right", "down") else -1
     goes = [then + step == now for then, now in zip(edges(before.rects[pane], side), edges(after.rects[pane], side))]
     if after.focus == pane and after.rects != before.rects and any(goes):
@@ -334,9 +335,9 @@ def moved(outer, pane, side):
     return "odd"
 
 
-def is_line(outer):
-    """Whether a line stands in the last row that tells why a border doesn't go."""
-    return any(words in outer.rows()[-1] for words in ("no border", NO_PANE[:20], "as far as it can be"))
+def is_told_in(text):
+    """Whether a text tells why a border doesn't go."""
+    return any(words in text for words in ("no border", NO_PANE[:20], "as far as it can be"))
 
 
 def edges(rect, side):

@@ -228,15 +228,14 @@ class Lines(unittest.TestCase):
 
     def test_bounds(self):
         """Long words, and braces that stand deep in one another, are told and cost little."""
-        for text in ("set -g status-left " + "x" * 100_000, "a { " * 1000, "a '" + "x" * 100_000, "${" * 1000, "\\" * 1001,
-                     "{ " * 50 + "} " * 50):
-            found = taken(text)
-            self.assertLessEqual(len(found.told), 2, text[:20])
+        for text, count in (("set -g status-left " + "x" * 100_000, 1), ("a { " * 1000, 1), ("a '" + "x" * 100_000, 1), ("${" * 1000, 1),
+                            ("\\" * 1001, 1), ("{ " * 50 + "} " * 50, 1), ("a {\n" * 1000, 48), ("x \"\n" * 1001, MOST_TOLD)):
+            self.assertEqual(len(taken(text).told), count, text[:20])
 
     def test_keys(self):
         """Keys by their names."""
         for name, wanted in (("a", "a"), ("A", "A"), ("C-a", "C-a"), ("C-A", "C-a"), ("^a", "C-a"), ("M-S-x", "M-S-x"),
-                             ("S-M-Up", "M-S-up"), ("C-M-Left", "C-M-left"), ("Space", "space"), ("NPage", "pagedown"), ("F12", "f12"), ("-", "-"),
+                             ("S-M-Up", "M-S-up"), ("C-M-Left", "C-M-left"), ("-", "-"), ("NPage", "pagedown"), ("F12", "f12"),
                              ("C--", "C--"), ("M-", None), ("F13", None), ("", None), ("\x1b", None), ("MouseUp1Status", None),
                              ("\u00e9", "\u00e9"), ("^", "^")):
             if wanted is None:
