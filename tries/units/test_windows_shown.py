@@ -184,8 +184,14 @@ class Switches(Windows):
     """From one window to another."""
 
     def test_round(self):
-        """Keys behind a switch in one read go to the window where the person went, and those before it to the other, in order."""
+        """Keys behind a switch in one read go to the window where the person went, and those before it to the other, in order. Nothing is left
+        of a window that was left."""
+        self.type(b"\x022\x021")
+        self.turn()
+        has = len(self.loop.sources), len(self.loop.before), sorted(self.loop.due)
         self.type(b"ab\x022cd\x021ef\x02lgh\x02pij\x02nkl\x022mn")
+        self.turn()
+        self.assertEqual((len(self.loop.sources), len(self.loop.before), sorted(self.loop.due)), has)
         self.assertEqual(self.typed, {1: "abefij", 2: "cdghklmn"})
         self.assertEqual((self.front.number, self.rows()), (2, ("window 2", "[1] 1- 2*")))
 
