@@ -530,7 +530,8 @@ class Commands:
     def resized(self) -> None:
         """Takes note of what was shown before the terminal had another size, the first of many where it is drawn by hand."""
         if not self.loop.due.keys() & {"size", "others"}:
-            self.showed_all = self.given is not None or self.display.shows_all()
+            shows_all = self.zooming.showed_all if self.zooming.is_on() else self.display.shows_all()
+            self.showed_all = self.given is not None or shows_all
 
     def has_others(self) -> bool:
         """Whether somebody else types, as the keeper of the shells tells it; else by the notes in the session's folder."""

@@ -16,6 +16,7 @@ from tried import SESSION, Outer, check, comes, connected, part_at, scene, shown
 from roam_live.borders import NO_PANE
 from roam_live.mouse import tracking_of
 from roam_live.places import asked_places
+from roam_live.program import Fault
 from roam_live.terminal import MOST
 
 # The command of a pane that writes rows at its begin, and nothing more; so many there are, at most.
@@ -66,12 +67,22 @@ def tree(chance):
     return there()
 
 
+def session_cells():
+    """The cells of the session, which a busy machine may tell late."""
+    for _ in range(5):
+        try:
+            return told_cells(SESSION)
+        except Fault:
+            time.sleep(1)
+    return told_cells(SESSION)
+
+
 def still_cells():
     """The cells of the session once they have stood for a moment."""
-    before = told_cells(SESSION)
+    before = session_cells()
     while True:
         time.sleep(0.15)
-        after = told_cells(SESSION)
+        after = session_cells()
         if after.cells == before.cells:
             return after
         before = after
@@ -80,7 +91,7 @@ def still_cells():
 def shows_part(outer, pane):
     """Whether a terminal shows a pane's cells and nothing else, above its last row."""
     rect, size = there().rects[pane], (outer.size[0] - 1, outer.size[1])
-    found, cursor = part_at(told_cells(SESSION), rect.row, rect.col, size)
+    found, cursor = part_at(session_cells(), rect.row, rect.col, size)
     blank = (" ", type(found[1, 1][1])())
     wanted = {place: cell if place[0] <= rect.rows and place[1] <= rect.cols else blank for place, cell in found.items()}
     return shown_above(outer) == (wanted, cursor)

@@ -66,10 +66,10 @@ class Moves(Attached):
         """In each of 40 trees, where the numbers tell the splits: what is said not to go has no pane whose own split it is."""
         moved = 0
         for seed in range(40):
-            session = by_chance(seed, *((24, 80), (50, 160))[seed % 2])
+            session = by_chance(seed, *((24, 80), (50, 160))[seed % 2], most=3 + seed % 4)
             self.assertEqual(splits_of(session.rects()), session.parts)
             moved += self.each(session, session.places().size())[0]
-        self.assertGreater(moved, 400)
+        self.assertGreater(moved, 250)
 
     def test_closed(self):
         """So where panes were closed, and others have their numbers: a growth that moves another border is undone."""

@@ -233,6 +233,18 @@ class Ends(Zoomed):
         self.take()
         self.assertFalse(self.person.display.is_held)
 
+    def test_again(self):
+        """With another connection the size that is awaited is asked for again, there and back; where none is, none is."""
+        self.attach(self.grid())
+        for size, keys in (("size 48 160", b"\x02z"), ("size 24 80", b"\x02z")):
+            self.person.commands.give_again()
+            self.assertEqual(self.person.said(), [])
+            self.person.commands.fed(keys)
+            self.person.said()
+            self.person.commands.give_again()
+            self.take()
+            self.assertEqual(self.heard[-1], size)
+
     def test_refused(self):
         """What can't be zoomed is told."""
         for session, why in ((Lived(), "pane 1 is the only one, and fills the session"),
