@@ -13,8 +13,8 @@ if TYPE_CHECKING:
     from roam_live.commands import Commands
     from roam_live.places import Places, Rect
 
-# So many keys wait at most until the session has its size again; and even shares take so many lines of acts at most, each once what comes of
-# the one before is told.
+# So many keys wait at most until the session has its size again; and even shares take so many lines of acts at most, each once what comes
+# of the one before is told.
 MOST_WAITING = 64
 MOST_LINES = 10
 

@@ -7,7 +7,6 @@ import time
 from collections.abc import Callable
 
 from roam_live import terminal
-from roam_live.asked_line import LEAVES, TAKES, AskedLine
 from roam_live.bindings import NEWEST, PICKS, Typing, help_with, spelled
 from roam_live.border_keys import BorderKeys
 from roam_live.choosing import Choosing, ChoosingWindow
@@ -26,6 +25,7 @@ from roam_live.programs import told
 from roam_live.following import PanesFollower
 from roam_live.places import BESIDE, MOVES, Places
 from roam_live.presence import LEAVE_OTHERS
+from roam_live.prompts import Prompts
 from roam_live.zooming import Zooming
 
 TYPE_CHECKING = False
@@ -76,13 +76,8 @@ NO_LAST = "no other pane was in focus"
 # For so many seconds a session is new, and goes by its terminal's size, whatever that is: a window may get its size once it is there.
 NEW = 2.0
 
-
 # No key at all.
 NO_KEY = Key("", "")
-
-
-def nothing() -> None:
-    """Does nothing."""
 
 
 class Commands:
@@ -115,9 +110,7 @@ class Commands:
         # The windows of the session, and a list of them, where it may have several.
         self.windows: WindowWishes | None = None
         self.choosing_window: ChoosingWindow | None = None
-        # What is done where a question is answered by yes; and the line that is asked for, with what is done with it.
-        self.asks: Callable[[], object] = nothing
-        self.asked_line: tuple[AskedLine, Callable[[str], object]] | None = None
+        self.prompts = Prompts(self)
         self.pastes = Pastes(link, panes, shells, loop, self.unpasted, lambda line: display.tell(line, PASTE_TOLD))
         # The session's size and the labels of its panes, as they were told last.
         self.known: tuple[terminal.Size, str] = (NO_SIZE, "")
@@ -325,7 +318,8 @@ class Commands:
         """Goes on in this window with what the person has begun elsewhere: an escape, a paste, a question or a line that is asked for. The
         window may have been shown whole as it was left, with a size."""
         self.keys, self.typing, self.prefix, self.help = before.keys, before.typing, before.prefix, before.help
-        self.asks, self.asked_line, self.pointing.is_on = before.asks, before.asked_line, before.pointing.is_on
+        self.prompts.follow_on(before.prompts)
+        self.pointing.is_on = before.pointing.is_on
         self.display.moved = self.fit_drawn
         self.is_fitted, self.showed_all, self.left_size = False, False, left_size
         if self.typing.mode == self.typing.pasting:
@@ -377,7 +371,7 @@ class Commands:
         elif wish == "leave others":
             self.leave_others()
         elif wish == "line":
-            self.type_line(key)
+            self.prompts.type(key)
         elif wish in ("paste", "choose"):
             self.copying.close()
             self.choosing.ask(is_newest=wish == "paste")
@@ -390,46 +384,9 @@ class Commands:
         elif wish in BESIDE:
             self.go(wish)
         elif wish in ("yes", "no"):
-            self.answer(wish == "yes")
+            self.prompts.answer(wish == "yes")
         elif wish in ("scrolled", "picked"):
             self.display.end_told()
-
-    # ---- questions
-
-    def ask(self, text: str, does: Callable[[], object]) -> None:
-        """Asks a question, and has something done where the next key is y."""
-        self.asks = does
-        self.display.ask(text)
-        self.typing.ask()
-
-    def answer(self, is_yes: bool) -> None:
-        """Does what was asked, or not."""
-        does, self.asks = self.asks, nothing
-        self.display.end_question()
-        if is_yes:
-            does()
-
-    def ask_line(self, asked: AskedLine, does: Callable[[str], object]) -> None:
-        """Asks for a line, and has something done with what is typed there."""
-        self.asked_line, self.typing.mode = (asked, does), self.typing.line
-        self.display.ask(asked.line(), is_typed=True)
-
-    def type_line(self, key: Key) -> None:
-        """Takes a key of the line that is asked for: one that ends it, or that edits it; of a paste the text."""
-        if not self.asked_line:
-            return
-        asked, does = self.asked_line
-        if key.name in LEAVES or key.name in TAKES:
-            self.asked_line, self.typing.mode = None, self.typing.plain
-            self.display.end_question()
-            if key.name in TAKES:
-                does(asked.text)
-            return
-        if key.name == "text":
-            asked.add(key.text)
-        else:
-            asked.edit(key.name)
-        self.display.ask(asked.line(), is_typed=True)
 
     # ---- others, and the last row
 
@@ -573,7 +530,8 @@ class Commands:
     def resized(self) -> None:
         """Takes note of what was shown before the terminal had another size, the first of many where it is drawn by hand."""
         if not self.loop.due.keys() & {"size", "others"}:
-            self.showed_all = self.given is not None or self.display.shows_all()
+            shows_all = self.zooming.showed_all if self.zooming.is_on() else self.display.shows_all()
+            self.showed_all = self.given is not None or shows_all
 
     def has_others(self) -> bool:
         """Whether somebody else types, as the keeper of the shells tells it; else by the notes in the session's folder."""
@@ -625,8 +583,8 @@ class Commands:
         self.showed_all, self.left_size = False, NO_SIZE
 
     def follows(self, size: terminal.Size, own: terminal.Size, showed_all: bool) -> bool:
-        """Whether the session follows this terminal: it grows where nobody else types, and a lone terminal that showed all of it is followed
-        to any size. Nothing else makes one smaller, but the end of a zoom."""
+        """Whether the session follows this terminal: it grows where nobody else types, and a lone one that showed all of it is followed to
+        any size. Nothing else makes one smaller, but the end of a zoom."""
         is_smaller = own[0] < size[0] or own[1] < size[1]
         return showed_all and self.is_alone() if is_smaller else not self.has_others()
 
@@ -660,7 +618,7 @@ class Commands:
             self.act("close")
         else:
             runs = told({pane: busy[pane]}) if busy and pane else f"whatever runs in {f'pane {pane}' if pane else 'this pane'}"
-            self.ask(f"close {runs}? y closes it", lambda: self.act("close"))
+            self.prompts.ask(f"close {runs}? y closes it", lambda: self.act("close"))
 
     def go(self, way: str) -> None:
         """Puts the pane on a side in focus; the next one where no rectangle is known."""

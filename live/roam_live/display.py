@@ -150,7 +150,7 @@ class Display:
         self.silent = 0
         self.labels = ""
         # What a person is asked, above all that is told, and whether that is a line that is typed.
-        self.question, self.is_typed = "", False
+        self.prompt, self.is_typed = "", False
         # The labels of the windows, and which of them is shown here; what stands at the end of the last row; whether that row is hidden
         # while nothing is drawn; and whether what stands on the terminal is still of the window that was left.
         self.windows: tuple[list[str], int] = ([], 0)
@@ -450,8 +450,8 @@ class Display:
     def line(self) -> str:
         """The line that stands in the last row, the first of these that is there: what a person is asked, what is told, that the server is
         silent, what is said of a drawing, and else the panes and windows; nothing where the session's own rows stand there."""
-        if self.question or self.is_drawing_asking:
-            return self.question or self.drawing_line
+        if self.prompt or self.is_drawing_asking:
+            return self.prompt or self.drawing_line
         if self.told:
             return self.told
         if self.silent:
@@ -479,7 +479,7 @@ class Display:
 
     def line_text(self, text: str, width: int) -> str:
         """The last row as it is written: reversed, but for the place behind a line that is typed."""
-        if not self.is_typed or text != self.question:
+        if not self.is_typed or text != self.prompt:
             return f"\x1b[0;7m{fitted(text, width)}\x1b[0m"
         shown = tail(text, width - 1)
         return f"\x1b[0;7m{shown}\x1b[27m \x1b[7m{fitted('', width - 1 - columns(shown))}\x1b[0m"
@@ -508,13 +508,13 @@ class Display:
 
     def ask(self, text: str, is_typed: bool = False) -> None:
         """Has what a person is asked stand in the last row, until it is answered."""
-        self.question, self.is_typed = text, is_typed
+        self.prompt, self.is_typed = text, is_typed
         self.put_line()
 
-    def end_question(self) -> None:
+    def end_prompt(self) -> None:
         """Asks nothing any more."""
-        if self.question:
-            self.question, self.is_typed = "", False
+        if self.prompt:
+            self.prompt, self.is_typed = "", False
             self.change_line()
 
     def tell(self, text: str, seconds: float | None = TOLD) -> None:

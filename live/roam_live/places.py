@@ -71,7 +71,7 @@ class Places(namedtuple("Places", "rects focus starts watchers", defaults=(0, 0,
         return max(rect.row + rect.rows for rect in rects), max(rect.col + rect.cols - 1 for rect in rects)
 
     def is_covered(self) -> bool:
-        """Whether the panes and borders cover the area, as far as their sizes tell: while some are told anew and others aren't they don't."""
+        """Whether the panes and borders cover the area, as far as their sizes tell: while only some are told anew they don't."""
         rows, cols = self.size()
         return sum((rect.rows + 1) * (rect.cols + 1) for rect in self.rects.values()) == rows * (cols + 1)
 

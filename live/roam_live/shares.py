@@ -59,7 +59,8 @@ def above(pane: int, parts: Parts, rects: dict[int, Rect]) -> list[Above]:
     found: list[Above] = []
     while isinstance(parts, PaneSplit):
         is_first = pane in panes_of(parts.first)
-        found.append(Above(parts.way, is_first, shift_of(parts, rects), least_of(parts.first, parts.way), least_of(parts.second, parts.way)))
+        least = [least_of(part, parts.way) for part in (parts.first, parts.second)]
+        found.append(Above(parts.way, is_first, shift_of(parts, rects), *least))
         parts = parts.first if is_first else parts.second
     return found
 

@@ -150,7 +150,7 @@ class ShellsLink(Following):
         self.untold = [] if self.is_there else self.untold
 
     def note_zoom(self, note: ZoomNote | None) -> None:
-        """Tells the keeper of this terminal's zoom, or that it is over: at once, where it takes it, since what comes of it goes elsewhere."""
+        """Tells the keeper of this terminal's zoom, or that it is over: at once, where it can, since what comes of it goes elsewhere."""
         self.zoom = note
         if self.is_there and self.peer:
             self.ask(f"{ZOOM} {note or NONE}")

@@ -12,7 +12,7 @@ from roam_live.mouse import MOUSE
 from roam_live.program import Fault, reason
 from roam_live.programs import told
 from roam_live.terminal import LEAST, is_large_enough, largest
-from roam_live.window_lines import LONGEST_BYTES, LONGEST_NAME, MOST_WINDOWS, name_word
+from roam_live.window_lines import BELL, LONGEST_BYTES, LONGEST_NAME, MOST_WINDOWS, name_word
 from roam_live.windows_link import ToldWindows, WindowsLink
 from roam_live.words import printable
 
@@ -62,9 +62,9 @@ INTERRUPT = "\x03"
 
 # So many seconds a line stands.
 SAID = 2.0
-ONE = "this session has one window, and can't have others"
-FAR = f"{ONE}: it is of another machine"
-EARLIER = f"{ONE}: it was begun by an earlier roam, or by hand"
+ONE = "no other window can be had here"
+FAR = f"{ONE}: the session is another machine's"
+EARLIER = f"{ONE}: the session is an earlier roam's, or by hand"
 NOBODY = "what keeps the windows isn't there just now"
 LATE = "no window is opened yet: what keeps them is silent"
 DROPPED = "; keys for it are dropped"
@@ -146,11 +146,10 @@ class WindowWishes:
             if opened:
                 self.opened(int(opened["window"] or 0), printable(opened["why"] or ""))
                 continue
-            rang = self.told.rung - {self.here()}
-            gone = self.told.take(line) or []
-            if self.told.rung - rang - {self.here()}:
+            gone = self.told.take(line)
+            if gone is not None and line.startswith(f"{BELL} ") and not line.startswith(f"{BELL} {self.here()} "):
                 self.front.display.ring()
-            for number in gone:
+            for number in gone or ():
                 self.gone(number)
         self.show()
 
@@ -330,7 +329,7 @@ class WindowWishes:
         """Asks for the name of the window where the person is."""
         number = self.here()
         asked = AskedName(number, self.told.names.get(number, ""))
-        self.front.commands.ask_line(asked, lambda text: self.say(f"name {number} {name_word(text)}"))
+        self.front.commands.prompts.ask_line(asked, lambda text: self.say(f"name {number} {name_word(text)}"))
 
     def ask_shut(self) -> None:
         """Shuts the window where the person is: once that is confirmed, where something runs there, or it is the last."""
@@ -341,4 +340,4 @@ class WindowWishes:
             self.say(f"shut {number}")
             return
         end = " and end the session, whose last it is" if is_last else ""
-        self.front.commands.ask(f"shut window {number}{runs}{end}? y shuts it", lambda: self.say(f"shut {number}"))
+        self.front.commands.prompts.ask(f"shut window {number}{runs}{end}? y shuts it", lambda: self.say(f"shut {number}"))

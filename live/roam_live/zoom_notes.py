@@ -1,5 +1,5 @@
-"""What is noted of a zoom, at the keeper of a session's shells: which size the session is to have again, so that it gets that also where the
-front end was killed that made it larger."""
+"""What is noted of a zoom, at the keeper of a session's shells: which size the session is to have again, so that it gets that also where
+the front end was killed that made it larger."""
 from __future__ import annotations
 
 from collections import namedtuple
@@ -55,8 +55,8 @@ class NotedZoom:
         self.note: ZoomNote | None = None
 
     def take(self, number: int, line: str) -> bool:
-        """Takes a line of the terminal of a number, and tells whether it is one of a zoom. Of another's that is there nobody tells that it is
-        over; a zoom that is told of takes its place."""
+        """Takes a line of the terminal of a number, and tells whether it is one of a zoom. Of another's that is there nobody tells that it
+        is over; a zoom that is told of takes its place."""
         word, *words = line.split(" ")
         note = note_in(words)
         if word != ZOOM or not (note or words == [NONE]):

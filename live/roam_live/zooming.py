@@ -1,5 +1,5 @@
-"""A pane that fills a person's terminal: the session is asked to be larger, the pane's part alone is shown, and the session gets the size back
-that it had."""
+"""A pane that fills a person's terminal: the session is asked to be larger, the pane's part alone is shown, and the session gets the size
+back that it had."""
 from __future__ import annotations
 
 from roam_live import terminal
@@ -167,8 +167,8 @@ class Zooming:
     # ---- what is told
 
     def told(self) -> None:
-        """Goes by what is told of the panes: it is over where another is in focus, or they are others, or the session's size is another than
-        it was asked for."""
+        """Goes by what is told of the panes: it is over where another is in focus, or they are others, or the session's size is another
+        than it was asked for."""
         places = self.commands.panes.places
         if not places or not self.pane:
             self.tell_over()

@@ -1,5 +1,5 @@
-"""A pane that fills the terminal, with real programs, and the way back; borders that are moved by keys; and what follows where a front end is
-killed meanwhile."""
+"""A pane that fills the terminal, with real programs, and the way back; borders that are moved by keys; and what follows where a front end
+is killed meanwhile."""
 import os
 import random
 import shutil
@@ -16,10 +16,11 @@ from tried import SESSION, Outer, check, comes, connected, part_at, scene, shown
 from roam_live.borders import NO_PANE
 from roam_live.mouse import tracking_of
 from roam_live.places import asked_places
+from roam_live.program import Fault
 from roam_live.terminal import MOST
 
 # The command of a pane that writes rows at its begin, and nothing more; so many there are, at most.
-STILL = "i=0; while [ $i -lt 30 ]; do i=$((i+1)); echo row $i of some rows that stand in a pane as they were written; done; exec sleep 10000"
+STILL = "i=0; while [ $i -lt 30 ]; do i=$((i+1)); echo row $i of some that stand in a pane as they were written; done; exec sleep 10000"
 
 # So many panes has a tree by chance; so many trees there are of each size, and where borders are moved, and in `tries/try_zoom` (TREES).
 FEWEST, MOST_PANES = 2, 6
@@ -66,12 +67,22 @@ def tree(chance):
     return there()
 
 
+def session_cells():
+    """The cells of the session, which a busy machine may tell late."""
+    for _ in range(5):
+        try:
+            return told_cells(SESSION)
+        except Fault:
+            time.sleep(1)
+    return told_cells(SESSION)
+
+
 def still_cells():
     """The cells of the session once they have stood for a moment."""
-    before = told_cells(SESSION)
+    before = session_cells()
     while True:
         time.sleep(0.15)
-        after = told_cells(SESSION)
+        after = session_cells()
         if after.cells == before.cells:
             return after
         before = after
@@ -80,7 +91,7 @@ def still_cells():
 def shows_part(outer, pane):
     """Whether a terminal shows a pane's cells and nothing else, above its last row."""
     rect, size = there().rects[pane], (outer.size[0] - 1, outer.size[1])
-    found, cursor = part_at(told_cells(SESSION), rect.row, rect.col, size)
+    found, cursor = part_at(session_cells(), rect.row, rect.col, size)
     blank = (" ", type(found[1, 1][1])())
     wanted = {place: cell if place[0] <= rect.rows and place[1] <= rect.cols else blank for place, cell in found.items()}
     return shown_above(outer) == (wanted, cursor)
@@ -109,7 +120,8 @@ def zoomed_back(size):
         exact += (there().rects, there().focus) == (before.rects, before.focus)
         rows += still_cells().cells == cells.cells
     count = TREES["zoom"]
-    print(f"        seed {SEED}, {size[0]} by {size[1]}: fills the terminal in {full} of {count}, {large} at the session's limits", flush=True)
+    told = f"fills the terminal in {full} of {count}, {large} at the session's limits"
+    print(f"        seed {SEED}, {size[0]} by {size[1]}: {told}", flush=True)
     check(f"in all {count} trees the pane fills the terminal, or has all that 200 by 500 give it", full + large == count, (full, large))
     check("nothing else is shown in any", alone == count, alone)
     check("on the way back all panes are where they were in all", exact == count, exact)
@@ -151,8 +163,8 @@ def zoom_programs(folder):
         check("its cells are shown, and nothing else", comes(lambda: shows_part(outer, 3)), outer.rows)
         if name == "vim":
             outer.type(report(0, 7, 13) + report(0, 7, 13, True))
-            check("a click puts its cursor there", outer.shows("7,13") and comes(lambda: (outer.emulation().row, outer.emulation().col) == (6, 12)),
-                  outer.rows)
+            is_there = comes(lambda: (outer.emulation().row, outer.emulation().col) == (6, 12))
+            check("a click puts its cursor there", is_there and outer.shows("7,13"), outer.rows)
             outer.type(b"ix\x1bGo")
         else:
             outer.type(report(0, 23, 3) + report(0, 23, 3, True))
@@ -170,7 +182,8 @@ def zoom_ends(folder):
     """What ends a zoom: keys of this person, deeds of others, leaving, and the next attach where a front end was killed."""
     outer = three_panes()
     before = there()
-    for keys, label, focus in ((b"\x02o", " 1 [2] 3", 2), (b"\x02;", "[1] 2  3", 1), (b"\x02\x1b[C", " 1 [2] 3", 2), (b"\x02q1", "[1] 2  3", 1)):
+    for keys, label, focus in ((b"\x02o", " 1 [2] 3", 2), (b"\x02;", "[1] 2  3", 1), (b"\x02\x1b[C", " 1 [2] 3", 2),
+                               (b"\x02q1", "[1] 2  3", 1)):
         outer.type(b"\x02z")
         outer.shows("Z")
         outer.type(keys)
@@ -312,26 +325,30 @@ def is_zoomed(outer):
 
 
 def moved(outer, pane, side):
-    """What comes of a key for a border of a pane: it is `moved` by one, with the focus where it was, or it is `told` why not, or it is `odd`."""
+    """What comes of a key for a border of a pane: it is `moved` by one, with the focus where it was, or `told` why not, or it is `odd`."""
     acts(f"focus {pane}")
     comes(lambda: there().focus == pane)
     before = there()
     comes(lambda: outer.rows()[-1].startswith(before.labels()))
+    comes(lambda: not is_told_in(outer.rows()[-1]), 4)
+    begin = len(outer.written)
     outer.type(KEYS[side])
-    comes(lambda: there().rects != before.rects or is_line(outer), 3)
+    comes(lambda: is_told_in(outer.written[begin:].decode(errors="replace")) or there().rects != before.rects, 5)
     time.sleep(0.05)
-    after, is_told = there(), is_line(outer)
-    comes(lambda: not is_line(outer), 4)
+    after, is_told = there(), is_told_in(outer.written[begin:].decode(errors="replace"))
     step = 1 if side in ("right", "down") else -1
     goes = [then + step == now for then, now in zip(edges(before.rects[pane], side), edges(after.rects[pane], side))]
     if after.focus == pane and after.rects != before.rects and any(goes):
         return "moved"
-    return "told" if after.focus == pane and after.rects == before.rects and is_told else "odd"
+    if after.focus == pane and after.rects == before.rects and is_told:
+        return "told"
+    print(f"        odd: {side} of {pane} in {before}, then {after}, {outer.rows()[-1]!r}", flush=True)
+    return "odd"
 
 
-def is_line(outer):
-    """Whether a line stands in the last row that tells why a border doesn't go."""
-    return any(words in outer.rows()[-1] for words in ("no border", NO_PANE[:20], "as far as it can be"))
+def is_told_in(text):
+    """Whether a text tells why a border doesn't go."""
+    return any(words in text for words in ("no border", NO_PANE[:20], "as far as it can be"))
 
 
 def edges(rect, side):

@@ -81,7 +81,7 @@ class Attached(Case):
         return self.person
 
     def take(self, times=3):
-        """Has the session take what was typed, and tell of it, so many times at most; the acts are kept, and what was asked for to be shown."""
+        """Has the session take what was typed, and tell of it, so many times at most; acts are kept, and what was asked for to be shown."""
         for _ in range(times):
             lines = self.person.said()
             for line in lines:

@@ -90,6 +90,7 @@ KNOWN = {
     ("roam_live/sending.py", "demand_acts", "re"): WORDS,
     ("roam_live/sessions.py", "NAME", "re"): NAMES,
     ("roam_live/sessions.py", "NEAR_NAME", "re"): NAMES,
+    ("roam_live/settings_words.py", "ESCAPES", "ESC"): "is what an escape of a person's settings file stands for, and reads nothing",
     ("roam_live/terminal.py", "CLEARED", "ESC"): WRITES,
     ("roam_live/terminal.py", "ENTERED", "ESC"): WRITES,
     ("roam_live/terminal.py", "KEYPAD", "ESC"): WRITES,

@@ -37,12 +37,12 @@ class Moves(Attached):
             for side, back in (("right", "left"), ("left", "right"), ("down", "up"), ("up", "down")):
                 rects = session.rects()
                 rect, (rows, cols) = rects[pane], session.places().size()
-                at_edge = {"left": rect.col == 1, "up": rect.row == 1, "right": rect.col + rect.cols > cols, "down": rect.row + rect.rows >= rows}
+                at_edge = [rect.col == 1, rect.row == 1, rect.col + rect.cols > cols, rect.row + rect.rows >= rows]
                 before, after = self.move(pane, side)
-                moves = back if at_edge[side] else side
+                moves = back if at_edge[("left", "up", "right", "down").index(side)] else side
                 step = 1 if side in ("right", "down") else -1
                 if self.person.display.told:
-                    words = {border_keys.NO_ROOM, NO_PANE, border_keys.NO_BORDER["right"].format(pane), border_keys.NO_BORDER["down"].format(pane)}
+                    words = {border_keys.NO_ROOM, NO_PANE, *(words.format(pane) for words in border_keys.NO_BORDER.values())}
                     self.assertIn(self.person.display.told, words)
                     self.assertEqual((session.rects(), session.focus), (rects, pane))
                     stuck += self.person.display.told == NO_PANE
@@ -66,10 +66,10 @@ class Moves(Attached):
         """In each of 40 trees, where the numbers tell the splits: what is said not to go has no pane whose own split it is."""
         moved = 0
         for seed in range(40):
-            session = by_chance(seed, *((24, 80), (50, 160))[seed % 2])
+            session = by_chance(seed, *((24, 80), (50, 160))[seed % 2], most=3 + seed % 4)
             self.assertEqual(splits_of(session.rects()), session.parts)
             moved += self.each(session, session.places().size())[0]
-        self.assertGreater(moved, 400)
+        self.assertGreater(moved, 250)
 
     def test_closed(self):
         """So where panes were closed, and others have their numbers: a growth that moves another border is undone."""

@@ -747,7 +747,7 @@ class Wishes(Case):
         person = self.person()
         person.busy = {2: "vi"}
         self.assertEqual(person.types(b"\x02o\x02x"), ["next"])
-        self.assertEqual(person.display.question, "close whatever runs in this pane? y closes it")
+        self.assertEqual(person.display.prompt, "close whatever runs in this pane? y closes it")
         self.tell(person, PANES._replace(focus=3))
         self.assertEqual(person.types(b"n\x02x"), ["close"])
 
@@ -763,12 +763,12 @@ class Wishes(Case):
         self.assertEqual(self.person().types(b"\x02x"), ["close"])
         person = self.person()
         person.busy = {1: "vi", 2: "less"}
-        self.assertEqual((person.types(b"\x02x"), person.display.question), ([], "close vi in pane 1? y closes it"))
+        self.assertEqual((person.types(b"\x02x"), person.display.prompt), ([], "close vi in pane 1? y closes it"))
         self.assertNotIn("told", person.loop.due)
-        self.assertEqual((person.types(b"y"), person.display.question), (["close"], ""))
+        self.assertEqual((person.types(b"y"), person.display.prompt), (["close"], ""))
         person = self.person()
         person.busy = {1: "vi"}
-        self.assertEqual((person.types(b"\x02xn"), person.display.question), ([], ""))
+        self.assertEqual((person.types(b"\x02xn"), person.display.prompt), ([], ""))
         person = self.person()
         person.busy = {2: "vi"}
         self.assertEqual(person.types(b"\x02x"), ["close"])
@@ -777,10 +777,10 @@ class Wishes(Case):
         """Where it isn't known what runs it asks."""
         person = self.person()
         person.busy = None
-        self.assertEqual((person.types(b"\x02x"), person.display.question), ([], "close whatever runs in pane 1? y closes it"))
+        self.assertEqual((person.types(b"\x02x"), person.display.prompt), ([], "close whatever runs in pane 1? y closes it"))
         person = self.person(None)
         person.busy = None
-        self.assertEqual((person.types(b"\x02x"), person.display.question), ([], "close whatever runs in this pane? y closes it"))
+        self.assertEqual((person.types(b"\x02x"), person.display.prompt), ([], "close whatever runs in this pane? y closes it"))
 
     def test_close_last(self):
         person = self.person(places(24, 80))

@@ -183,7 +183,7 @@ class Close(Folder):
         for places, named in ((TWO, "pane 1"), (None, "this pane")):
             for key, acts in ((b"y", ["close"]), (b"n", [])):
                 commands, link, shown = self.person(self.by_hand(), places)
-                self.assertEqual((link.acts, shown.question), ([], f"close whatever runs in {named}? y closes it"))
+                self.assertEqual((link.acts, shown.prompt), ([], f"close whatever runs in {named}? y closes it"))
                 commands.fed(key)
                 self.assertEqual((link.acts, shown.told), (acts, ""))
 

@@ -185,7 +185,7 @@ class Programs(Pointed):
             person.types(keys)
             person.said()
             self.assertEqual(self.points(person, (0, 1, 1)), [])
-        self.assertIn("y closes it", person.display.question)
+        self.assertIn("y closes it", person.display.prompt)
         person.types(b"n")
         self.assertEqual(len(self.points(person, (0, 1, 1))), 1)
         person.display.is_stale = True

@@ -321,8 +321,8 @@ class Links(Sockets):
         self.assertEqual((one.has_others(), other.has_others()), (True, True))
 
     def test_zoom(self):
-        """A zoom is told of at once, anew to a keeper that comes, and stays noted where its terminal has left; who comes is told of it before
-        the others are."""
+        """A zoom is told of at once, anew to a keeper that comes, and stays noted where its terminal has left; who comes is told of it
+        before it knows of the others."""
         one, other = self.link(), self.link()
         self.turn(one, other)
         note = ZoomNote((24, 80), ((48, 160),))

@@ -111,6 +111,39 @@ class Played(Case):
         return read_now(one)
 
 
+class Fronts(Played):
+    """What runs in windows, and who is to leave them."""
+
+    def test_runs(self):
+        """What runs in front in the pane in focus is told to who asked for windows, and again where it is another."""
+        self.opened()
+        self.patch("roam_live.fronts.group_in_front", lambda terminal: 5)
+        name = self.patch("roam_live.fronts.name_of", return_value="vim")
+        one = self.asker(1)
+        self.turns(3)
+        self.assertEqual(read_now(one), b"window 1 -\nwindows 1\nruns 1 vim\n")
+        self.assertEqual(self.said_by(one, b"windows\n"), b"window 1 -\nwindows 1\nruns 1 vim\n")
+        name.return_value = "sh"
+        self.made[0][1].send(b"$ ")
+        self.turns(2)
+        self.now += 1
+        self.turns(2)
+        self.assertIn(b"runs 1 sh\n", read_now(one))
+
+    def test_leave_others(self):
+        """All terminals are told to leave, of each window, but the one that says it; a terminal that is on its way to another window is there
+        twice, and one who watches has nobody leave."""
+        self.opened()
+        self.opened((24, 80))
+        own, also, other, watcher = (self.asker(window, f"here {name} 24 80 {kind}\n".encode())
+                                     for window, name, kind in ((1, "a", "edits"), (2, "a", "edits"), (2, "b", "edits"), (1, "c", "watches")))
+        for one in (own, also, other, watcher):
+            read_now(one)
+        self.assertEqual(self.said_by(watcher, b"leave others\n"), b"bad line\n")
+        self.assertEqual(self.said_by(own, b"leave others\n"), b"left 2\n")
+        self.assertEqual([read_now(one) for one in (also, other, watcher)], [b"leave\n"] * 3)
+
+
 class Opened(Played):
     """How windows are opened."""
 

@@ -10,7 +10,7 @@ from roam_live.front_end import FrontEnd
 from roam_live.keys import acts_of_bytes
 from roam_live.program import Fault
 from roam_live.choosing import WINDOWS_LINE
-from roam_live.window_wishes import DROPPED, EARLIER, LATE, OPENS
+from roam_live.window_wishes import DROPPED, EARLIER, FAR, LATE, OPENS
 from test_display import PlayedPanes, painting, places
 from test_front_end import AnySession
 
@@ -184,8 +184,14 @@ class Switches(Windows):
     """From one window to another."""
 
     def test_round(self):
-        """Keys behind a switch in one read go to the window where the person went, and those before it to the other, in order."""
+        """Keys behind a switch in one read go to the window where the person went, and those before it to the other, in order. Nothing is left
+        of a window that was left."""
+        self.type(b"\x022\x021")
+        self.turn()
+        has = len(self.loop.sources), len(self.loop.before), sorted(self.loop.due)
         self.type(b"ab\x022cd\x021ef\x02lgh\x02pij\x02nkl\x022mn")
+        self.turn()
+        self.assertEqual((len(self.loop.sources), len(self.loop.before), sorted(self.loop.due)), has)
         self.assertEqual(self.typed, {1: "abefij", 2: "cdghklmn"})
         self.assertEqual((self.front.number, self.rows()), (2, ("window 2", "[1] 1- 2*")))
 
@@ -339,6 +345,18 @@ class Opened(Windows):
         self.type(b"\x02ca")
         self.assertEqual((self.front.display.told, self.typed[1]), (EARLIER, "a"))
 
+    def test_far(self):
+        """A session that is no window of several has one alone, and which of another machine is said so; nothing is asked of its keeper."""
+        for served, words in (("server", EARLIER), ("relay", FAR)):
+            self.starts.clear()
+            self.keepers.clear()
+            self.place.number, self.place.served = 0, served
+            self.front_of()
+            self.type(b"\x02ca\x022b\x02n\x02&")
+            self.assertEqual((self.front.display.told, self.rows()[1], self.typed), (words, words, {1: "ab", 2: ""}))
+            self.assertNotIn("windows", self.said())
+            self.typed[1] = ""
+
     def test_watches(self):
         """Who only watches goes from one to another, and changes none."""
         self.starts.clear()
@@ -356,7 +374,10 @@ class Told(Windows):
     def test_flags(self):
         """What rang, and what was written, is shown until the person is there."""
         self.tell_list()
-        self.tell("bell 2 1", "activity 2", "runs 1 vim", "runs 2 sh", "bell 1 1")
+        rings = self.patch_of(self.front.display, "ring")
+        self.tell("bell 2 1", "activity 2", "runs 1 vim", "runs 2 sh", "bell 1 1", "bell 2 1", "bell 0 1")
+        # The one where the person is rings by its own socket.
+        self.assertEqual(rings.call_count, 2)
         self.assertEqual(self.rows()[1], "[1] 1:vim* 2:sh#!")
         self.type(b"\x022")
         self.assertEqual(self.rows()[1], "[1] 1:vim- 2:sh*")
@@ -445,7 +466,7 @@ class Named(Windows):
             self.type(leaves)
             self.now += 0.1
             self.turn()
-            self.assertEqual((self.said(), self.front.display.question), ([], ""))
+            self.assertEqual((self.said(), self.front.display.prompt), ([], ""))
 
     def test_pasted_name(self):
         """Of a paste the first line is a name; one with escapes is none, and no name is longer than a line may be."""

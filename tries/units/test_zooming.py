@@ -233,11 +233,23 @@ class Ends(Zoomed):
         self.take()
         self.assertFalse(self.person.display.is_held)
 
+    def test_again(self):
+        """With another connection the size that is awaited is asked for again, there and back; where none is, none is."""
+        self.attach(self.grid())
+        for size, keys in (("size 48 160", b"\x02z"), ("size 24 80", b"\x02z")):
+            self.person.commands.give_again()
+            self.assertEqual(self.person.said(), [])
+            self.person.commands.fed(keys)
+            self.person.said()
+            self.person.commands.give_again()
+            self.take()
+            self.assertEqual(self.heard[-1], size)
+
     def test_refused(self):
         """What can't be zoomed is told."""
-        for session, size, why in ((Lived(), (24, 80), "pane 1 is the only one, and fills the session"),
-                                   (self.grid((60, 200)), (24, 80), "pane 2 has 29 by 100, more than this terminal shows: nothing is zoomed")):
-            self.attach(session, size, PlayedShells(True))
+        for session, why in ((Lived(), "pane 1 is the only one, and fills the session"),
+                             (self.grid((60, 200)), "pane 2 has 29 by 100, more than this terminal shows: nothing is zoomed")):
+            self.attach(session, shells=PlayedShells(True))
             self.types(b"\x02z")
             self.assertEqual((self.person.display.told, self.heard), (why, []))
         person = Person(24, 80)
@@ -358,7 +370,8 @@ class Noted(Zoomed):
         """Lines that tell of a zoom, and those that don't."""
         note = ZoomNote((24, 80), ((48, 160),))
         for line, found in (("24 80 48 160", note), ("24 80", None), ("24 80 48", None), ("24 80 48 0", None), ("24 80 48 501", None),
-                            ("24 80 201 160", None), ("", None), ("24 80 48 +1", None), ("24  48 160", None), ("1 1 1 1", ZoomNote((1, 1), ((1, 1),))),
+                            ("24 80 201 160", None), ("", None), ("24 80 48 +1", None), ("24  48 160", None),
+                            ("1 1 1 1", ZoomNote((1, 1), ((1, 1),))),
                             (" ".join(["24 80"] * (MOST_ASKED + 2)), None), ("\u0662 80 48 160", None), ("\x1b[c 80 48 160", None)):
             self.assertEqual(note_in(line.split(" ")), found, line)
             told = zoomed_in(["0", *line.split(" ")])
@@ -373,7 +386,8 @@ class Noted(Zoomed):
         self.assertEqual((noted.take(1, "zoom"), noted.take(1, "here x"), noted.take(1, "zoom 1"), noted.line()), (False,) * 3 + (NO_ZOOM,))
         self.assertTrue(noted.take(1, "zoom 24 80 48 160"))
         self.assertEqual((noted.line(), noted.leave(2), noted.take(2, "zoom none")), ("zoomed 1 24 80 48 160", False, True))
-        self.assertEqual((noted.line(), noted.take(2, "zoom 24 80 50 170"), noted.take(1, "zoom none")), ("zoomed 1 24 80 48 160", True, True))
+        self.assertEqual((noted.line(), noted.take(2, "zoom 24 80 50 170")), ("zoomed 1 24 80 48 160", True))
+        self.assertTrue(noted.take(1, "zoom none"))
         self.assertEqual((noted.line(), noted.leave(1), noted.leave(2)), ("zoomed 2 24 80 50 170", False, True))
         self.assertEqual((noted.line(), noted.take(3, "zoom none"), noted.line()), ("zoomed 0 24 80 50 170", True, NO_ZOOM))
 
