@@ -494,6 +494,18 @@ class Named(Windows):
         self.type(b"y")
         self.assertEqual(self.said(), ["shut 1"])
 
+    def test_asked(self):
+        """A number may be asked for, also by one who only watches."""
+        self.add(12)
+        for watches in (False, True):
+            self.starts.clear()
+            self.keepers.clear()
+            self.front_of(watches=watches)
+            self.tell_list()
+            for typed, number in ((b"12\r", 12), (b"7\r", 12), (b"x\r", 12), (b"\r", 12), (b"1\x03", 12), (b"02\r", 2)):
+                self.type(b"\x02'" + typed)
+                self.assertEqual(self.front.number, number, typed)
+
     def test_list(self):
         """The list shows what runs there, and goes where Return or a digit says."""
         self.tell_list()
