@@ -184,8 +184,8 @@ class Switches(Windows):
     """From one window to another."""
 
     def test_round(self):
-        """Keys behind a switch in one read go to the window where the person went, and those before it to the other, in order. Nothing is left
-        of a window that was left."""
+        """Keys behind a switch in one read go to the window where the person went, and those before it to the other, in order. Nothing is
+        left of a window that was left."""
         self.type(b"\x022\x021")
         self.turn()
         has = len(self.loop.sources), len(self.loop.before), sorted(self.loop.due)
@@ -304,8 +304,8 @@ class Opened(Windows):
         self.assertEqual(self.typed, {1: "ab", 2: ""})
 
     def test_late(self):
-        """A keeper that is stopped doesn't stop who types for longer than a moment, and not from going elsewhere; a window that comes later is
-        told of."""
+        """A keeper that is stopped doesn't stop who types for longer than a moment, and not from going elsewhere; a window that comes later
+        is told of."""
         self.tell_list()
         self.type(b"\x02cab")
         self.now += OPENS
