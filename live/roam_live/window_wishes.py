@@ -220,11 +220,19 @@ class WindowWishes:
         numbers, here = self.numbers(), self.here()
         if what == "last":
             self.go_to(self.last(), "there is no last window")
+        elif what == "asked":
+            self.front.commands.prompts.ask_line(AskedLine("window", most=2), self.go_asked)
         elif what in ("next", "previous"):
             others = [number for number in numbers if (number > here) == (what == "next") and number != here] or numbers
             self.go_to((others[0] if what == "next" else others[-1]) if others else 0, "there is no other window")
         else:
-            self.go_to(int(what) if int(what) in numbers else 0, f"there is no window {what}")
+            number = int(what) if what.isascii() and what.isdigit() else 0
+            self.go_to(number if number in numbers else 0, f"there is no window {what}")
+
+    def go_asked(self, text: str) -> None:
+        """Goes to the window of a number that was typed."""
+        if text:
+            self.go_by(str(int(text)) if text.isascii() and text.isdigit() else text)
 
     def go_to(self, number: int, why: str = "") -> None:
         """Goes to a window, 0 for none, of which it is told why."""

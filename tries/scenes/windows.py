@@ -1,5 +1,5 @@
-"""Windows of a session at a person's terminal: what is typed goes to the window where the person is, however it is cut, and each terminal has
-its own."""
+"""Windows of a session at a person's terminal: what is typed goes to the window where the person is, whatever is stopped, and one that is
+gone gives way to another."""
 import json
 import os
 import pathlib
@@ -98,8 +98,8 @@ def two_windows(folder):
 
 @scene
 def window_stopped(folder):
-    """A keeper, or a start, that is stopped stops nobody from typing, from going elsewhere and from leaving; all that was typed comes where it
-    was meant for, once it goes on."""
+    """A keeper, or a start, that is stopped stops nobody from typing, from going elsewhere and from leaving; all that was typed comes where
+    it was meant for, once it goes on."""
     outer, paths = two_windows(folder)
     keeper = noted(SESSION)["shells"][0]
     os.kill(keeper, signal.SIGSTOP)
@@ -115,18 +115,19 @@ def window_stopped(folder):
     start = window_process(2, "terminals")
     os.kill(start, signal.SIGSTOP)
     outer.type(b" t\x021 o\x022wo")
-    check("a window that isn't painted shows nothing of the one before", comes(lambda: "1:" in outer.rows()[23] and not outer.rows()[0].strip()),
-          outer.rows)
+    is_blank = comes(lambda: "1:" in outer.rows()[23] and not outer.rows()[0].strip())
+    check("a window that isn't painted shows nothing of the one before", is_blank, outer.rows)
     outer.type(b"\x021ne\x02d")
     check("he leaves", outer.ends() and outer.is_restored(), outer.rows)
     os.kill(start, signal.SIGCONT)
-    check("what was typed is taken then", comes(lambda: [typed_in(path) for path in paths] == ["one one", "two two"]), [*map(typed_in, paths)])
+    wanted = ["one one", "two two"]
+    check("what was typed is taken then", comes(lambda: [typed_in(path) for path in paths] == wanted), [*map(typed_in, paths)])
 
 
 @scene
 def window_kills(folder):
-    """A window whose server is killed gives way to the one before; a keeper that is killed is followed by another, which has the windows; the
-    last window's end is the session's."""
+    """A window whose server is killed gives way to the one before; a keeper that is killed is followed by another, which has the windows;
+    the last window's end is the session's."""
     outer, paths = two_windows(folder)
     os.kill(window_process(2, "server"), signal.SIGKILL)
     outer.type(b"")

@@ -184,8 +184,8 @@ class Switches(Windows):
     """From one window to another."""
 
     def test_round(self):
-        """Keys behind a switch in one read go to the window where the person went, and those before it to the other, in order. Nothing is left
-        of a window that was left."""
+        """Keys behind a switch in one read go to the window where the person went, and those before it to the other, in order. Nothing is
+        left of a window that was left."""
         self.type(b"\x022\x021")
         self.turn()
         has = len(self.loop.sources), len(self.loop.before), sorted(self.loop.due)
@@ -304,8 +304,8 @@ class Opened(Windows):
         self.assertEqual(self.typed, {1: "ab", 2: ""})
 
     def test_late(self):
-        """A keeper that is stopped doesn't stop who types for longer than a moment, and not from going elsewhere; a window that comes later is
-        told of."""
+        """A keeper that is stopped doesn't stop who types for longer than a moment, and not from going elsewhere; a window that comes later
+        is told of."""
         self.tell_list()
         self.type(b"\x02cab")
         self.now += OPENS
@@ -493,6 +493,18 @@ class Named(Windows):
         self.assertEqual(self.rows()[1], "shut window 1 and end the session, whose last it is? y shuts it")
         self.type(b"y")
         self.assertEqual(self.said(), ["shut 1"])
+
+    def test_asked(self):
+        """A number may be asked for, also by one who only watches."""
+        self.add(12)
+        for watches in (False, True):
+            self.starts.clear()
+            self.keepers.clear()
+            self.front_of(watches=watches)
+            self.tell_list()
+            for typed, number in ((b"12\r", 12), (b"7\r", 12), (b"x\r", 12), (b"\r", 12), (b"1\x03", 12), (b"02\r", 2)):
+                self.type(b"\x02'" + typed)
+                self.assertEqual(self.front.number, number, typed)
 
     def test_list(self):
         """The list shows what runs there, and goes where Return or a digit says."""
