@@ -341,7 +341,7 @@ def far_relays(name="sealed"):
 def is_far(path, name):
     """Whether words are those of a far relay of a side of this trial."""
     words = text_of(path)
-    return f"{os.environ['XDG_RUNTIME_DIR']}/roam/{name}\0".encode() in words and b"/relay\0--far\0" in words
+    return f"{os.environ['XDG_RUNTIME_DIR']}/roam/{name}/w/1\0".encode() in words and b"/relay\0--far\0" in words
 
 
 def sealed_ssh(machines):

@@ -12,9 +12,10 @@ from collections.abc import Iterable
 from roam_live.asking import close_standard, forget_note, is_wanted, made_path, name_in, part_from_command, take_over
 from roam_live.carriers import Carrier, is_datagram
 from roam_live.ends import FORGOTTEN_AFTER, PEER_LIMIT, SIGNALS, Ended, Options, end_for, loopback_socket, received
+from roam_live.far_windows import WINDOW_SHIFT, FarWindows
 from roam_live.loops import Loop, is_taken
 from roam_live.program import Fault, connected_now, noted_front_end, opened_process
-from roam_live.relayed import ENDED, KILLED, LEAVES, WANTS, RelayStream, Waiting
+from roam_live.relayed import ENDED, KILLED, LEAVES, WANTS, WINDOWS, RelayStream, Waiting
 from roam_live.sealed import PORTS, udp_end
 from roam_live.sessions import window_in
 from roam_live.streams import CARRIES, SHELLS
@@ -39,10 +40,11 @@ class Far:
         self.loop.each(self.prepare)
         self.loop.add(wakeup, lambda: end_for(wakeup))
         if asked.server:
-            self.loop.add(opened_process(asked.server), self.tell_end)
+            self.follow_server(asked.server)
         # Nobody else may be there to see the shells' end.
         self.place = window_in(asked.dir, asked.server) if asked.server and asked.dir else None
         self.shells = ShellsWatch(self.place, self.loop) if self.place else None
+        self.windows = FarWindows(self.place, self.loop, self.tell_windows)
         self.waiting = Waiting()
         self.sockets: dict[int, socket.socket | Carrier] = {}
         self.moments: dict[int, float] = {}
@@ -73,7 +75,7 @@ class Far:
             if peer not in self.sockets:
                 while len(self.sockets) >= PEER_LIMIT:
                     self.drop(min(self.moments, key=self.moments.__getitem__))
-                self.sockets[peer] = self.opened()
+                self.sockets[peer] = self.opened(peer >> WINDOW_SHIFT)
                 self.join(peer, self.sockets[peer])
             self.moments[peer] = time.monotonic()
             self.sockets[peer].send(datagram)
@@ -81,13 +83,13 @@ class Far:
             # Nobody has the port now, or its queue is full: the datagram is lost, as any may be.
             pass
 
-    def opened(self) -> socket.socket | Carrier:
-        """A way to the server for one client more."""
+    def opened(self, number: int) -> socket.socket | Carrier:
+        """A way to the server for one client more, to that of a window where the near end takes them."""
         if self.asked.port:
             one = loopback_socket()
             one.connect(("127.0.0.1", self.asked.port))
             return one
-        return Carrier(connected_now(os.path.join(self.asked.dir or "", "clients")))
+        return Carrier(connected_now(os.path.join(self.windows.folder(number) or self.asked.dir or "", "clients")))
 
     def drop(self, peer: int) -> None:
         """Forgets a client."""
@@ -106,7 +108,7 @@ class Far:
         """A connection to a socket of the session's folder, of those that are carried; OSError where it can't be had."""
         if not self.asked.dir:
             raise FileNotFoundError(name)
-        return connected_now(os.path.join(self.asked.dir, name))
+        return connected_now(self.windows.path(name) if self.place else os.path.join(self.asked.dir, name))
 
     # ---- what the other end is told
 
@@ -117,6 +119,37 @@ class Far:
     def way(self) -> Path | RelayStream | None:
         """What carries what waits."""
         return self.ways.chosen(self.has_command())
+
+    def tell_windows(self, text: bytes) -> None:
+        """Tells the near end which windows there are, by all that carries something."""
+        if self.has_command():
+            self.stream.tell(0, text)
+        if self.ways.path:
+            self.ways.path.tell(0, text)
+
+    def use_windows(self) -> None:
+        """Tells windows from now on: a peer that was taken for one of the relay's own is another's."""
+        if not self.windows.is_used:
+            for peer in [peer for peer in self.sockets if peer >> WINDOW_SHIFT]:
+                self.drop(peer)
+        self.windows.use()
+
+    def follow_server(self, process: int) -> None:
+        """Sees the end of the server of the relay's own window."""
+        self.server = opened_process(process)
+        self.loop.add(self.server, self.server_ended)
+
+    def server_ended(self) -> None:
+        """Goes on with another window of the session as its own, or tells its end."""
+        heir = self.windows.heir()
+        process = heir.process("server") if heir else None
+        self.loop.remove(self.server)
+        os.close(self.server)
+        if heir and process:
+            self.place = heir
+            self.follow_server(process)
+        else:
+            self.tell_end()
 
     def tell_end(self) -> None:
         """Tells that the session has ended, or that its server was killed, and ends."""
@@ -159,6 +192,8 @@ class Far:
                 self.make_path(name_in(text))
             elif peer == 0 and text == LEAVES:
                 raise Ended(0)
+            elif peer == 0 and text == WINDOWS:
+                self.use_windows()
             elif peer == 0 and self.stream.streams:
                 self.stream.streams.take(text)
         self.drop_silent()
@@ -183,6 +218,8 @@ class Far:
             self.ways.take_path(made[0], self.hear_path, self.opened_socket)
             self.name, self.note = name, take_over(self.asked.dir, name)
             self.stream.tell(0, made[1])
+            if self.windows.told:
+                made[0].tell(0, self.windows.told)
 
     def let_go(self) -> None:
         """Goes on without the command, where there is a path; else all ends with it."""

@@ -118,7 +118,8 @@ class FrontEnd:
     def server_ended(self, visit: Visit) -> None:
         """Goes on in another window where the server of this one has ended; where there is none the session has."""
         visit.watch_no_more(self.loop)
-        if not (visit.number and self.windows.leave(visit.number)):
+        # Of another machine's session the relay is meant, which all windows have.
+        if visit.session.served == "relay" or not (visit.number and self.windows.leave(visit.number)):
             self.leave(*visit.session.ending())
 
     def reached(self, number: int) -> AnySession | None:

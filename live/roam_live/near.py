@@ -14,12 +14,14 @@ from collections.abc import Callable, Iterator
 from roam_live.asking import Finder, NearPath, is_wanted, kept_name, near_path, wish
 from roam_live.carriers import Carrier, is_datagram
 from roam_live.ends import FORGOTTEN_AFTER, PEER_LIMIT, Ended, Options, end_for, loopback_socket, received
+from roam_live.far_windows import MOST_IN_WINDOW, WINDOW_SHIFT, windows_in
 from roam_live.lasting import Lasting
 from roam_live.listeners import Listener
 from roam_live.loops import Loop
 from roam_live.near_sockets import NearSockets
+from roam_live.near_windows import NearWindows
 from roam_live.program import Fault, count_front_ends, logs, make_room_in_logs, opened_process, read, reason, replace_text, say
-from roam_live.relayed import ENDED, KILLED, LEAVES, SEALED, BadWords, RelayStream, Waiting
+from roam_live.relayed import ENDED, KILLED, LEAVES, SEALED, WINDOWS, BadWords, RelayStream, Waiting
 from roam_live.streams import BadStream
 from roam_live.ways import SOUND, Ways, finish
 from roam_live.words import Said
@@ -55,23 +57,41 @@ class Peers:
         self.numbers: dict[Address | Carrier, int] = {}
         self.addresses: dict[int, Address | Carrier] = {}
         self.moments: dict[int, float] = {}
-        self.last = 0
+        # The last of each window; 0 is the relay's own, which has all numbers while none is known of another.
+        self.last: dict[int, int] = {}
+        self.has_windows = False
         self.forget = forget
 
-    def number(self, address: Address | Carrier) -> int:
-        """The number of an address, from 1."""
+    def number(self, address: Address | Carrier, window: int = 0) -> int:
+        """The number of an address, from 1; its high byte is that of its window."""
         if address not in self.numbers:
             while len(self.numbers) >= PEER_LIMIT:
                 self.drop(min(self.moments, key=self.moments.__getitem__))
-            self.last = next(self.free())
-            self.numbers[address], self.addresses[self.last] = self.last, address
+            number = next(self.free(window))
+            self.last[window] = number
+            self.numbers[address], self.addresses[number] = number, address
         number = self.numbers[address]
         self.moments[number] = time.monotonic()
         return number
 
-    def free(self) -> Iterator[int]:
-        """The numbers that are free, from the one behind the last on."""
-        return (number for number in itertools.chain(range(self.last + 1, 65536), range(1, self.last + 1)) if number not in self.addresses)
+    def free(self, window: int) -> Iterator[int]:
+        """The numbers that are free for a window, from the one behind the last on."""
+        first = (window << WINDOW_SHIFT) + 1
+        end = first + MOST_IN_WINDOW if window or self.has_windows else 65536
+        last = self.last.get(window, first - 1)
+        return (number for number in itertools.chain(range(last + 1, end), range(first, last + 1)) if number not in self.addresses)
+
+    def use_windows(self) -> None:
+        """Has the relay's own window keep to its numbers: others are forgotten."""
+        self.has_windows = True
+        self.last[0] = min(self.last.get(0, 0), MOST_IN_WINDOW)
+        for number in [number for number in self.addresses if number > MOST_IN_WINDOW]:
+            self.drop(number)
+
+    def drop_window(self, window: int) -> None:
+        """Forgets the peers of a window that is gone."""
+        for number in [number for number in self.addresses if number >> WINDOW_SHIFT == window]:
+            self.drop(number)
 
     def drop(self, number: int) -> None:
         """Forgets a peer."""
@@ -168,8 +188,10 @@ class Near:
             self.loop.add(self.port, self.hear_port)
         self.listener = self.listening(asked.dir) if asked.dir else None
         self.sockets = NearSockets(asked.dir, self.loop, self.carrying) if asked.dir else None
+        self.windows = NearWindows(asked.dir, self.loop, self.carrying, self.listening, self.part_window) if asked.dir else None
         self.lasting = Lasting(asked.dir) if asked.dir else None
         self.carriers: list[Carrier] = []
+        self.window_of: dict[Carrier, int] = {}
         self.waiting = Waiting()
         self.peers = Peers(self.waiting.forget)
         self.session = "-"
@@ -333,6 +355,8 @@ class Near:
             raise Ended(0)
         elif text[:1] == SEALED:
             self.take_path(near_path(text))
+        elif text[:1] == WINDOWS:
+            self.take_windows(windows_in(text))
         elif self.link and self.link.stream.streams:
             self.link.stream.streams.take(text)
 
@@ -343,11 +367,31 @@ class Near:
         self.carries = carries
         if self.sockets and carries:
             self.sockets.open()
+            if self.link:
+                self.link.stream.tell(0, WINDOWS)
         elif self.sockets and carries is not None:
             self.sockets.close()
             if not self.has_told_lack:
                 self.has_told_lack = True
                 say("the other machine's roam is an earlier one: it tells neither where panes are nor that one rings")
+
+    def take_windows(self, told: dict[int, str]) -> None:
+        """Takes which windows there are. The session is found again by one that is there."""
+        if not self.windows or not told:
+            return
+        if not self.peers.has_windows:
+            self.peers.use_windows()
+        self.windows.take(told)
+        if self.session not in told.values():
+            self.session = next(iter(told.values()))
+            with contextlib.suppress(OSError):
+                replace_text(os.path.join(self.asked.dir or "", "session"), f"{self.session}\n")
+
+    def part_window(self, number: int) -> None:
+        """Lets the clients go of a window that is gone."""
+        for carrier in [carrier for carrier in self.carriers if self.window_of.get(carrier) == number]:
+            self.part(carrier)
+        self.peers.drop_window(number)
 
     def carrying(self) -> Streams[Any] | None:
         """What carries connections now; None where nothing does."""
@@ -365,6 +409,7 @@ class Near:
         """Takes a path that the other end tells of, where it can be had."""
         if path:
             self.ways.take_path(path, self.hear_path)
+            path.tell(0, WINDOWS)
 
     def hear_path(self) -> None:
         """Takes what came over the path."""
@@ -403,15 +448,16 @@ class Near:
             except OSError:
                 pass
 
-    def listening(self, folder: str) -> Listener:
+    def listening(self, folder: str, window: int = 0) -> Listener:
         """The socket at which clients connect; as many as peers are known, and another waits until one has left."""
-        return Listener(self.loop, os.path.join(folder, "clients"), self.take_client, lambda: len(self.carriers) < PEER_LIMIT,
-                        lambda fault: say(f"a client waits: {reason(fault)}"))
+        return Listener(self.loop, os.path.join(folder, "clients"), lambda peer: self.take_client(peer, window),
+                        lambda: len(self.carriers) < PEER_LIMIT, lambda fault: say(f"a client waits: {reason(fault)}"))
 
-    def take_client(self, peer: socket.socket) -> None:
-        """Takes a client that came."""
+    def take_client(self, peer: socket.socket, window: int = 0) -> None:
+        """Takes a client that came, of a window."""
         carrier = Carrier(peer)
         self.carriers.append(carrier)
+        self.window_of[carrier] = window
         self.loop.add(carrier, lambda: self.hear_client(carrier), lambda: self.flush_client(carrier), has_more=lambda: carrier.going)
 
     def flush_client(self, carrier: Carrier) -> None:
@@ -425,7 +471,7 @@ class Near:
         if datagrams is None:
             self.part(carrier)
         for datagram in datagrams or []:
-            self.waiting.add(self.peers.number(carrier), datagram)
+            self.waiting.add(self.peers.number(carrier, self.window_of.get(carrier, 0)), datagram)
 
     def hear_port(self) -> None:
         """Takes what came at the port."""
@@ -438,6 +484,7 @@ class Near:
         self.loop.remove(carrier)
         carrier.close()
         self.carriers.remove(carrier)
+        self.window_of.pop(carrier, None)
         if carrier in self.peers.numbers:
             self.peers.drop(self.peers.numbers[carrier])
 
@@ -451,6 +498,8 @@ class Near:
         self.ways.fill(self.waiting, self.has_live_link())
         if self.sockets:
             self.sockets.wake()
+        if self.windows:
+            self.windows.wake()
         return min(self.moments(), default=None)
 
     def moments(self) -> list[float]:
@@ -474,7 +523,7 @@ class Near:
             link.status()
         for carrier in list(self.carriers):
             self.part(carrier)
-        for source in (self.listener, self.sockets):
+        for source in (self.windows, self.listener, self.sockets):
             if source:
                 source.close()
         if self.asked.dir:

@@ -37,8 +37,8 @@ class CarriedSocket:
     """A socket of the near folder: who connects is carried to that of its name at the other machine. Who comes while nothing carries waits;
     for whom there is no room is let go."""
 
-    def __init__(self, folder: str, name: str, loop: Loop, carries: Carries) -> None:
-        self.name, self.carries = name, carries
+    def __init__(self, folder: str, name: str, loop: Loop, carries: Carries, leads: str = "") -> None:
+        self.name, self.carries = leads + name, carries
         self.listener = Listener(loop, os.path.join(folder, name), self.take, lambda: carries() is not None, lambda fault: None)
 
     def take(self, peer: socket.socket) -> None:
@@ -87,11 +87,12 @@ class PanesPeer:
 class SharedPanes:
     """The socket `panes` of the near folder: the panes of the other machine, which are followed there once."""
 
-    def __init__(self, folder: str, loop: Loop, carries: Carries) -> None:
-        self.loop, self.carries = loop, carries
+    def __init__(self, folder: str, loop: Loop, carries: Carries, leads: str = "") -> None:
+        self.loop, self.carries, self.name = loop, carries, leads + PANES
         self.told = ToldPanes()
         self.peers: list[PanesPeer] = []
         self.following = Following(self.opened, loop, self.hear, self.lose)
+        self.following.again += f" {leads}" if leads else ""
         self.listener = Listener(loop, os.path.join(folder, PANES), self.take, lambda: self.following.peer is not None, lambda fault: None)
         self.following.connect()
 
@@ -103,7 +104,7 @@ class SharedPanes:
         ours, theirs = socket.socketpair()
         for end in (ours, theirs):
             end.setblocking(False)
-        if not streams.begin(PANES, theirs):
+        if not streams.begin(self.name, theirs):
             ours.close()
             theirs.close()
             raise BlockingIOError("no room is left for it")
@@ -113,7 +114,7 @@ class SharedPanes:
         """Follows at once, now that something carries it."""
         if not self.following.peer:
             self.following.faults = 0
-            self.loop.drop("follow panes")
+            self.loop.drop(self.following.again)
             self.following.connect()
 
     # ---- what the other machine tells
@@ -193,7 +194,7 @@ class SharedPanes:
                 self.ask(peer, word)
             return
         self.part(peer)
-        if not streams.begin(PANES, peer.end, "".join(f"{word}\n" for word in peer.words).encode() + peer.said):
+        if not streams.begin(self.name, peer.end, "".join(f"{word}\n" for word in peer.words).encode() + peer.said):
             peer.end.close()
 
     def ask(self, peer: PanesPeer, word: str) -> None:
@@ -219,8 +220,7 @@ class SharedPanes:
     def close(self) -> None:
         """Removes the socket, and lets all go."""
         self.listener.close()
-        self.loop.drop("follow panes")
-        self.following.leave()
+        self.following.end()
         for peer in list(self.peers):
             self.drop(peer)
 
@@ -228,8 +228,10 @@ class SharedPanes:
 class NearSockets:
     """All of them, while the other end carries connections."""
 
-    def __init__(self, folder: str, loop: Loop, carries: Carries) -> None:
+    def __init__(self, folder: str, loop: Loop, carries: Carries, leads: str = "") -> None:
         self.folder, self.loop, self.carries = folder, loop, carries
+        # What leads their names at the other machine, where they are those of another window than the relay's own.
+        self.leads = leads
         self.panes: SharedPanes | None = None
         self.others: list[CarriedSocket] = []
         # What carried connections when that was seen last.
@@ -240,9 +242,9 @@ class NearSockets:
         if self.panes:
             return
         try:
-            self.panes = SharedPanes(self.folder, self.loop, self.carries)
+            self.panes = SharedPanes(self.folder, self.loop, self.carries, self.leads)
             for name in CARRIED:
-                self.others.append(CarriedSocket(self.folder, name, self.loop, self.carries))
+                self.others.append(CarriedSocket(self.folder, name, self.loop, self.carries, self.leads))
         except (Fault, OSError) as fault:
             say(f"no panes and no bells are told: {reason(fault)}")
 

@@ -15,7 +15,7 @@ from collections.abc import Callable, Iterable, Iterator, Sequence
 
 from roam_live.bundles import LARGE, NOW, ONCE_KIND, PIECE, PIECE_KIND, SOON, WHOLE, WHOLE_KIND, Bundles, Piece
 from roam_live.path_streams import STREAM, STREAM_KIND, TAKEN_KIND, PathStreams, StreamPiece
-from roam_live.relayed import ENDED, LEAVES, BadWords, Waiting, demand_length, demand_told
+from roam_live.relayed import ENDED, LEAVES, WINDOWS, BadWords, Waiting, demand_length, demand_told
 from roam_live.sealed import LONGEST_PACKET, LONGEST_TEXT, Seal, Window, came_to, send, udp_end
 from roam_live.streams import TAKEN_COUNT
 
@@ -41,7 +41,7 @@ LAYOUTS = {PIECE_KIND: PIECE, ONCE_KIND: PIECE, WHOLE_KIND: WHOLE, STREAM_KIND: 
 ASKS, ASKS_LARGE = b"a", b"l"
 
 # What an end tells of itself.
-TOLD = (ENDED, LEAVES)
+TOLD = (ENDED, LEAVES, WINDOWS)
 
 # Every so manieth packet begins with connections, where bundles take all of the others.
 TURN_OF_STREAMS = 4

@@ -39,6 +39,10 @@ KILLED = ENDED + b"k"
 # tells its port, the key and its address. By the path alone: the near end leaves.
 WANTS, SEALED, LEAVES = b"w", b"s", b"l"
 
+# What the ends tell each other of windows, which an earlier one knows as nothing: the near end that it takes them, and the far one all that
+# there are.
+WINDOWS = b"n"
+
 # An end can unpack what LZMA packed, which an earlier one doesn't say, or know. A frame of what is packed: its peer, and whether it is the
 # last of an instruction.
 UNPACKS, PACKED = b"c\1", b"x"

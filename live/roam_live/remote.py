@@ -26,6 +26,9 @@ if TYPE_CHECKING:
 SSH_PAIRS = "BbcDEeFIiJLlmOoPpQRSWw"
 OWN_PAIRS = ("--ssh", "--far", "--guess")
 
+# So many seconds the other machine has for telling which windows there are: one of an earlier roam tells none.
+TOLD_WAIT = 1.5
+
 # So many seconds ssh has for telling where it would go.
 HOST_WAIT = 5.0
 

@@ -9,7 +9,9 @@ import os
 import pathlib
 import re
 import signal
+import shutil
 import stat
+import time
 from collections.abc import Iterable, Iterator
 
 from roam_live.brought import LINK
@@ -22,9 +24,8 @@ from roam_live.window_processes import NUMBER, WINDOWS, WINDOWS_VERSION, note_en
 
 NAME = re.compile(r"[A-Za-z0-9_-]{1,32}")
 
-# What stands here for a session of another machine: ssh, the host, the session, its window where one was named, and a number where ssh is
-# called in another way.
-NEAR_NAME = re.compile(r"ssh:[A-Za-z0-9_.@-]{1,128}:[A-Za-z0-9_-]{1,32}(?::(?P<window>[1-9]\d?))?(:[0-9a-f]{8})?", re.ASCII)
+# What stands here for a session of another machine: ssh, the host, the session, and a number where ssh is called in another way.
+NEAR_NAME = re.compile(r"ssh:[A-Za-z0-9_.@-]{1,128}:[A-Za-z0-9_-]{1,32}(:[0-9a-f]{8})?")
 
 # A socket's path has at most so many bytes.
 LONGEST_PATH = 107
@@ -333,6 +334,8 @@ class FolderSession(Processes):
         notes = [self.folder / name for name in (*SOCKETS, LINK, "rects", "session", "session.new", "state.json")]
         for path in [*(note for folder in folders if folder.is_dir() for note in folder.iterdir()), *notes]:
             path.unlink(missing_ok=True)
+        if self.served == "relay":
+            shutil.rmtree(self.folder / WINDOWS, ignore_errors=True)
 
     def end_all(self) -> None:
         """Ends the session's processes; the shells hang up their programs once the server is gone."""
@@ -652,13 +655,39 @@ class NearSession(FolderSession):
     served = "relay"
     sockets = {"relay": "clients", "terminals": "terminals"}
 
+    # ---- its windows
+
+    def windows(self) -> list[FolderSession]:
+        """The windows that are told here, in order; itself where none is, as by an earlier roam there."""
+        folder = self.folder / WINDOWS
+        numbers = [number for number in numbers_in(str(folder)) if (folder / str(number) / "session").exists()]
+        return [NearWindow(self, number) for number in numbers] or [self]
+
     def window(self, number: int | None = None) -> FolderSession:
-        """Its one window: which of the other machine's it is was said where it was attached to."""
-        named = NEAR_NAME.fullmatch(self.folder.name)
-        if number is not None and str(number) != (named and named["window"]):
-            raise Fault(f"session {self.name} is of another machine: other windows of it can't be had here yet, but by `mux ssh HOST "
-                        f"NAME:{number}`")
-        return self
+        """A window by its number; else that of its own session's id, which the relay's own window has, or the first."""
+        there = self.windows()
+        named = [window for window in there if window.number == number or number is None and window.id() == self.id()]
+        if not named and number is not None:
+            why = f"has no window {number}" if there[0].number else f"has one window here, as an earlier roam's there, and no window {number}"
+            raise Fault(f"session {self.name} {why}")
+        return (named or there)[0]
+
+    def await_windows(self, number: int | None, seconds: float) -> None:
+        """Waits until the other machine tells its windows, that of a number too where one is named, or for so long: one of an earlier roam
+        tells none."""
+        end = time.monotonic() + seconds
+        while time.monotonic() < end:
+            there = [window.number for window in self.windows()]
+            if there[0] and (number is None or number in there):
+                return
+            time.sleep(0.01)
+
+    def end_all(self) -> None:
+        """Ends the relay, and the client starts of all windows."""
+        windows = [window for window in self.windows() if window is not self]
+        super().end_all()
+        for window in windows:
+            window.end("terminals")
 
     def launch(self, command: Iterable[str] = ()) -> None:
         """Refuses: how ssh is called isn't known."""
@@ -704,6 +733,57 @@ class NearSession(FolderSession):
         if (self.folder / "ended").exists():
             return "[the session has ended]", 0
         return f"[the relay has ended; {self.log} tells why]", 1
+
+
+class NearWindow(FolderSession):
+    """A window of another machine's session: the relay of that stands for its server, and has its sockets in a folder of their own."""
+
+    served = "relay"
+    sockets = {"relay": "clients", "terminals": "terminals"}
+
+    def __init__(self, session: NearSession, number: int) -> None:
+        super().__init__(session.folder / WINDOWS / str(number), f"{session.name}:{number}")
+        self.session, self.number = session, number
+        self.common, self.log = session.folder, session.log
+
+    def whole_session(self) -> FolderSession:
+        """The session of which this is a window."""
+        return self.session
+
+    def windows(self) -> list[FolderSession]:
+        """The windows of its session."""
+        return self.session.windows()
+
+    def window(self, number: int | None = None) -> FolderSession:
+        """A window of its session by its number, else this one."""
+        return self if number in (None, self.number) else self.session.window(number)
+
+    def process(self, role: str) -> int | None:
+        """The process of a role: the relay is the session's."""
+        return self.session.process(role) if role == self.served else super().process(role)
+
+    def find(self) -> bool:
+        """Whether it is there."""
+        return self.session.find() and (self.folder / "session").exists()
+
+    def taken_lock(self, may_wait: bool) -> int:
+        """The session's lock, once this process has it."""
+        return self.session.taken_lock(may_wait)
+
+    def busy(self) -> dict[int, str] | None:
+        """What runs in its panes isn't known here."""
+        return None
+
+    def ending(self) -> tuple[str, int]:
+        """What is said where the relay has ended, and the status."""
+        return self.session.ending()
+
+    def demand_shells(self) -> None:
+        """Leaves the shells to the other machine."""
+
+    def launch(self, command: Iterable[str] = ()) -> None:
+        """Refuses: windows are opened at the other machine."""
+        self.session.launch(command)
 
 
 def listed(name: str, size: str, panes: int | None, terminals: int) -> str:

@@ -7,6 +7,7 @@ carries connections of its own. Over a command they are frames of peer 0.
 """
 from __future__ import annotations
 
+import re
 import socket
 import struct
 from collections.abc import Callable
@@ -19,6 +20,9 @@ TYPE_CHECKING = False
 if TYPE_CHECKING:
     # How a socket of a name is connected to; OSError where it can't be.
     Opens = Callable[[str], socket.socket]
+
+# What leads the name of a socket of another window than the relay's own.
+LED = re.compile(r"^w/[1-9]\d?/", re.ASCII)
 
 # The sockets to which connections are carried, that by which a terminal is known to be there, and how many connections at most.
 SHELLS = "shells"
@@ -189,8 +193,8 @@ class Streams(Generic[One]):
                 self.end(one)
 
     def end_named(self, name: str) -> None:
-        """Ends those that were connected here to a socket of a name: the other end is told."""
-        for one in [one for one in self.all.values() if one.socket_name == name and not one.has_ended]:
+        """Ends those that were connected here to a socket of a name, of any window: the other end is told."""
+        for one in [one for one in self.all.values() if LED.sub("", one.socket_name, count=1) == name and not one.has_ended]:
             one.going.clear()
             self.end(one)
 
@@ -204,7 +208,7 @@ class Streams(Generic[One]):
     def opened(self, one: One, name: str) -> None:
         """Connects a connection that the other end began to a socket of a name; where that can't be it is ended."""
         try:
-            if name not in NAMES or not self.opens:
+            if LED.sub("", name, count=1) not in NAMES or not self.opens:
                 raise FileNotFoundError(name)
             self.join(one, self.opens(name))
             one.socket_name = name

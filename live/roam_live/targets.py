@@ -19,7 +19,7 @@ if TYPE_CHECKING:
     from roam_live.sessions import FolderSession
 
 # The name of a session, or of what stands here for one of another machine, which may be missing; a window of it, and a pane.
-WORD = re.compile(r"(?P<name>ssh:[^:]+:[^:.]+(?::[1-9]\d?(?=:))?(?::[0-9a-f]{8})?|[^:.]*)(?::(?P<window>[1-9]\d?))?(?:\.(?P<pane>[1-9]))?|:", re.ASCII)
+WORD = re.compile(r"(?P<name>ssh:[^:]+:[^:.]+(?::[0-9a-f]{8})?|[^:.]*)(?::(?P<window>[1-9]\d?))?(?:\.(?P<pane>[1-9]))?|:", re.ASCII)
 
 # So many seconds a server has for closing a pane.
 CLOSES = 5.0
@@ -46,12 +46,9 @@ def target_of(word: str) -> Target:
 
 def session_of(target: Target) -> FolderSession:
     """The session that is named, or the one in which this process runs."""
-    from roam_live.sessions import base, session_named, window_in
+    from roam_live.sessions import session_named, window_in
 
     folder = own_pane()[0]
-    # Of another machine's a window stands here by itself.
-    if target.name.startswith("ssh:") and target.window and os.path.isdir(base() / f"{target.name}:{target.window}"):
-        return session_named(f"{target.name}:{target.window}")
     if target.name:
         return session_named(target.name)
     if not folder:

@@ -52,8 +52,10 @@ if TYPE_CHECKING:
 # What is told to who had a window opened.
 OPENED = re.compile(r"opened (?:(?P<window>[1-9]\d?)|none (?P<why>.{1,200}))", re.ASCII)
 
-# So many seconds a window has until it is opened: what is typed meanwhile is for it, so many keys and characters at most.
+# So many seconds a window has until it is opened, and so often it is looked whether it is there: what is typed meanwhile is for it, so many
+# keys and characters at most.
 OPENS = 3.0
+COMES = 0.02
 MOST_KEYS = 4096
 MOST_TEXT = 1 << 20
 INTERRUPT = "\x03"
@@ -277,6 +279,10 @@ class WindowWishes:
             return
         if not number:
             self.end_opening(f"no window is opened: {why}")
+            return
+        if self.front.reached(number) is None and "window opens" in self.loop.due:
+            # Of another machine's session it is told here a moment later, by another way.
+            self.loop.later("window comes", COMES, lambda: self.opened(number, why))
             return
         held, self.held = self.held, []
         self.end_opening("")

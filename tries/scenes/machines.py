@@ -119,28 +119,40 @@ def is_asked(outer):
 
 
 @scene
-def far_window(folder):
-    """`mux ssh` shows the window that is named, which can't have others here; another window's end is none of its own."""
+def far_windows(folder):
+    """`mux ssh` shows the windows of a session of another machine, over one relay: a window is named, opened, gone to and shut there."""
     far = folder / "far"
     words, there = ssh_words(folder, far, folder / "asked"), {**os.environ, "XDG_RUNTIME_DIR": str(far)}
     for more in (("new", "-d", "other"), ("new-window", "other"), ("new-window", "other"), ("send", "-l", "echo sec''ond\r", "other:2")):
         subprocess.run(tool("mux", *more), env=there, stdout=subprocess.DEVNULL, check=True)
     outer = Outer([*words[:-1], "other:2"])
     check("mux ssh shows the window that is named", outer.shows("second"), outer.rows)
-    outer.type(b"\x02c")
-    check("which tells that it can't have others here", outer.status("this session has one window"), outer.rows)
+    check("and tells the others", comes(lambda: " 1:" in outer.rows()[-1] and " 3:" in outer.rows()[-1]), outer.rows)
+    outer.type(b"\x02cecho fo''urth\r")
+    check("one is opened there, and takes what is typed behind", outer.shows("fourth"), outer.rows)
+    outer.type(b"\x022echo ag''ain\r\x024echo ther''e\r")
+    check("keys behind a switch in one piece go to the new window", outer.shows("there") and not any("again" in row for row in outer.rows()),
+          outer.rows)
     name = next(path.name for path in pathlib.Path(os.environ["XDG_RUNTIME_DIR"], "roam").glob("ssh:*"))
-    told = said("capture", name)
-    check("it has a name of its own here", name.startswith("ssh:there:other:2:") and told[0] == 0 and "second" in told[1], (name, told))
-    subprocess.run(tool("mux", "kill", "other:3"), env=there, check=True)
-    outer.type(b"echo st''ays\r")
-    check("it goes on where another window is shut", outer.shows("stays"), outer.rows)
-    subprocess.run(tool("mux", "kill", "other:2"), env=there, check=True)
-    is_told = outer.ends() and outer.process.returncode == 0 and outer.shows("[the session has ended]")
-    check("its own end is told here", is_told, outer.rows)
-    left = subprocess.run(tool("mux", "list-windows", "other"), env=there, stdout=subprocess.PIPE, check=False).stdout.decode()
-    check("and the rest goes on there", left.split()[:1] == ["1"], left)
+    told = said("capture", f"{name}:2")
+    check("and those before to the other", told[0] == 0 and "again" in told[1], told)
+    check("one ssh and one relay carry all", len(asked_commands(folder / "asked")) == 1, asked_commands(folder / "asked"))
+    subprocess.run(tool("mux", "kill", "-f", "other:4"), env=there, check=True)
+    check("a window that is shut gives way to the one before", outer.shows("again"), outer.rows)
+    for number in (1, 2):
+        subprocess.run(tool("mux", "kill", "-f", f"other:{number}"), env=there, check=True)
+    outer.type(b"echo la''st\r")
+    check("also where it was the relay's own", outer.shows("last") and outer.status("[1] 3:"), outer.rows)
     subprocess.run(tool("mux", "kill", "-f", "other"), env=there, check=True)
+    is_told = outer.ends() and outer.process.returncode == 0 and outer.shows("[the session has ended]")
+    check("the session's end is told here", is_told, outer.rows)
+    near = pathlib.Path(os.environ["XDG_RUNTIME_DIR"], "roam", name)
+    check("and nothing is left here", comes(lambda: not (near / "w").exists() and not listed()), list(near.iterdir()))
+
+
+def asked_commands(path):
+    """The commands that were run over what stands for ssh."""
+    return [line for line in path.read_text(encoding="utf-8").splitlines() if " -G " not in f" {line} "]
 
 
 @scene
@@ -161,7 +173,7 @@ def far(folder):
     outer.status(" 1 [2]")
     check("C-b x asks, since what runs there isn't known here", comes(lambda: is_asked(outer)), outer.rows)
     outer.type(b"y")
-    check("and closes it", outer.status("[1]  "), outer.rows)
+    check("and closes it", outer.status("[1] 1:"), outer.rows)
     outer.type(b"\x02d")
     check("C-b d leaves it", outer.ends() and outer.is_restored(), outer.rows)
     again, beside = Outer(words), Outer(words)
@@ -224,6 +236,11 @@ def carried(folder):
     check("and leaves nothing here", comes(lambda: not (here / "panes").exists() and not listed()), list(here.iterdir()))
 
 
+def fits(outer):
+    """Whether the last row of a terminal comes to tell the key that fits the session to it, behind the windows."""
+    return comes(lambda: outer.rows()[-1].startswith("[1] 1:") and outer.rows()[-1].rstrip().endswith("C-b r fits"))
+
+
 @scene
 def far_sizes(folder):
     """A session of another machine that was just started has this terminal's size; later none is made smaller."""
@@ -240,9 +257,9 @@ def far_sizes(folder):
     first.type(b"\x02d")
     first.ends()
     alone = Outer(words)
-    check("it grows for a larger terminal alone", alone.shows("11 40") and alone.status("[1]".ljust(80)), alone.rows)
+    check("it grows for a larger terminal alone", alone.shows("11 40") and alone.status("[1] 1:") and "fits" not in alone.rows()[-1], alone.rows)
     small = Outer(words, size=(12, 40))
-    is_part = small.status("[1]".ljust(30) + "C-b r fits") and small.shows("$ ")
+    is_part = fits(small) and small.shows("$ ")
     check("and isn't made smaller again", is_part and listed()[1:4] == ["24", "by", "80"], (small.rows(), listed()))
     alone.type(b"exit\r")
     for one in (alone, small):
@@ -268,11 +285,11 @@ def far_alone(folder):
         second.shows("$ ")
         time.sleep(1)
         outer.resize(18, 50)
-        check(f"beside one {where} it shows a part", outer.status("[1]".ljust(40) + "C-b r fits"), outer.rows)
+        check(f"beside one {where} it shows a part", fits(outer), outer.rows)
         time.sleep(1)
         check("and nothing shrinks", listed()[1:4] == ["20", "by", "60"], listed)
         outer.resize(20, 60)
-        outer.status("[1]".ljust(60))
+        outer.status("[1] 1:")
         second.type(b"\x02d")
         check("the second leaves", second.ends() and second.is_restored(), second.rows)
     time.sleep(1)

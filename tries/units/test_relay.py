@@ -547,7 +547,7 @@ class Numbers(Ends):
         self.assertEqual([peers.number(name) for name in "abab"], [1, 2, 1, 2])
         peers.drop(1)
         self.assertEqual((peers.number("a"), gone), (3, [1]))
-        peers.last = 65535
+        peers.last[0] = 65535
         self.assertEqual([peers.number(name) for name in "cd"], [1, 4])
         self.assertEqual(peers.addresses, {2: "b", 3: "a", 1: "c", 4: "d"})
 
@@ -558,7 +558,7 @@ class Numbers(Ends):
         peers.numbers = {number: number + 1 for number in range(256)}
         peers.addresses = {number + 1: number for number in range(256)}
         peers.moments = {number + 1: 101.0 + number for number in range(256)}
-        peers.last, self.now = 256, 356.0
+        peers.last[0], self.now = 256, 356.0
         peers.number(0)
         self.now += 1
         peers.number("new")

@@ -147,19 +147,44 @@ class Named(Sessions):
 
 
 class Near(Sessions):
-    """Windows of another machine's session: each that is attached to stands here by itself."""
+    """Windows of another machine's session, which its relay tells."""
 
-    def test_near(self):
-        for name in ("ssh:h:n", "ssh:h:n:2", "ssh:h:n:2:0123abcd", "ssh:h:n:0123abcd"):
-            (self.base / name).mkdir()
-        for word, name in (("ssh:h:n", "ssh:h:n"), ("ssh:h:n:2.1", "ssh:h:n:2"), ("ssh:h:n:3", "ssh:h:n"),
-                           ("ssh:h:n:2:0123abcd", "ssh:h:n:2:0123abcd"), ("ssh:h:n:0123abcd:2", "ssh:h:n:0123abcd")):
-            self.assertEqual(session_of(target_of(word)).folder.name, name, word)
-        one = session_named("ssh:h:n:2")
-        self.assertEqual((one.window(2), one.window(), one.number), (one, one, 0))
-        for session in (one, session_named("ssh:h:n")):
-            with self.assertRaisesRegex(Fault, "of another machine: other windows of it can't be had here yet"):
-                session.window(3)
+    def near(self, *windows):
+        """What stands here for a session with windows."""
+        session = session_named("ssh:h:n")
+        (session.folder / "session").write_text("e\n", encoding="ascii")
+        for number, name in windows:
+            (session.folder / f"w/{number}").mkdir(parents=True)
+            (session.folder / f"w/{number}/session").write_text(f"{name}\n", encoding="ascii")
+        self.noted("ssh:h:n", relay=self.own)
+        session.read()
+        return session
+
+    def setUp(self):
+        super().setUp()
+        (self.base / "ssh:h:n").mkdir()
+
+    def test_windows(self):
+        """They are those that are told, and the relay's own is the one that is meant where none is named."""
+        session = self.near((2, "d"), (5, "e"))
+        (session.folder / "w/7").mkdir()
+        self.assertEqual([window.number for window in session.windows()], [2, 5])
+        self.assertEqual((session.window().number, session.window(2).number, session.window(2).window(5).number), (5, 2, 5))
+        one = session.window(2)
+        self.assertEqual((one.common, one.process("relay"), one.busy(), one.whole_session(), one.find()),
+                         (session.folder, os.getpid(), None, session, True))
+        with self.assertRaisesRegex(Fault, "^session ssh:h:n has no window 3$"):
+            one.window(3)
+        session.clean()
+        self.assertEqual(os.listdir(session.folder), [])
+
+    def test_earlier(self):
+        """Where an earlier roam's is told there is one."""
+        session = self.near()
+        self.assertEqual((session.windows(), session.window(), session.number), ([session], session, 0))
+        session.await_windows(None, 0.0)
+        with self.assertRaisesRegex(Fault, "^session ssh:h:n has one window here, as an earlier roam's there, and no window 2$"):
+            session.window(2)
 
 
 class Asked(Sessions):

@@ -1,0 +1,145 @@
+"""Windows of another machine's session over a relay: what the far end tells of them, the near end's folders, and peers' numbers."""
+import os
+import pathlib
+import types
+
+from aids import Case, StillLoop, read_now
+from roam_live.far_windows import FarWindows, windows_in, windows_text
+from roam_live.listeners import Listener
+from roam_live.near import Peers
+from roam_live.near_windows import NearWindows
+from roam_live.streams import Carried, Streams
+
+
+class Told(Case):
+    """The text by which all windows are told."""
+
+    def test_text(self):
+        windows = [(2, "5e55"), (1, "a"), (99, "0123456789abcdef")]
+        self.assertEqual(windows_in(windows_text(windows)), dict(windows))
+        self.assertEqual(list(windows_in(windows_text(windows)))[0], 2)
+        for text in (b"n", b"n1", b"n1 g", b"n0 a", b"n100 a", b"n1 a ", b"n 1 a", b"x1 a", b"n1 a 2", b"n1 0123456789abcdef0", b"n1 a\n",
+                     b"n" + b" ".join(b"1 a" for _ in range(100))):
+            self.assertEqual(windows_in(text), {}, text)
+
+
+class Far(Case):
+    """The far end's, of a session that is played."""
+
+    def setUp(self):
+        self.folder, self.told = self.made_folder(), []
+        self.here = {1: "a1", 3: "a3"}
+        self.place = self.window(3)
+        self.loop = StillLoop(lambda: self.now)
+        self.windows = FarWindows(self.place, self.loop, self.told.append)
+
+    def window(self, number):
+        """A window of it."""
+        folder = self.folder / f"w/{number}"
+        folder.mkdir(parents=True, exist_ok=True)
+        return types.SimpleNamespace(number=number, folder=folder, common=self.folder, id=lambda: self.here.get(number, ""),
+                                     windows=lambda: [self.window(one) for one in self.here])
+
+    def test_asked(self):
+        """Nothing is told before it is asked; then all, the relay's own first, and each change once."""
+        listener = self.listening(self.window(1).folder / "shells")
+        self.windows.tell()
+        self.assertEqual((self.told, self.windows.folder(1), self.windows.path("w/1/shells")), ([], str(self.place.folder), ""))
+        self.windows.use()
+        self.assertEqual(self.told, [b"n3 a3 1 a1"])
+        keeper = self.taken(listener)
+        self.loop.turns(2)
+        self.assertEqual(read_now(keeper), b"windows\n")
+        self.here[2] = "a2"
+        keeper.send(b"window 2 -\nopened 2\nactivity 2\n")
+        self.loop.turns(2)
+        keeper.send(b"activity 2\nbell 2 1\nwindow 2 6162\n")
+        self.loop.turns(2)
+        self.assertEqual(self.told[1:], [b"n3 a3 1 a1 2 a2"])
+        self.assertEqual([self.windows.path(name) for name in ("w/2/shells", "panes")],
+                         [str(self.folder / "w/2/shells"), str(self.place.folder / "panes")])
+        # A relay that comes again is told anew.
+        self.windows.use()
+        self.assertEqual(len(self.told), 3)
+
+    def test_heir(self):
+        """Once its own window has ended another is, where the near end knows of windows."""
+        self.assertIsNone(self.windows.heir())
+        self.windows.use()
+        del self.here[3]
+        self.assertEqual((self.windows.heir().number, self.told[-1], self.windows.folder(0)), (1, b"n1 a1", str(self.folder / "w/1")))
+        del self.here[1]
+        self.assertIsNone(self.windows.heir())
+
+    def test_earlier(self):
+        """A session of one window tells none."""
+        for place in (None, types.SimpleNamespace(number=0)):
+            windows = FarWindows(place, self.loop, self.told.append)
+            windows.use()
+            self.assertEqual((self.told, windows.is_used), ([], False))
+
+
+class Near(Case):
+    """The near end's folders."""
+
+    def setUp(self):
+        self.folder, self.parted = self.made_folder(), []
+        self.loop = StillLoop(lambda: self.now)
+        self.windows = NearWindows(str(self.folder), self.loop, lambda: None, self.listens, self.parted.append)
+        self.addCleanup(self.windows.close)
+
+    def listens(self, folder, number):
+        """The socket of a window's clients."""
+        return Listener(self.loop, os.path.join(folder, "clients"), lambda peer: None, lambda: True, lambda fault: None)
+
+    def there(self):
+        """What lies in the folder."""
+        return sorted(str(path.relative_to(self.folder)) for path in self.folder.rglob("*") if not path.is_dir())
+
+    def test_taken(self):
+        """A window has its sockets while it is told; one that has another session now is made anew, and what is left goes."""
+        (self.folder / "w/9").mkdir(parents=True)
+        pathlib.Path(self.folder, "w/9/session").touch()
+        self.windows.take({1: "a", 2: "b"})
+        names = ("bells", "clients", "panes", "session", "shells")
+        self.assertEqual(self.there(), [f"w/{number}/{name}" for number in (1, 2) for name in names])
+        self.assertEqual((self.folder / "w/2/session").read_text(encoding="ascii"), "b\n")
+        self.windows.take({1: "c"})
+        self.assertEqual((self.parted, self.there(), (self.folder / "w/1/session").read_text(encoding="ascii")),
+                         ([1, 2], [f"w/1/{name}" for name in names], "c\n"))
+        self.windows.close()
+        self.assertEqual(os.listdir(self.folder), [])
+
+
+class Numbers(Case):
+    """Peers' numbers."""
+
+    def test_windows(self):
+        """The high byte is the window's; the relay's own keeps to its numbers once others are known."""
+        forgotten = []
+        peers = Peers(forgotten.append)
+        peers.last[0] = 300
+        self.assertEqual(peers.number("old"), 301)
+        peers.use_windows()
+        self.assertEqual((forgotten, peers.number("a"), peers.number("b", 2), peers.number("c", 2), peers.number("a")), ([301], 1, 513, 514, 1))
+        peers.last[2] = (2 << 8) + 255
+        self.assertEqual((peers.number("d", 2), peers.number("e", 99)), (515, 25345))
+        peers.drop_window(2)
+        self.assertEqual((sorted(peers.addresses), peers.number("f", 2)), ([1, 25345], 516))
+
+
+class Names(Case):
+    """Names of sockets that are carried."""
+
+    def test_names(self):
+        """Those of windows are of three names too, and are ended by these."""
+        opened = []
+
+        def opens(name):
+            opened.append(name)
+            raise FileNotFoundError(name)
+
+        streams = Streams(StillLoop(), opens)
+        for name in ("panes", "w/2/shells", "w/99/bells", "w/0/panes", "w/100/panes", "w/2/clients", "w/2/../panes", "w/2/w/3/panes", "clients"):
+            streams.opened(Carried(1), name)
+        self.assertEqual(opened, ["panes", "w/2/shells", "w/99/bells"])
