@@ -53,7 +53,7 @@ installed = $(DESTDIR)$(PREFIX)
 completions = $(installed)/share/bash-completion/completions
 
 install: all
-	install -d $(installed)/bin $(installed)/lib/roam/roam_live $(installed)/share/man/man1 $(completions)
+	install -d $(installed)/bin $(installed)/lib/roam/roam_live $(installed)/share/man/man1 $(installed)/share/man/man5 $(completions)
 	install crates/roam/out/roam live/attach live/mux live/pane_shells live/picture live/relay $(installed)/lib/roam
 	install -m 644 $(wildcard live/roam_live/*.py) $(installed)/lib/roam/roam_live
 	cd $(installed)/lib/roam && python3 -m compileall -q -f -d $(PREFIX)/lib/roam/roam_live roam_live
@@ -63,6 +63,7 @@ install: all
 	ln -sf ../lib/roam/pane_shells $(installed)/bin/roam-pane-shells
 	ln -sf ../lib/roam/relay $(installed)/bin/roam-relay
 	install -m 644 docs/man/*.1 $(installed)/share/man/man1
+	install -m 644 docs/man/*.5 $(installed)/share/man/man5
 	ln -sf roam-mux.1 $(installed)/share/man/man1/roam-attach.1
 	ln -sf roam-mux.1 $(installed)/share/man/man1/roam-pane-shells.1
 	install -m 644 live/completion.bash $(completions)/roam

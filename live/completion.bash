@@ -11,7 +11,7 @@ _roam_mux_windows() {
     "${@:2}" list-windows "$1" 2> /dev/null | while read -r number _; do echo "$number"; done
 }
 
-_roam_mux_words="attach new ls list list-windows new-window rename-window clients watch kill send paste capture log buffer env ssh help --help
+_roam_mux_words="attach new ls list list-windows new-window rename-window clients watch kill send paste capture log buffer env settings ssh help --help
     --version"
 
 # The acts that a client types, a line each; a number, a size or a character is left to the person.

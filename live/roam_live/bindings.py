@@ -18,7 +18,7 @@ WISHES = {"%": "split right", '"': "split down", "x": "close", "d": "detach", "r
           "left": "left", "right": "right", "\x1a": "suspend", "m": "mouse", "[": "copy", "prev": "copy page", "/": "copy search",
           "]": "paste", "=": "choose", "z": "zoom", " ": "even", ";": "last", "c": "window new", "w": "window list", ",": "window name",
           "&": "window shut", "n": "go next", "p": "go previous", "l": "go last", "'": "go asked",
-          **{str(digit): f"go {digit or 10}" for digit in range(10)}, "q": "panes", "t": "row", "D": "leave others"}
+          **{str(digit): f"go {digit or 10}" for digit in range(10)}, "q": "panes", "t": "row", "D": "leave others", "R": "settings"}
 BORDERS = {"C-right": "border right", "C-down": "border down", "C-left": "border left", "C-up": "border up"}
 
 # For so many seconds after a border was moved the next move needs no prefix; and for so many after C-b q a digit is a pane's.
@@ -56,7 +56,7 @@ C-b and then:
   r        size the session to this terminal, which cuts what is wider where
            that is smaller, and paint all anew
   t Space  hide the last row, or show it; even shares for all panes
-  ?        these keys, until the next key
+  ? R      these keys, until the next key; read roam.conf anew
   C-b      C-b itself"""
 
 

@@ -1,5 +1,5 @@
-"""What a person chooses by the environment: the prefix, when guesses are shown, whether roam has the mouse, who sets the clipboard, how many
-rows are kept of a pane, and whether UDP is tried between machines."""
+"""What a person chooses by the environment, and else by a settings file: the prefix, when guesses are shown, whether roam has the mouse, who
+sets the clipboard, how many rows are kept of a pane, and more; and whether UDP is tried between machines."""
 from __future__ import annotations
 
 import os
@@ -22,49 +22,94 @@ CLIPBOARD = ("external", "on", "off")
 # How many rows that left its screen are kept of a pane where nobody chose another number, and how many may be chosen.
 DEFAULT_ROWS, MOST_ROWS = 10_000, 1_000_000
 
+# What is chosen by a settings file, as options by their names; what the environment chooses goes before it.
+BY_FILE: dict[str, str | int] = {}
+
+# How many milliseconds an escape waits for more, and how many seconds lie between two looks at what the status row says, where nobody chose.
+ESCAPE_TIME = 25
+STATUS_INTERVAL = 15
+
+# Whose size a session has: the largest of its terminals, or that at which somebody types.
+WINDOW_SIZES = ("largest", "latest")
+
+
+def choose_by_file(values: dict[str, str | int]) -> None:
+    """Goes by what a settings file chooses from now on, and by nothing that another chose before."""
+    BY_FILE.clear()
+    BY_FILE.update(values)
+
+
+def word_of(variable: str, option: str, default: str) -> str:
+    """What a variable of the environment chooses, else an option of the settings file."""
+    return os.environ.get(variable) or str(BY_FILE.get(option, default))
+
+
+def number_of(option: str, default: int) -> int:
+    """The number that an option of the settings file chooses."""
+    found = BY_FILE.get(option, default)
+    return found if isinstance(found, int) else default
+
+
+def text_of(option: str) -> str:
+    """The text that an option of the settings file chooses; nothing where it chooses none."""
+    return str(BY_FILE.get(option, ""))
+
 
 def chosen_prefix() -> str:
-    """The name of the prefix: that of the environment's ROAM_PREFIX, where it is there."""
-    name = os.environ.get("ROAM_PREFIX") or PREFIX
+    """The name of the prefix: that of the environment's ROAM_PREFIX, or of the option `prefix`, where one is there."""
+    name = word_of("ROAM_PREFIX", "prefix", PREFIX)
     if name not in PREFIXES:
         raise Fault(f"ROAM_PREFIX is {name!r}, and may be C-a to C-z, C-], C-\\, C-^ or C-_")
     return name
 
 
 def chosen_guessing(asked: str | None = None) -> str:
-    """When guesses are shown: as asked, else as the environment's ROAM_GUESS says, where it is there."""
-    name = asked or os.environ.get("ROAM_GUESS") or GUESSING[0]
+    """When guesses are shown: as asked, else as the environment's ROAM_GUESS says, or the option `guess`, where one is there."""
+    name = asked or word_of("ROAM_GUESS", "guess", GUESSING[0])
     if name not in GUESSING:
         raise Fault(f"ROAM_GUESS is {name!r}, and may be adaptive, always or never")
     return name
 
 
-def chosen(word: str, choices: tuple[str, ...]) -> str:
-    """What a word of the environment chooses, of these; the first of them where it isn't there."""
-    name = os.environ.get(word) or choices[0]
+def chosen(variable: str, option: str, choices: tuple[str, ...]) -> str:
+    """What a variable of the environment chooses, or an option, of these; the first of them where neither is there."""
+    name = word_of(variable, option, choices[0])
     if name not in choices:
-        raise Fault(f"{word} is {name!r}, and may be {', '.join(choices[:-1])} or {choices[-1]}")
+        raise Fault(f"{variable} is {name!r}, and may be {', '.join(choices[:-1])} or {choices[-1]}")
     return name
 
 
 def wants_mouse() -> bool:
-    """Whether roam has the mouse from the beginning: where the environment's ROAM_MOUSE is `on`."""
-    return chosen("ROAM_MOUSE", MOUSE) == "on"
+    """Whether roam has the mouse from the beginning: where ROAM_MOUSE, or the option `mouse`, is `on`."""
+    return chosen("ROAM_MOUSE", "mouse", MOUSE) == "on"
 
 
 def sets_clipboard() -> bool:
-    """Whether programs in panes set the terminal's clipboard: where the environment's ROAM_CLIPBOARD is `on`."""
-    return chosen("ROAM_CLIPBOARD", CLIPBOARD) == "on"
+    """Whether programs in panes set the terminal's clipboard: where ROAM_CLIPBOARD, or the option `set-clipboard`, is `on`."""
+    return chosen("ROAM_CLIPBOARD", "set-clipboard", CLIPBOARD) == "on"
 
 
 def may_set_clipboard() -> bool:
-    """Whether what is copied is set on the terminal's clipboard: where the environment's ROAM_CLIPBOARD isn't `off`."""
-    return os.environ.get("ROAM_CLIPBOARD") != "off"
+    """Whether what is copied is set on the terminal's clipboard: where ROAM_CLIPBOARD, or the option `set-clipboard`, isn't `off`."""
+    return word_of("ROAM_CLIPBOARD", "set-clipboard", CLIPBOARD[0]) != "off"
+
+
+def wants_vi() -> bool:
+    """Whether the keys of copy mode are vi's: by the option `mode-keys`, else where the name of the program of VISUAL, else of EDITOR, holds
+    `vi`, as tmux has it."""
+    by_program = "vi" in os.path.basename(os.environ.get("VISUAL") or os.environ.get("EDITOR") or "")
+    return BY_FILE["mode-keys"] == "vi" if "mode-keys" in BY_FILE else by_program
+
+
+def follows_latest() -> bool:
+    """Whether a session has the size of the terminal at which somebody types, whatever that cuts: by the option `window-size`."""
+    return BY_FILE.get("window-size") == WINDOW_SIZES[1]
 
 
 def chosen_history() -> int:
-    """How many rows that left its screen are kept of a pane: as the environment's ROAM_HISTORY says, where it is there."""
-    word = os.environ.get("ROAM_HISTORY") or str(DEFAULT_ROWS)
+    """How many rows that left its screen are kept of a pane: as the environment's ROAM_HISTORY says, or the option `history-limit`, where one
+    is there."""
+    word = word_of("ROAM_HISTORY", "history-limit", str(DEFAULT_ROWS))
     if not (word.isascii() and word.isdigit() and len(word) <= len(str(MOST_ROWS)) and int(word) <= MOST_ROWS):
         raise Fault(f"ROAM_HISTORY is {word[:40]!r}, and may be 0 to {MOST_ROWS}")
     return int(word)

@@ -9,6 +9,7 @@ from collections.abc import Callable
 from roam_live import terminal
 from roam_live.bindings import NEWEST, PICKS, Typing, help_with, spelled
 from roam_live.border_keys import BorderKeys
+from roam_live.choices import ESCAPE_TIME, follows_latest, number_of
 from roam_live.choosing import Choosing, ChoosingWindow
 from roam_live.copying import Copying, CopyEvent
 from roam_live.display import NO_SIZE, Display
@@ -34,9 +35,6 @@ if TYPE_CHECKING:
     from roam_live.bindings import Mode
     from roam_live.shells_link import ShellsLink
     from roam_live.window_wishes import WindowWishes
-
-# An escape that nothing follows for so many seconds is the key.
-ESCAPE_WAIT = 0.025
 
 # Acts that go to the program in the pane in focus.
 KEYS = ("char ", "key ")
@@ -69,6 +67,10 @@ OTHERS_STAY = "the others can't be detached: what keeps the shells doesn't answe
 
 # What waits in the loop for a window, and is nothing in another.
 OF_WINDOW = ("fit", "others", "size", "given", "motion", "border", "untold", "even", "zoom", "zoom left")
+
+# What is told where the session gets this terminal's size since somebody types here.
+LATEST_TOLD = "sized to this terminal (window-size latest): what is wider was cut"
+SIZED_TOLD = 2.0
 
 # What is told where no pane is known that was in focus before.
 NO_LAST = "no other pane was in focus"
@@ -115,6 +117,8 @@ class Commands:
         # then.
         self.moved_to: int | None = None
         self.moved_from: Places | None = None
+        # What reads the settings file anew.
+        self.reads_settings: Callable[[], object] = lambda: None
         # The making of the pane to which this person's last key went, where that is known.
         self.typed_in = ""
 
@@ -129,10 +133,11 @@ class Commands:
         self.typed(self.keys.fed(piece))
         self.loop.drop("escape")
         if self.keys.waits():
-            self.loop.later("escape", ESCAPE_WAIT, lambda: self.typed(self.keys.ended()))
+            self.loop.later("escape", number_of("escape-time", ESCAPE_TIME) / 1000, lambda: self.typed(self.keys.ended()))
 
     def typed(self, keys: list[Key]) -> None:
         """Takes keys; those behind one that goes to another window, or opens one, are for that."""
+        self.follow_latest()
         for place, key in enumerate(keys):
             if self.windows and self.windows.takes(self, keys[place:]):
                 break
@@ -347,6 +352,8 @@ class Commands:
             self.switch_row()
         elif wish == "line":
             self.prompts.type(key)
+        elif wish == "settings":
+            self.reads_settings()
         elif wish.startswith((GOES, WINDOW)):
             if self.windows:
                 self.windows.grant(wish)
@@ -384,6 +391,17 @@ class Commands:
             self.prompts.answer(wish == "yes")
         elif wish in ("scrolled", "picked"):
             self.display.end_told()
+
+    # ---- settings
+
+    def follow_latest(self) -> None:
+        """Gives the session this terminal's size, where somebody types here and it is to have that, whatever that cuts."""
+        if not follows_latest() or self.link.watches or self.given or self.paused or self.zooming.is_on():
+            return
+        size = self.display.room()
+        if self.session_size() not in (NO_SIZE, terminal.largest(size)) and terminal.is_large_enough(size):
+            self.ask_size()
+            self.display.tell(LATEST_TOLD, SIZED_TOLD)
 
     # ---- others, and the last row
 

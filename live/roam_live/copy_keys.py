@@ -50,11 +50,6 @@ VI = {
 MOST_COUNT = 9999
 
 
-def wants_vi() -> bool:
-    """Whether the keys are vi's: where the name of the program of VISUAL, else of EDITOR, holds `vi`, as tmux has it."""
-    return "vi" in os.path.basename(os.environ.get("VISUAL") or os.environ.get("EDITOR") or "")
-
-
 def bounded(text: str) -> str:
     """What of a text may be searched for: the keeper takes no longer one."""
     return text.encode("utf-8", "replace")[:MOST_SOUGHT].decode("utf-8", "ignore")

@@ -151,7 +151,7 @@ class Copying:
 
     def begin(self, snapshot: Snapshot, kept: RowsLink) -> None:
         """Shows a snapshot, and does what was typed meanwhile."""
-        from roam_live.copy_keys import wants_vi
+        from roam_live.choices import wants_vi
         from roam_live.copy_mode import CopyMode
         from roam_live.copy_rows import MOST_SCREEN_ROWS, Rows
 

@@ -9,7 +9,8 @@ from collections.abc import Callable
 from roam_live import terminal
 from roam_live.asides import GivenAside, GivenClip
 from roam_live.colours import ASKED
-from roam_live.last_row import ZOOMED, columns, fitted, label_at, row_text, tail
+from roam_live.last_row import ZOOMED, clipped, columns, fitted, label_at, row_text, said, tail
+from roam_live.status_styles import ROW_STYLE, Styled
 from roam_live.loops import Loop
 from roam_live.places import Rect
 from roam_live.program import Fault, write
@@ -154,7 +155,9 @@ class Display:
         # The labels of the windows, and which of them is shown here; what stands at the end of the last row; whether that row is hidden
         # while nothing is drawn; and whether what stands on the terminal is still of the window that was left.
         self.windows: tuple[list[str], int] = ([], 0)
-        self.status = ""
+        # What a settings file has stand before and behind these, where it has something there.
+        self.status: Callable[[], tuple[list[Styled], list[Styled]]] | None = None
+        self.parts: tuple[list[Styled], str, list[Styled]] = ([], "", [])
         self.is_row_hidden = self.is_entering = False
         # What is drawn over a part of what is painted, and the line that stands in the last row meanwhile; whether that is asked for there;
         # whether the start was told of its mask; and what is called where what is shown of the session may be another part.
@@ -465,9 +468,13 @@ class Display:
         return f"{self.labels.rstrip()} {ZOOMED}" if self.zoomed and self.labels else self.labels
 
     def labels_line(self, width: int) -> str:
-        """The labels of the panes and of the windows, and at the end of the row which key fits the session to this terminal, where it isn't
-        all shown; else the status."""
-        return row_text(self.panes_label(), *self.windows, self.status if self.shows_all() else self.fits_line, width)
+        """The labels of the panes and of the windows, between what a settings file has stand at both ends; at the right one stands which key
+        fits the session to this terminal, where it isn't all shown."""
+        left, right = self.status() if self.status else ([], [])
+        left, right = clipped(left, width // 3), clipped(right, width // 2 if self.shows_all() else 0)
+        room = width - columns(said(left)) - columns(said(right))
+        self.parts = left, row_text(self.panes_label(), *self.windows, "" if self.shows_all() else self.fits_line, room), right
+        return said(left) + self.parts[1] + said(right)
 
     def window_at(self, row: int, col: int) -> int | None:
         """The place of the window whose label is shown at a row and a column of the terminal, from 1; None where none is."""
@@ -475,10 +482,14 @@ class Display:
         line = self.labels_line(width)
         if row != rows or self.cover or self.asked is None or self.line() != line:
             return None
-        return label_at(line, self.windows[0], len(self.panes_label()), col)
+        left, middle, _ = self.parts
+        return label_at(middle, self.windows[0], len(self.panes_label()), col - columns(said(left)))
 
     def line_text(self, text: str, width: int) -> str:
         """The last row as it is written: reversed, but for the place behind a line that is typed."""
+        left, middle, right = self.parts
+        if (left or right) and text == said(left) + middle + said(right):
+            return "".join(f"\x1b[{style}m{part}" for style, part in [*left, Styled(ROW_STYLE, middle), *right]) + "\x1b[0m"
         if not self.is_typed or text != self.prompt:
             return f"\x1b[0;7m{fitted(text, width)}\x1b[0m"
         shown = tail(text, width - 1)

@@ -9,14 +9,16 @@ from collections.abc import Callable
 from roam_live.bells import BellFollower
 from roam_live.bindings import NEWEST
 from roam_live.brought import brings_to
-from roam_live.choices import sets_clipboard, wants_mouse
+from roam_live.choices import chosen_guessing, chosen_prefix, sets_clipboard, text_of, wants_mouse
 from roam_live.commands import Commands
 from roam_live.display import NO_SIZE, Display
 from roam_live.following import AWAITED, PanesFollower
 from roam_live.links import LAST_WAIT, Keeper, StartLink
 from roam_live.loops import Loop
+from roam_live.own_settings import OWN
 from roam_live.program import Fault, noted_front_end, read, woken
 from roam_live.shells_link import ShellsLink
+from roam_live.status_row import StatusRow
 from roam_live.visits import Parting, Visit, opened_server
 from roam_live.watches import ShellsWatch
 from roam_live.window_wishes import WindowWishes
@@ -45,6 +47,9 @@ LOSS_TOLD = 3.0
 # So many seconds each of several starts has at least for what was typed before a person left.
 LEAST_WAIT = 0.1
 
+# What is said where the settings are read anew.
+READ = "roam.conf was read"
+
 # What is said by one that another has detached.
 DETACHED = "[detached from elsewhere]"
 
@@ -72,9 +77,11 @@ class FrontEnd:
         self.watch_server(server)
         self.visit.shells.brings = brings_to(session, watches)
         self.windows = WindowWishes(self, self.loop)
+        self.status_row = StatusRow(self, self.loop)
         self.commands.has_windows(self.windows)
         self.commands.choose(prefix)
         self.commands.pointing.is_on = has_mouse
+        self.display.is_row_hidden = text_of("status") == "off"
         self.windows.begin()
         self.join()
 
@@ -150,7 +157,37 @@ class FrontEnd:
         shells = ShellsLink(session.folder, loop, display.outer.size, self.watches, lambda: commands.others_told())
         shells.leaves, shells.others_left = lambda: self.leave(DETACHED), lambda count: self.commands.others_left(count)
         commands = Commands(session, panes, link, display, loop, self.leave, self.is_new, self.is_whole, shells)
+        commands.reads_settings = self.read_settings
         return Visit(session, link, Keeper(session, link, panes.is_full), panes, shells, self.heard_bells(session), commands)
+
+    # ---- settings
+
+    def read_settings(self) -> None:
+        """Goes by the settings file as it is now."""
+        status = text_of("status")
+        OWN.read()
+        try:
+            prefix, self.guessing = chosen_prefix(), chosen_guessing()
+            self.commands.pointing.is_on = wants_mouse()
+        except Fault as fault:
+            self.display.tell(str(fault), LOSS_TOLD)
+            return
+        if prefix != self.prefix:
+            self.prefix = prefix
+            self.commands.choose(prefix)
+        for visit in (self.visit, *self.parting.visits.values()):
+            visit.link.guess(self.guessing)
+        if text_of("status") != status and self.display.is_row_hidden != (text_of("status") == "off"):
+            self.commands.switch_row()
+        self.commands.show_aside()
+        self.tell_settings(READ)
+
+    def tell_settings(self, otherwise: str = "") -> None:
+        """Has the last row go by the settings, and tells what of them isn't done here."""
+        wrong = self.status_row.choose()
+        told = OWN.line() or "; ".join(wrong[:1]) or otherwise
+        if told:
+            self.display.tell(told, LOSS_TOLD)
 
     def forget(self, number: int) -> None:
         """Waits for nothing more of a window that is gone."""
@@ -368,6 +405,7 @@ class FrontEnd:
         try:
             self.display.outer.enter()
             self.ask_colours()
+            self.tell_settings()
             self.connect()
             if self.visit.server is None:
                 self.loop.later("probe", PROBES, self.probe)

@@ -1,6 +1,7 @@
 """The text of the last row of a person's terminal, cut to its columns: the panes' labels, the windows, and what stands at its end."""
 from __future__ import annotations
 
+from roam_live.status_styles import Styled
 from roam_live.words import printable
 
 # What stands before or behind windows that have no room, and between two.
@@ -53,6 +54,23 @@ def tail(text: str, width: int) -> str:
     while columns(text) > max(width, 0):
         text = text[1:]
     return text
+
+
+def clipped(styled: list[Styled], width: int) -> list[Styled]:
+    """Texts in their styles in so many columns at most."""
+    found: list[Styled] = []
+    for style, text in styled:
+        shown = cut(text, width)
+        found += [Styled(style, shown)] if shown else []
+        width -= columns(shown)
+        if shown != text:
+            break
+    return found
+
+
+def said(styled: list[Styled]) -> str:
+    """What texts in styles say."""
+    return "".join(text for _, text in styled)
 
 
 def window_label(number: int, name: str, flags: str) -> str:

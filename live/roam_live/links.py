@@ -44,14 +44,19 @@ REFUSED = "the client start refused a line"
 SILENT = "the client start tells nothing"
 
 
+def greeting_of(watches: bool, guessing: str) -> bytes:
+    """What a start is told first."""
+    more = b"watch\n" if watches else b"" if guessing == "never" else f"guess {guessing}\n".encode()
+    return b"told\n" + more
+
+
 class StartLink:
     """A terminal's connection to the start, over which it is told records. Each line goes whole to one connection: what of a line came to
     one that is lost is nothing."""
 
     def __init__(self, path: str | os.PathLike[str], watches: bool, guessing: str = "never") -> None:
         self.path, self.watches = path, watches
-        more = b"watch\n" if watches else b"" if guessing == "never" else f"guess {guessing}\n".encode()
-        self.greeting = b"told\n" + more
+        self.greeting = greeting_of(watches, guessing)
         self.peer: socket.socket | None = None
         # The process at the other end, where it is known.
         self.process = 0
@@ -94,6 +99,16 @@ class StartLink:
         elif not self.waiting.startswith(self.greeting):
             self.waiting[:0] = self.greeting
         self.lines = self.waiting.count(b"\n")
+
+    def guess(self, guessing: str) -> None:
+        """Has guesses be shown otherwise, here and by the starts that are connected to later."""
+        is_waiting = self.waiting.startswith(self.greeting)
+        greeting = greeting_of(self.watches, guessing)
+        if is_waiting:
+            self.waiting[: len(self.greeting)] = greeting
+        self.greeting = greeting
+        if self.peer and not self.watches:
+            self.say(f"guess {guessing}")
 
     def say(self, line: str) -> None:
         """Adds a line at the end."""

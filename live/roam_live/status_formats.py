@@ -5,6 +5,7 @@ import re
 import time
 from collections import namedtuple
 
+from roam_live.status_styles import ROW_STYLE, Styled
 from roam_live.words import printable
 
 # A format has so many characters at most, and each of its values so many that are shown.
@@ -29,17 +30,6 @@ ATTRIBUTES = {"bold": "1", "bright": "1", "dim": "2", "italics": "3", "underscor
 OFF = {**{name: "" for name in ATTRIBUTES}, "reverse": "27"}
 HEXADECIMAL = re.compile(r"#([0-9a-fA-F]{2})([0-9a-fA-F]{2})([0-9a-fA-F]{2})")
 NUMBERED = re.compile(r"colou?r([0-9]{1,3})")
-
-# How a row stands where no style is asked for: reversed.
-ROW_STYLE = "0;7"
-
-
-class Styled(namedtuple("Styled", "style text")):
-    """A text, and the SGR in which it is shown."""
-
-    style: str
-    text: str
-
 
 class Format(namedtuple("Format", "pieces wrong step")):
     """A format that is read: what stands in it, as a kind and a word each, what of it isn't known, and by how many seconds the clock goes on

@@ -10,7 +10,8 @@ from copied import CASES, KNOWN, TEXT, answer_all, copied_by_roam, found_row, mo
 from emulated import Emulated
 from roam_live import copied, copy_moves as moves, copy_selection
 from roam_live.cells import Style
-from roam_live.copy_keys import EMACS, VI, Count, KeyPairs, Prompt, wants_vi
+from roam_live.choices import wants_vi
+from roam_live.copy_keys import EMACS, VI, Count, KeyPairs, Prompt
 from roam_live.copy_commands import COMMANDS, COPY, LEAVE, MOVES, REFRESH, STEPS
 from roam_live.copy_mode import CopyMode
 from roam_live.copy_paint import LinePainter, sgr_of

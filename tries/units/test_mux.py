@@ -494,8 +494,8 @@ class Words(Mux):
         page = PAGE.read_text(encoding="utf-8")
         for word in mux.WORDS:
             self.assertRegex(page, rf"\b{word}\b")
-        self.assertEqual(list(mux.WORDS), "attach new detach ls list list-windows new-window rename-window clients watch kill send paste capture log buffer env ssh far "
-                         "help".split())
+        self.assertEqual(list(mux.WORDS), "attach new detach ls list list-windows new-window rename-window clients watch kill send paste capture log "
+                         "buffer env settings ssh far help".split())
 
     def test_ssh_words(self):
         asked = mux.asked_by("ssh", ["-p", "22", "--far", "f", "there"])

@@ -1,0 +1,76 @@
+"""A person's own settings file: where it lies, that it is read where one is there, and what of it is told."""
+from __future__ import annotations
+
+import os
+
+from roam_live.choices import choose_by_file, text_of
+from roam_live.words import printable
+
+TYPE_CHECKING = False
+if TYPE_CHECKING:
+    from roam_live.settings import FileSettings
+
+NAME = "roam.conf"
+
+# The word of `mux` that prints each line.
+PRINTS = "mux settings"
+
+
+def settings_path() -> str:
+    """Where the file lies: in the folder `roam` of the folder of settings (XDG base directories)."""
+    base = os.environ.get("XDG_CONFIG_HOME", "")
+    return os.path.join(base if os.path.isabs(base) else os.path.expanduser("~/.config"), "roam", NAME)
+
+
+def read_settings() -> FileSettings | None:
+    """What the file says, by which it is gone from now on; None where there is none."""
+    path = settings_path()
+    if not os.path.lexists(path):
+        choose_by_file({})
+        return None
+    # Who has no such file doesn't wait for these.
+    from roam_live.settings import FileSettings
+
+    found = FileSettings(commands=())
+    found.read(path)
+    choose_by_file(found.values)
+    return found
+
+
+class OwnSettings:
+    """What the file said as it was read last in this process."""
+
+    def __init__(self) -> None:
+        self.found: FileSettings | None = None
+
+    def read(self) -> None:
+        """Reads it, and goes by it."""
+        self.found = read_settings()
+
+    def line(self) -> str:
+        """What is told of it at a terminal."""
+        return summary(self.found)
+
+
+OWN = OwnSettings()
+
+
+def default_command() -> list[str]:
+    """What runs in a pane where nothing is asked for: the option `default-command`, by the shell; else nothing."""
+    command = text_of("default-command")
+    return [os.environ.get("SHELL") or "/bin/sh", "-c", command] if command else []
+
+
+def undone(found: FileSettings) -> list[str]:
+    """What of a file isn't done, a line each."""
+    runs = [f"run-shell isn't there in roam: {printable(command)[:100]}" for command in found.runs]
+    more = [f"{found.untold} more lines aren't told"] if found.untold else []
+    return [*found.told, *runs, *more]
+
+
+def summary(found: FileSettings | None) -> str:
+    """What is told at a terminal of a file that was read: what it has told there itself, or how much of it isn't done; nothing where all is."""
+    lines = undone(found) if found else []
+    said = found.messages[-1:] if found else []
+    wrong = lines[:1] if len(lines) < 2 else [f"{len(lines)} lines of {NAME} aren't done here, which `{PRINTS}` prints"]
+    return "; ".join([*said, *wrong])

@@ -1,0 +1,144 @@
+"""A person's settings file as a front end and the keeper go by it: options, what goes before them, and what stands in the last row."""
+import os
+import unittest
+from unittest import mock
+
+from aids import Case
+from roam_live import choices
+from roam_live.display import Display
+from roam_live.loops import Loop
+from roam_live.own_settings import OWN, default_command, settings_path
+from roam_live.program import Fault
+from roam_live.status_row import StatusRow
+from roam_live.status_styles import Styled
+
+# Lines of a file, a variable of the environment and its value, what is asked, and the answer.
+CHOSEN = (
+    ("set -g prefix C-a", {}, choices.chosen_prefix, "C-a"),
+    ("set -g prefix C-a", {"ROAM_PREFIX": "C-x"}, choices.chosen_prefix, "C-x"),
+    ("", {}, choices.chosen_prefix, "C-b"),
+    ("set -g mouse on", {}, choices.wants_mouse, True),
+    ("set -g mouse on", {"ROAM_MOUSE": "off"}, choices.wants_mouse, False),
+    ("set -g guess never", {}, choices.chosen_guessing, "never"),
+    ("set -g history-limit 5", {}, choices.chosen_history, 5),
+    ("set -g history-limit 5", {"ROAM_HISTORY": "7"}, choices.chosen_history, 7),
+    ("set -g set-clipboard on", {}, choices.sets_clipboard, True),
+    ("set -g set-clipboard off", {}, choices.may_set_clipboard, False),
+    ("", {}, choices.may_set_clipboard, True),
+    ("setw -g mode-keys vi", {}, choices.wants_vi, True),
+    ("setw -g mode-keys emacs", {"EDITOR": "vim"}, choices.wants_vi, False),
+    ("", {"EDITOR": "vim"}, choices.wants_vi, True),
+    ("set -g window-size latest", {}, choices.follows_latest, True),
+    ("", {}, choices.follows_latest, False),
+    ("set -g escape-time 500", {}, lambda: choices.number_of("escape-time", choices.ESCAPE_TIME), 500),
+    ("set -g default-command 'bash -l'", {"SHELL": "/bin/dash"}, default_command, ["/bin/dash", "-c", "bash -l"]),
+    ("", {}, default_command, []),
+)
+
+
+class Own(Case):
+    """The file."""
+
+    def setUp(self):
+        self.folder = self.made_folder()
+        (self.folder / "roam").mkdir()
+        self.file = self.folder / "roam" / "roam.conf"
+        self.addCleanup(choices.choose_by_file, {})
+
+    def read(self, text, **environment):
+        """Reads a file with this text."""
+        if text is not None:
+            self.file.write_text(text)
+        patched = mock.patch.dict(os.environ, {"XDG_CONFIG_HOME": str(self.folder), **environment})
+        patched.start()
+        self.addCleanup(patched.stop)
+        for name in {"ROAM_PREFIX", "ROAM_MOUSE", "ROAM_GUESS", "ROAM_HISTORY", "ROAM_CLIPBOARD", "EDITOR", "VISUAL"} - set(environment):
+            os.environ.pop(name, None)
+        OWN.read()
+
+    def test_chosen(self):
+        """An option does what it says, and what the environment says goes before it."""
+        for text, environment, asks, answer in CHOSEN:
+            self.read(text, **environment)
+            self.assertEqual(asks(), answer, (text, environment))
+
+    def test_none(self):
+        """Where there is no file nothing is chosen or told; a folder of settings that isn't named from the top is none."""
+        self.read("set -g prefix C-a")
+        self.file.unlink()
+        self.read(None)
+        self.assertEqual((OWN.found, OWN.line(), choices.BY_FILE), (None, "", {}))
+        with mock.patch.dict(os.environ, {"XDG_CONFIG_HOME": "here", "HOME": "/home/a"}):
+            self.assertEqual(settings_path(), "/home/a/.config/roam/roam.conf")
+
+    def test_told(self):
+        """One line that isn't done is told as it is, of several how many there are."""
+        self.read("set -g prefix C-a\nfoo bar\n")
+        self.assertEqual((OWN.line(), choices.chosen_prefix()), ("roam.conf:2: foo isn't there in roam", "C-a"))
+        self.read("foo\nbind x kill-pane\nrun-shell 'rm -rf /'\n")
+        self.assertEqual(OWN.line(), "3 lines of roam.conf aren't done here, which `mux settings` prints")
+        self.read("display 'good morning'\n")
+        self.assertEqual(OWN.line(), "good morning")
+
+    def test_refused(self):
+        """A file that another may write is told of, and nothing of it done; nor is a value that can't be."""
+        self.file.write_text("set -g prefix C-a\n")
+        self.file.chmod(0o666)
+        self.read(None)
+        self.assertEqual((OWN.line(), choices.chosen_prefix()), ("roam.conf: isn't read: others may write it", "C-b"))
+        with mock.patch.dict(os.environ, {"ROAM_PREFIX": "F1"}), self.assertRaisesRegex(Fault, "ROAM_PREFIX is 'F1'"):
+            choices.chosen_prefix()
+
+
+class Row(Case):
+    """Both ends of the last row."""
+
+    def setUp(self):
+        self.now = 0.0
+        self.stop_clock()
+        self.loop = Loop(lambda: self.now)
+        outer = mock.Mock(**{"size.return_value": (24, 40)})
+        outer.waiting = bytearray()
+        self.patch("roam_live.display.OuterTerminal", lambda: outer)
+        self.display = Display(self.loop, lambda line: None)
+        self.display.asked, self.display.told_size, self.display.labels = (23, 40), (24, 40), "[1]"
+        told = mock.Mock(names={2: ""}, runs={2: "vim"})
+        self.front = mock.Mock(display=self.display, number=2, **{"windows.told": told, "panes.aside": ("a title", 0)})
+        self.front.session.name = "main"
+        self.row = StatusRow(self.front, self.loop)
+        self.addCleanup(choices.choose_by_file, {})
+
+    def choose(self, left, right):
+        """Goes by formats."""
+        choices.choose_by_file({"status-left": left, "status-right": right})
+        return self.row.choose()
+
+    def test_ends(self):
+        """They stand before and behind the labels, in their styles; where there is less room they are cut."""
+        self.assertEqual(self.choose("[#S] ", " #[fg=red]#I:#W"), [])
+        self.assertEqual(self.display.line(), "[main] [1]" + " " * 24 + " 2:vim")
+        text = self.display.line_text(self.display.line(), 40)
+        self.assertEqual(text, "\x1b[0;7m[main] \x1b[0;7m[1]" + " " * 24 + "\x1b[0;7m \x1b[0;7;31m2:vim\x1b[0m")
+        self.choose("#T#T#T", "")
+        self.assertEqual(self.display.line()[:17], "a titlea titl[1] ")
+        self.display.told = "told"
+        self.assertEqual(self.display.line_text("told", 9), "\x1b[0;7mtold     \x1b[0m")
+
+    def test_wrong(self):
+        """What isn't there in a format is told; a row without formats is as it always was."""
+        self.assertEqual(self.choose("#(date)", ""), ["status-left: #(date) isn't there in roam"])
+        self.choose("", "")
+        self.assertEqual((self.display.status, self.display.line()), (None, "[1]" + " " * 37))
+        self.assertEqual(self.display.parts[0] + [Styled("", "")], [Styled("", "")])
+
+    def test_clock(self):
+        """A clock of minutes is looked at once a minute, and none where there is none."""
+        with mock.patch("time.time", return_value=30.0):
+            self.choose("%H:%M", "")
+            self.assertIn("status", self.loop.due)
+            self.choose("#S", "")
+            self.assertNotIn("status", self.loop.due)
+
+
+if __name__ == "__main__":
+    unittest.main()
