@@ -65,6 +65,7 @@ class StatusRow:
         front, told = self.front, self.front.windows.told
         places, number = front.panes.places, front.number
         name = told.names.get(number) or told.runs.get(number, "")
-        return {"session": front.session.name or "", "window": name or "", "index": str(number or 1), "flags": "*" + "Z" * bool(front.display.zoomed),
+        session = (front.session.name or "").removesuffix(f":{number}")
+        return {"session": session, "window": name or "", "index": str(number or 1), "flags": "*" + "Z" * bool(front.display.zoomed),
                 "pane": str(places.focus) if places else "", "title": front.panes.aside[0], "host": self.host,
                 "short_host": self.host.partition(".")[0]}

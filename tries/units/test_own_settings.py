@@ -104,7 +104,7 @@ class Row(Case):
         self.display.asked, self.display.told_size, self.display.labels = (23, 40), (24, 40), "[1]"
         told = mock.Mock(names={2: ""}, runs={2: "vim"})
         self.front = mock.Mock(display=self.display, number=2, **{"windows.told": told, "panes.aside": ("a title", 0)})
-        self.front.session.name = "main"
+        self.front.session.name = "main:2"
         self.row = StatusRow(self.front, self.loop)
         self.addCleanup(choices.choose_by_file, {})
 
