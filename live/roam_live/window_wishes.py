@@ -63,7 +63,7 @@ INTERRUPT = "\x03"
 # So many seconds a line stands.
 SAID = 2.0
 ONE = "no other window can be had here"
-FAR = f"{ONE}: the session is another machine's"
+FAR = f"{ONE}: an earlier roam has the session there"
 EARLIER = f"{ONE}: the session is an earlier roam's, or by hand"
 NOBODY = "what keeps the windows isn't there just now"
 LATE = "no window is opened yet: what keeps them is silent"
