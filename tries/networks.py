@@ -17,7 +17,7 @@ import time
 from tried import Outer, comes  # First: it finds the package of live/.
 from roam_live.program import TOOLS, Fault
 
-# The others take so many seconds each way, drawn evenly: later ones overtake earlier ones.
+# The others take so many seconds each way, drawn evenly, where nothing else is asked for: later ones overtake earlier ones.
 DELAY = (0.040, 0.080)
 
 # The near machine may move to its other address, and the far one too.
@@ -38,10 +38,10 @@ class Link(threading.Thread):
     """Carries IP datagrams between two devices, badly: so many of a hundred are lost, and of each side so many kB a second go through each
     way, where a rate is named, with so many seconds of them before the narrow place."""
 
-    def __init__(self, names, lost=5.0, rate=0.0, queue=0.5):
+    def __init__(self, names, lost=5.0, rate=0.0, queue=0.5, delay=DELAY):
         super().__init__(daemon=True)
         self.ends = [self.device(name) for name in names]
-        self.lost, self.rate, self.queue = lost, rate, queue
+        self.lost, self.rate, self.queue, self.delay = lost, rate, queue, delay
         self.is_cut = self.is_blocked = self.has_stopped = False
         self.chance = random.Random(1)
         self.free, self.flying, self.count = {}, [], 0
@@ -96,7 +96,7 @@ class Link(threading.Thread):
             return
         self.count += 1
         other = self.ends[1 - self.ends.index(end)]
-        heapq.heappush(self.flying, (time.monotonic() + late + self.chance.uniform(*DELAY), self.count, other, datagram))
+        heapq.heappush(self.flying, (time.monotonic() + late + self.chance.uniform(*self.delay), self.count, other, datagram))
 
     def waits(self, name, end, length):
         """How long so many bytes wait before the narrow place; None where there is no room."""

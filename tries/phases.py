@@ -1,5 +1,5 @@
-"""What sides go through over a bad network, one beside the other: typing and idling, a cut, new addresses, large screens, a flood; and the
-sealed one alone: UDP that is blocked, an ssh that is killed, what ssh forwards."""
+"""What sides go through over a bad network, one beside the other: typing and idling, a cut, new addresses, pastes, large screens, a flood;
+and the sealed one alone: UDP that is blocked, an ssh that is killed, what ssh forwards."""
 import os
 import pathlib
 import random
@@ -24,6 +24,11 @@ LATEST = 90.0
 SIZES = ((24, 80), (100, 250))
 SCREENS = 6
 AFTER = 2.5
+
+# What is pasted: so many texts of so many characters, between the brackets of a paste.
+PASTES = 9
+PASTED = 20_000
+OPENS, CLOSES = b"\x1b[200~", b"\x1b[201~"
 
 # So long a flood lasts, and so often a screen comes in it.
 FLOOD = 12.0
@@ -310,6 +315,38 @@ def ended_flood(side):
         if side.outer.rows() == before:
             return None
         print(f"        {side.name}: the interrupt reached nobody, and the flood goes on", flush=True)
+
+
+def keeps_pasted(side, text):
+    """The seconds from the first byte of a paste until the program has the last one; None where it hasn't all of it in time."""
+    before, typed = side.file.stat().st_size, time.monotonic()
+    side.outer.type(OPENS + text + CLOSES)
+    wanted = OPENS + text + CLOSES
+    while side.file.stat().st_size < before + len(wanted) and time.monotonic() < typed + LATEST:
+        time.sleep(0.002)
+    took = time.monotonic() - typed
+    return took if side.file.read_bytes()[before:] == wanted else None
+
+
+def phase_paste(sides, machines, asked):
+    """Pastes into a program that keeps what it reads and has asked for brackets, side by side in turn: how long each paste takes."""
+    chance, took = random.Random(1), {side.name: [] for side in sides}
+    for side in sides:
+        side.file.write_bytes(b"")
+        side.outer.type(f"stty -icanon -echo min 1; printf '\\033[?2004h'; cat > {side.file}\r".encode())
+    time.sleep(5)
+    for _ in range(PASTES):
+        text = bytes(chance.choices(range(0x20, 0x7F), k=PASTED))
+        for side in sides:
+            took[side.name].append(keeps_pasted(side, text))
+            time.sleep(0.5)
+    for side in sides:
+        whole = [one for one in took[side.name] if one is not None]
+        check(f"{side.name}: each of {PASTES} pastes comes whole, between brackets", len(whole) == PASTES, len(whole))
+        if whole:
+            side.note(f"ms until {PASTED:,} bytes that are pasted are there, median", statistics.median(whole) * 1000)
+            side.note("ms of each paste", " ".join(f"{one * 1000:.0f}" for one in whole))
+        side.stop()
 
 
 # ---- the sealed side alone

@@ -6,6 +6,7 @@ import re
 import subprocess
 import time
 
+from roam_live.key_names import acts_named
 from roam_live.links import MOST_ACTS, opened
 from roam_live.program import Fault, Home
 from roam_live.places import MOST_PANES, MOVES, Places
@@ -111,7 +112,7 @@ def demand_acts(session: FolderSession, acts: list[str]) -> None:
     if ran.returncode:
         said = ran.stderr.decode("utf-8", "replace").strip().partition("\n")[0]
         line = re.fullmatch(r"roam: line (\d+): .*", said)
-        raise Fault(f"{acts[int(line[1]) - 1]!r} is no act; the page roam(1) lists them. None was typed" if line else said)
+        raise Fault(f"{acts[int(line[1]) - 1]!r} is no act, which the page roam(1) lists, and no key. None was typed" if line else said)
 
 
 def demand_doable(session: FolderSession, acts: list[str]) -> None:
@@ -164,9 +165,9 @@ def type_lines(session: FolderSession, link: StartLink, lines: list[str]) -> Non
     raise Fault(f"session {session.name} takes no more acts; some may have been typed")
 
 
-def send(session: FolderSession, acts: list[str], pane: int = 0) -> int:
-    """Types acts into a session, in a pane where one is named, and ends once it has taken all of them."""
-    acts = [act.replace("\n", "\\n") for act in acts]
+def send(session: FolderSession, words: list[str], pane: int = 0) -> int:
+    """Types acts, and keys by tmux's names, into a session, in a pane where one is named, and ends once it has taken all of them."""
+    acts = [act for word in words for act in acts_named(word) or [word.replace("\n", "\\n")]]
     focus = pane_places(session, pane).focus if pane else 0
     demand_acts(session, acts)
     demand_doable(session, [f"focus {pane}", *acts] if pane else acts)

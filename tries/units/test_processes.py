@@ -507,7 +507,7 @@ class Sends(Based):
         """They are read by a start that takes no turn, and typed once all can be done; it ends once the session has taken all of them."""
         self.answers = [record("paint", data=b"x"), b"", record("taken", 1), record("taken", 2)]
         self.link.lines = 1
-        self.assertEqual(sending.send(self.session(), ["char 61", "key up"]), 0)
+        self.assertEqual(sending.send(self.session(), ["a", "Up"]), 0)
         words = ["/roam", "attach", "--dir", str(self.folder), "--keys", "/dev/stdin", "--turns", "0"]
         self.assertEqual((self.runs.call_args[0][0], self.runs.call_args[1]["input"]), (words, b"char 61\nkey up\n"))
         self.assertFalse(self.opens.call_args[0][1])
@@ -521,7 +521,7 @@ class Sends(Based):
     def test_no_act(self):
         """What is no act is named, and none is typed."""
         self.runs.return_value = mock.Mock(returncode=1, stderr=b"roam: line 2: what is this\nmore\n")
-        with self.assertRaisesRegex(Fault, r"^'b\\\\nc' is no act; the page roam\(1\) lists them. None was typed$"):
+        with self.assertRaisesRegex(Fault, r"^'b\\\\nc' is no act, which the page roam\(1\) lists, and no key. None was typed$"):
             sending.send(self.session(), ["a", "b\nc"])
         self.runs.return_value.stderr = b"roam: no server\nx\n"
         with self.assertRaisesRegex(Fault, "^roam: no server$"):

@@ -345,7 +345,10 @@ fn first_wrong<'t>(
 ) -> Result<Option<&'t str>, Fail> {
     create_dir(rt, folder)?;
     let mut meeting = meeting_of(rt, folder, is_stream)?;
-    meeting.first_undone(rt, &mut Programs::new(), lines)
+    let mut programs = Programs::new();
+    let undone = meeting.first_undone(rt, &mut programs, lines);
+    drop(meeting);
+    undone
 }
 
 /// By UDP, or over a stream, the first program fills a screen of 97 fragments, more than go over UDP at one moment or than a socket of

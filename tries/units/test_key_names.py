@@ -1,0 +1,52 @@
+"""Keys by tmux's names: what each types, by the sequences of xterm and the VT220."""
+import unittest
+
+from roam_live.key_names import acts_named, named_key
+
+
+def characters(text):
+    """The acts of characters."""
+    return [f"char {ord(letter):x}" for letter in text]
+
+
+# A name, and the acts.
+TYPED = {
+    "a": characters("a"), "A": characters("A"), "é": characters("é"), "中": characters("中"), "-": characters("-"), "^": characters("^"),
+    "Space": characters(" "), " ": characters(" "), "Tab": characters("\t"), "Escape": characters("\x1b"), "Enter": ["key return"],
+    "enter": ["key return"], "BSpace": ["key backspace"], "C-c": characters("\x03"), "c-C": characters("\x03"), "^c": characters("\x03"),
+    "C-@": characters("\0"), "C-Space": characters("\0"), "C-[": characters("\x1b"), "C-\\": characters("\x1c"), "C-_": characters("\x1f"),
+    "C-?": ["key backspace"], "C-8": ["key backspace"], "C-2": characters("\0"), "M-x": characters("\x1bx"), "M-C-x": characters("\x1b\x18"),
+    "C-M-x": characters("\x1b\x18"), "M-Enter": characters("\x1b")[:1] + ["key return"], "M-BSpace": characters("\x1b") + ["key backspace"],
+    "BTab": characters("\x1b[Z"), "S-Tab": characters("\x1b[Z"), "M-BTab": characters("\x1b\x1b[Z"), "Up": ["key up"], "Home": ["key find"],
+    "End": ["key select"], "IC": ["key insert"], "Insert": ["key insert"], "DC": ["key remove"], "Delete": ["key remove"],
+    "PPage": ["key prev"], "PageUp": ["key prev"], "PgUp": ["key prev"], "NPage": ["key next"], "PageDown": ["key next"],
+    "PgDn": ["key next"], "F1": ["key pf1"], "F4": ["key pf4"], "F5": characters("\x1b[15~"), "F6": ["key f6"], "F12": ["key f12"],
+    "F20": ["key f20"], "KP0": ["key pad0"], "KP.": ["key padperiod"], "KP-": ["key padminus"], "KPEnter": ["key padenter"],
+    "KP/": characters("/"), "KP*": characters("*"), "KP+": characters("+"), "C-Up": characters("\x1b[1;5A"), "S-Left": characters("\x1b[1;2D"),
+    "C-S-Right": characters("\x1b[1;6C"), "M-Down": characters("\x1b[1;3B"), "C-Home": characters("\x1b[1;5H"),
+    "S-F3": characters("\x1b[1;2R"), "S-F5": characters("\x1b[15;2~"), "C-DC": characters("\x1b[3;5~"), "S-PPage": characters("\x1b[5;2~"),
+}
+
+# What is no key, or one that sends nothing of its own.
+NONE = ("", "C-", "Foo", "F0", "F21", "KP", "key up", "char 61", "close", "next", "\x1b", "\n", "ab", "C-C-", "C-1", "C-;", "S-a", "C-Enter",
+        "S-Enter", "C-Tab", "S-KP0", "X-a", "^ab", "C-é")
+
+
+class Names(unittest.TestCase):
+    """Names of keys."""
+
+    def test_typed(self):
+        for name, acts in TYPED.items():
+            self.assertEqual(acts_named(name), acts, name)
+
+    def test_none(self):
+        for name in NONE:
+            self.assertEqual(acts_named(name), [], name)
+
+    def test_same(self):
+        for one, other in (("C-M-x", "m-c-x"), ("BTab", "S-Tab"), ("^c", "C-c"), ("PageUp", "PPage"), ("Space", " ")):
+            self.assertEqual(named_key(one), named_key(other))
+
+
+if __name__ == "__main__":
+    unittest.main()
