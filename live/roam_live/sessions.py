@@ -20,7 +20,7 @@ from roam_live.program import (TOOLS, Fault, begun, count_front_ends, end_words,
                                program, replace_text, say)
 from roam_live.places import ASKED, MOST_STARTS, Places, asked_places
 from roam_live.window_lines import MOST_WINDOWS, name_in
-from roam_live.window_processes import NUMBER, WINDOWS, WINDOWS_VERSION, note_ends, numbers_in
+from roam_live.window_processes import NUMBER, SPARE, WINDOWS, WINDOWS_VERSION, note_ends, numbers_in
 
 NAME = re.compile(r"[A-Za-z0-9_-]{1,32}")
 
@@ -404,7 +404,7 @@ class WindowedSession(FolderSession):
 
     def windows(self) -> list[FolderSession]:
         """The windows that run, in order."""
-        return [window for window in self.all_windows() if window.find()]
+        return [window for window in self.all_windows() if not (window.folder / SPARE).exists() and window.find()]
 
     def window(self, number: int | None = None) -> FolderSession:
         """A window by its number, else the one where somebody was last; Fault where it isn't there."""
@@ -638,7 +638,8 @@ class Window(FolderSession):
     def clean(self) -> None:
         """Removes what it left, with its folder."""
         super().clean()
-        (self.folder / "name").unlink(missing_ok=True)
+        for name in ("name", SPARE):
+            (self.folder / name).unlink(missing_ok=True)
         for folder in (self.folder / "relays", self.folder):
             with contextlib.suppress(OSError):
                 folder.rmdir()
