@@ -17,7 +17,7 @@ BINDINGS = {"o": "next"}
 WISHES = {"%": "split right", '"': "split down", "x": "close", "d": "detach", "r": "repaint", "?": "help", "up": "up", "down": "down",
           "left": "left", "right": "right", "\x1a": "suspend", "m": "mouse", "[": "copy", "prev": "copy page", "/": "copy search",
           "]": "paste", "=": "choose", "z": "zoom", " ": "even", ";": "last", "c": "window new", "w": "window list", ",": "window name",
-          "&": "window shut", "n": "go next", "p": "go previous", "l": "go last",
+          "&": "window shut", "n": "go next", "p": "go previous", "l": "go last", "'": "go asked",
           **{str(digit): f"go {digit or 10}" for digit in range(10)}, "q": "panes", "t": "row", "D": "leave others"}
 BORDERS = {"C-right": "border right", "C-down": "border down", "C-left": "border left", "C-up": "border up"}
 
@@ -37,7 +37,7 @@ NEWEST = f"view -{MOST_VIEW}"
 HELP = """\
 C-b and then:
   c n p l  open a window; go to the next, the one before, the last one
-  1 to 9 0 the window of this number, 10; q and a digit: the pane of it
+  1 to 9 0 the window of this number, 10, ' asks; q and a digit: the pane
   w , &    choose a window from a list; name this one; shut it
   % " x    split the pane: the new one to the right, or below; close the pane
   o ;      the next pane, the one in focus before; arrows: the pane there

@@ -3,7 +3,7 @@ from __future__ import annotations
 
 from collections import deque
 
-from roam_live.borders import SETTLES, Border, BorderDrag, begin_of, border_at, end_of, is_told_by_numbers, splits_of
+from roam_live.borders import NO_PANE, SETTLES, Border, BorderDrag, begin_of, border_at, end_of, is_told_by_numbers, splits_of
 from roam_live.loops import Loop
 from roam_live.places import BESIDE
 from roam_live.shares import Evened
@@ -119,7 +119,11 @@ class BorderKeys:
 
     def pull(self, drag: BorderDrag, aim: int) -> None:
         """Has a border go to a column or a row, as far as it may."""
-        if not drag.border.least <= aim <= drag.border.most and drag.border.leaves:
+        if not drag.leaves:
+            self.commands.display.tell(NO_PANE)
+            self.drop()
+            return
+        if not drag.border.least <= aim <= drag.border.most:
             self.commands.display.tell(NO_ROOM)
         drag.to(aim, aim)
         if self.drag is drag:

@@ -76,9 +76,6 @@ NO_LAST = "no other pane was in focus"
 # For so many seconds a session is new, and goes by its terminal's size, whatever that is: a window may get its size once it is there.
 NEW = 2.0
 
-# No key at all.
-NO_KEY = Key("", "")
-
 
 class Commands:
     """The keys of one person, and what they ask for."""
@@ -323,7 +320,12 @@ class Commands:
         self.display.moved = self.fit_drawn
         self.is_fitted, self.showed_all, self.left_size = False, False, left_size
         if self.typing.mode == self.typing.pasting:
-            self.pastes.begin(WINDOW_GONE)
+            self.refuse_paste(WINDOW_GONE)
+
+    def refuse_paste(self, why: str) -> None:
+        """Has nothing be typed of a paste whose end hasn't come yet, and tells why then."""
+        self.typing.mode = self.typing.pasting
+        self.pastes.begin(why)
 
     def end_scroll(self) -> None:
         """Ends the scroll mode, where the newest rows are."""
@@ -348,15 +350,17 @@ class Commands:
             self.copy(wish)
         elif wish == "row":
             self.switch_row()
+        elif wish == "line":
+            self.prompts.type(key)
         elif wish.startswith((GOES, WINDOW)):
             if self.windows:
                 self.windows.grant(wish)
         elif wish == "unknown":
             self.display.tell(f"{self.prefix} {spelled(key.name)} means nothing; {self.prefix} ? shows the keys")
         elif wish and not self.link.watches:
-            self.change(wish, key)
+            self.change(wish)
 
-    def change(self, wish: str, key: Key = NO_KEY) -> None:
+    def change(self, wish: str) -> None:
         """Does what somebody who only watches may not."""
         if wish == "scroll":
             self.display.tell(f"{self.typing.view} rows back: PgUp PgDn up down g G scroll, q ends it", None)
@@ -370,8 +374,6 @@ class Commands:
             self.display.tell(f"{self.display.labels}: a digit goes to the pane of this number", PICKS)
         elif wish == "leave others":
             self.leave_others()
-        elif wish == "line":
-            self.prompts.type(key)
         elif wish in ("paste", "choose"):
             self.copying.close()
             self.choosing.ask(is_newest=wish == "paste")

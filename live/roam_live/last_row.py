@@ -82,8 +82,8 @@ def marked(labels: list[str], first: int, end: int) -> str:
 
 
 def label_at(text: str, labels: list[str], begin: int, col: int) -> int | None:
-    """The place of the label that has a column of a row, from 1, in which labels stand from a character on; None where none has that is shown
-    whole."""
+    """The place of the label that has a column of a row, from 1, in which labels stand from a character on; None where none has that is
+    shown whole."""
     for place, label in enumerate(labels):
         at = text.find(label, begin)
         while at > 0 and text[at - 1] != " " or at >= 0 and text[at + len(label) : at + len(label) + 1] not in ("", " "):

@@ -408,11 +408,16 @@ class WindowedSession(FolderSession):
 
     def window(self, number: int | None = None) -> FolderSession:
         """A window by its number, else the one where somebody was last; Fault where it isn't there."""
+        if number is not None:
+            named = Window(self, number) if number in numbers_in(str(self.folder_of_windows)) else None
+            if not named or not named.find():
+                raise Fault(f"session {self.name} has no window {number}")
+            return named
         there = self.windows()
-        found = [window for window in there if window.number == (self.last() if number is None else number)]
-        if not found and (number is not None or not there):
-            raise Fault(f"session {self.name} has no window {number}" if number is not None else f"session {self.name} has ended")
-        return (found or there)[0]
+        if not there:
+            raise Fault(f"session {self.name} has ended")
+        last = self.last()
+        return next((window for window in there if window.number == last), there[0])
 
     def last(self) -> int:
         """The window where somebody was last, as far as that is noted."""

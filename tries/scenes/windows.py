@@ -1,12 +1,14 @@
-"""Windows of a session at a person's terminal: what is typed goes to the window where the person is, however it is cut, and each terminal has
-its own."""
+"""Windows of a session at a person's terminal: what is typed goes to the window where the person is, whatever is stopped, and one that is
+gone gives way to another."""
 import json
 import os
 import pathlib
 import random
 import signal
+import subprocess
 
-from tried import SESSION, Outer, check, comes, noted, scene, tool
+from tried import SESSION, Outer, check, comes, noted, said, scene, tool
+from scenes.machines import ssh_words
 
 # So many switches, with keys before and behind each in one piece; and the seed of which.
 SWITCHES = 200
@@ -57,16 +59,16 @@ class Person:
         return f"\x1b[200~{self.types(text)}\x1b[201~"
 
 
-@scene
-def window_switches(folder):
-    """Two hundred switches with keys, and pastes, typed in one piece round each: none is lost, and none goes to another window."""
+def switched(folder, words, count):
+    """Switches with keys, and pastes, typed in one piece round each, at a terminal with a tool on it: none is lost, and none goes to another
+    window. Tells the terminal."""
     paths = {window: folder / f"window{window}" for window in (1, 2, 3)}
-    outer, chance = Outer(tool("mux", SESSION)), random.Random(SEED)
+    outer, chance = Outer(words), random.Random(SEED)
     check("a session has a window", outer.status("[1] 1:"), outer.rows)
     for window, path in paths.items():
         opened(outer, window, path)
     person = Person(list(paths))
-    for number in range(SWITCHES):
+    for number in range(count):
         pieces = [person.types(f"<{number}a>"), person.switch(chance), person.types(f"<{number}b>")]
         for _ in range(chance.randrange(3)):
             pieces += [person.switch(chance), person.types(f"<{number}c>")]
@@ -78,6 +80,25 @@ def window_switches(folder):
         check(f"window {window} has all that was typed there, in order, and nothing else", comes(lambda: typed_in(path) == wanted, 60),
               lambda: differs(typed_in(path), wanted))
     check("the last row has the windows", outer.stands(23, 0, "[1] 1:"), outer.rows)
+    return outer
+
+
+@scene
+def window_switches(folder):
+    """Two hundred switches in a session of this machine."""
+    switched(folder, tool("mux", SESSION), SWITCHES)
+
+
+@scene
+def window_switches_far(folder):
+    """As many in one of another machine, over its relays."""
+    outer = switched(folder, ssh_words(folder, folder / "far", folder / "asked"), SWITCHES)
+    outer.type(b"\x02d")
+    check("a front end leaves", outer.ends() and outer.is_restored(), outer.rows)
+    for name in [path.name for path in pathlib.Path(os.environ["XDG_RUNTIME_DIR"], "roam").glob("ssh:*")]:
+        said("kill", "-f", name)
+    there = {**os.environ, "XDG_RUNTIME_DIR": str(folder / "far")}
+    subprocess.run(tool("mux", "kill", "-f", "other"), env=there, stdout=subprocess.DEVNULL, stderr=subprocess.DEVNULL, check=False)
 
 
 def window_process(window, role):
@@ -98,8 +119,8 @@ def two_windows(folder):
 
 @scene
 def window_stopped(folder):
-    """A keeper, or a start, that is stopped stops nobody from typing, from going elsewhere and from leaving; all that was typed comes where it
-    was meant for, once it goes on."""
+    """A keeper, or a start, that is stopped stops nobody from typing, from going elsewhere and from leaving; all that was typed comes where
+    it was meant for, once it goes on."""
     outer, paths = two_windows(folder)
     keeper = noted(SESSION)["shells"][0]
     os.kill(keeper, signal.SIGSTOP)
@@ -115,18 +136,19 @@ def window_stopped(folder):
     start = window_process(2, "terminals")
     os.kill(start, signal.SIGSTOP)
     outer.type(b" t\x021 o\x022wo")
-    check("a window that isn't painted shows nothing of the one before", comes(lambda: "1:" in outer.rows()[23] and not outer.rows()[0].strip()),
-          outer.rows)
+    is_blank = comes(lambda: "1:" in outer.rows()[23] and not outer.rows()[0].strip())
+    check("a window that isn't painted shows nothing of the one before", is_blank, outer.rows)
     outer.type(b"\x021ne\x02d")
     check("he leaves", outer.ends() and outer.is_restored(), outer.rows)
     os.kill(start, signal.SIGCONT)
-    check("what was typed is taken then", comes(lambda: [typed_in(path) for path in paths] == ["one one", "two two"]), [*map(typed_in, paths)])
+    wanted = ["one one", "two two"]
+    check("what was typed is taken then", comes(lambda: [typed_in(path) for path in paths] == wanted), [*map(typed_in, paths)])
 
 
 @scene
 def window_kills(folder):
-    """A window whose server is killed gives way to the one before; a keeper that is killed is followed by another, which has the windows; the
-    last window's end is the session's."""
+    """A window whose server is killed gives way to the one before; a keeper that is killed is followed by another, which has the windows;
+    the last window's end is the session's."""
     outer, paths = two_windows(folder)
     os.kill(window_process(2, "server"), signal.SIGKILL)
     outer.type(b"")

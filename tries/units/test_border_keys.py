@@ -62,6 +62,16 @@ class Moves(Attached):
             session.do(act)
         self.assertEqual(self.each(session, (24, 80)), (8, 8))
 
+    def test_stuck_at_limit(self):
+        """Where no pane's own split has a border that is told also of one that is as far as it can be."""
+        session = Lived()
+        for act in ("split down", "split right", "focus 1", "split right"):
+            session.do(act)
+        session.area = Rect(1, 1, 5, 80)
+        self.attach(session, (6, 80))
+        self.move(1, "down")
+        self.assertEqual(self.person.display.told, NO_PANE)
+
     def test_trees(self):
         """In each of 40 trees, where the numbers tell the splits: what is said not to go has no pane whose own split it is."""
         moved = 0

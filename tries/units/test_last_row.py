@@ -5,7 +5,8 @@ from roam_live.last_row import columns, cut, fitted, label_at, row_text, tail, w
 
 # A text, a width, and what of it has room; what is wide is two columns.
 CUTS = (("abc", 5, "abc"), ("abc", 3, "abc"), ("abc", 2, "ab"), ("abc", 0, ""), ("abc", -1, ""), ("中文", 4, "中文"), ("中文", 3, "中"),
-        ("中文", 1, ""), ("a中", 2, "a"), ("e\u0301e", 1, "e\u0301"), ("a\x1b[2Jb", 9, "a?[2Jb"), ("\u202eab\x07", 9, "?ab?"), ("\u200bab", 1, "?"))
+        ("中文", 1, ""), ("a中", 2, "a"), ("e\u0301e", 1, "e\u0301"), ("a\x1b[2Jb", 9, "a?[2Jb"), ("\u202eab\x07", 9, "?ab?"),
+        ("\u200bab", 1, "?"))
 
 LABELS = ["1:bash-", "2:vim*", "3:top#", "4:中文!"]
 

@@ -5,8 +5,8 @@ from roam_live.windows_link import ToldWindows, WindowsLink
 LIST = ("window 1 -", "window 2 68c3a920", "window 10 1b5b324a0a", "windows 3")
 
 # Lines that tell nothing.
-ODD = ("window 0 -", "window 100 -", "window 1", "window 1 zz", "window 1 6", "window 1 " + "61" * 257, "gone 0", "gone", "gone 1 1", "bell 1 0",
-       "bell 1", "bell 1 10", "activity", "runs 1", "runs 1 ", "windows", "windows 100", "window １ -", "opened 1", "")
+ODD = ("window 0 -", "window 100 -", "window 1", "window 1 zz", "window 1 6", "window 1 " + "61" * 257, "gone 0", "gone", "gone 1 1",
+       "bell 1 0", "bell 1", "bell 1 10", "activity", "runs 1", "runs 1 ", "windows", "windows 100", "window １ -", "opened 1", "")
 
 
 class Told(Case):

@@ -10,7 +10,7 @@ from roam_live.front_end import FrontEnd
 from roam_live.keys import acts_of_bytes
 from roam_live.program import Fault
 from roam_live.choosing import WINDOWS_LINE
-from roam_live.window_wishes import DROPPED, EARLIER, FAR, LATE, OPENS
+from roam_live.window_wishes import DROPPED, EARLIER, FAR, LATE, NOT_AWAITED, OPENING, OPENS, TAKES_LONG
 from test_display import PlayedPanes, painting, places
 from test_front_end import AnySession
 
@@ -184,8 +184,8 @@ class Switches(Windows):
     """From one window to another."""
 
     def test_round(self):
-        """Keys behind a switch in one read go to the window where the person went, and those before it to the other, in order. Nothing is left
-        of a window that was left."""
+        """Keys behind a switch in one read go to the window where the person went, and those before it to the other, in order. Nothing is
+        left of a window that was left."""
         self.type(b"\x022\x021")
         self.turn()
         has = len(self.loop.sources), len(self.loop.before), sorted(self.loop.due)
@@ -304,8 +304,8 @@ class Opened(Windows):
         self.assertEqual(self.typed, {1: "ab", 2: ""})
 
     def test_late(self):
-        """A keeper that is stopped doesn't stop who types for longer than a moment, and not from going elsewhere; a window that comes later is
-        told of."""
+        """A keeper that is stopped doesn't stop who types for longer than a moment, and not from going elsewhere; a window that comes later
+        is told of."""
         self.tell_list()
         self.type(b"\x02cab")
         self.now += OPENS
@@ -318,10 +318,33 @@ class Opened(Windows):
         self.assertEqual((self.front.number, self.front.display.told), (2, "window 3 is there now"))
 
     def test_given_up(self):
-        """C-c waits for it no longer, and what follows that is typed."""
+        """Once it was told that it takes long C-c waits for it no longer, and what follows that is typed; before that C-c is for it too."""
         self.tell_list()
-        self.type(b"\x02cab\x03d")
-        self.assertEqual((self.typed[1], self.front.windows.is_opening), ("d", False))
+        self.type(b"\x02cab\x03c")
+        self.now += TAKES_LONG
+        self.turn()
+        self.assertEqual((self.front.display.told, self.typed[1]), (OPENING, ""))
+        self.type(b"\x03d")
+        self.assertEqual((self.typed[1], self.front.windows.is_opening, self.front.display.told), ("d", False, NOT_AWAITED + DROPPED))
+        self.type(b"\x02c\x03e")
+        self.add(3)
+        self.tell("window 3 -", "opened 3")
+        self.assertEqual(self.typed, {1: "d", 2: "", 3: "\x03e"})
+
+    def test_half_pasted(self):
+        """Of a paste that was begun for it nothing is typed elsewhere, however late the rest of it comes."""
+        self.tell_list()
+        self.type(b"\x02ca\x1b[200~rm")
+        self.now += OPENS
+        self.turn()
+        self.type(b" -rf x\r")
+        self.type(b"y\r\x1b[201~b")
+        self.assertEqual((self.typed[1], self.front.display.told), ("b", LATE + DROPPED))
+        self.type(b"\x02ca\x1b[200~on")
+        self.add(3)
+        self.tell("window 3 -", "opened 3")
+        self.type(b"e\x1b[201~b")
+        self.assertEqual(self.typed, {1: "b", 2: "", 3: "aoneb"})
 
     def test_keeper_ends(self):
         """So does the end of the keeper."""
@@ -493,6 +516,18 @@ class Named(Windows):
         self.assertEqual(self.rows()[1], "shut window 1 and end the session, whose last it is? y shuts it")
         self.type(b"y")
         self.assertEqual(self.said(), ["shut 1"])
+
+    def test_asked(self):
+        """A number may be asked for, also by one who only watches."""
+        self.add(12)
+        for watches in (False, True):
+            self.starts.clear()
+            self.keepers.clear()
+            self.front_of(watches=watches)
+            self.tell_list()
+            for typed, number in ((b"12\r", 12), (b"7\r", 12), (b"x\r", 12), (b"\r", 12), (b"1\x03", 12), (b"02\r", 2)):
+                self.type(b"\x02'" + typed)
+                self.assertEqual(self.front.number, number, typed)
 
     def test_list(self):
         """The list shows what runs there, and goes where Return or a digit says."""
