@@ -85,7 +85,11 @@ def session_named(name: str) -> FolderSession:
 def sessions_here() -> list[FolderSession]:
     """The sessions of which there are folders, by name: those of other machines behind those of this one."""
     folders = sorted(path for path in base().iterdir() if path.is_dir() and len(str(path / "terminals")) <= LONGEST_PATH)
-    own = [session_in(path) for path in folders if NAME.fullmatch(path.name)]
+    own: list[FolderSession] = []
+    for path in folders:
+        # One whose path is too long for its windows' sockets can't be one.
+        with contextlib.suppress(Fault):
+            own += [session_in(path)] if NAME.fullmatch(path.name) else []
     return own + [NearSession(path) for path in folders if NEAR_NAME.fullmatch(path.name)]
 
 
