@@ -107,8 +107,8 @@ class Back(Zoomed):
         self.assertEqual(texts, ["\x1b[<0;1;1M", "\x1b[<0;80;23M"])
 
     def test_at_once(self):
-        """Behind a key that moves the focus the pane that comes into focus is zoomed, once it is told which that is; or that in focus, where
-        nothing is told."""
+        """Behind a key that moves the focus the pane that comes into focus is zoomed, once it is told which that is; or that in focus,
+        where nothing is told."""
         for keys, pane in ((b"\x02o\x02z", 3), (b"\x02%\x02z", 4), (b"\x021\x02z", 1)):
             self.attach(self.grid())
             self.types(keys)
