@@ -109,7 +109,7 @@ class Back(Zoomed):
     def test_at_once(self):
         """Behind a key that moves the focus the pane that comes into focus is zoomed, once it is told which that is; or that in focus,
         where nothing is told."""
-        for keys, pane in ((b"\x02o\x02z", 3), (b"\x02%\x02z", 4), (b"\x021\x02z", 1)):
+        for keys, pane in ((b"\x02o\x02z", 3), (b"\x02%\x02z", 4), (b"\x02q1\x02z", 1)):
             self.attach(self.grid())
             self.types(keys)
             self.take(6)
@@ -122,7 +122,7 @@ class Back(Zoomed):
         self.take()
         self.assertTrue(self.is_zoomed(2))
         self.attach(self.grid())
-        self.person.commands.fed(b"\x021\x02z")
+        self.person.commands.fed(b"\x02q1\x02z")
         self.person.commands.told()
         self.assertTrue(self.person.commands.zooming.is_on())
 
