@@ -324,8 +324,13 @@ class Commands:
         self.pointing.is_on = before.pointing.is_on
         self.display.moved = self.fit_drawn
         self.is_fitted, self.showed_all, self.left_size = False, False, left_size
-        if self.typing.mode == self.typing.pasting:
-            self.pastes.begin(WINDOW_GONE)
+        if self.typing.mode == self.typing.pasting or before.copying.is_pasting:
+            self.refuse_paste(WINDOW_GONE)
+
+    def refuse_paste(self, why: str) -> None:
+        """Has nothing be typed of a paste whose end hasn't come yet, and tells why then."""
+        self.typing.mode = self.typing.pasting
+        self.pastes.begin(why)
 
     def end_scroll(self) -> None:
         """Ends the scroll mode, where the newest rows are."""

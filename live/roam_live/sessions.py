@@ -20,7 +20,7 @@ from roam_live.program import (TOOLS, Fault, begun, count_front_ends, end_words,
                                program, replace_text, say)
 from roam_live.places import ASKED, MOST_STARTS, Places, asked_places
 from roam_live.window_lines import MOST_WINDOWS, name_in
-from roam_live.window_processes import NUMBER, WINDOWS, WINDOWS_VERSION, note_ends, numbers_in
+from roam_live.window_processes import NUMBER, SPARE, WINDOWS, WINDOWS_VERSION, note_ends, numbers_in
 
 NAME = re.compile(r"[A-Za-z0-9_-]{1,32}")
 
@@ -85,7 +85,11 @@ def session_named(name: str) -> FolderSession:
 def sessions_here() -> list[FolderSession]:
     """The sessions of which there are folders, by name: those of other machines behind those of this one."""
     folders = sorted(path for path in base().iterdir() if path.is_dir() and len(str(path / "terminals")) <= LONGEST_PATH)
-    own = [session_in(path) for path in folders if NAME.fullmatch(path.name)]
+    own: list[FolderSession] = []
+    for path in folders:
+        # One whose path is too long for its windows' sockets can't be one.
+        with contextlib.suppress(Fault):
+            own += [session_in(path)] if NAME.fullmatch(path.name) else []
     return own + [NearSession(path) for path in folders if NEAR_NAME.fullmatch(path.name)]
 
 
@@ -404,7 +408,7 @@ class WindowedSession(FolderSession):
 
     def windows(self) -> list[FolderSession]:
         """The windows that run, in order."""
-        return [window for window in self.all_windows() if window.find()]
+        return [window for window in self.all_windows() if not (window.folder / SPARE).exists() and window.find()]
 
     def window(self, number: int | None = None) -> FolderSession:
         """A window by its number, else the one where somebody was last; Fault where it isn't there."""
@@ -643,7 +647,8 @@ class Window(FolderSession):
     def clean(self) -> None:
         """Removes what it left, with its folder."""
         super().clean()
-        (self.folder / "name").unlink(missing_ok=True)
+        for name in ("name", SPARE):
+            (self.folder / name).unlink(missing_ok=True)
         for folder in (self.folder / "relays", self.folder):
             with contextlib.suppress(OSError):
                 folder.rmdir()

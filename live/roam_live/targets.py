@@ -62,9 +62,11 @@ def window_of(session: FolderSession, target: Target) -> FolderSession:
     from roam_live.sessions import window_in
 
     folder = own_pane()[0]
-    if target.window is None and folder and is_in(folder, session):
-        return session.window(window_in(folder).number or None)
-    return session.window(target.window)
+    is_own = target.window is None and folder and is_in(folder, session)
+    window = session.window(window_in(folder).number or None if is_own else target.window)
+    # Where there are no others it is told by the session's name alone.
+    window.name = window.name if len(session.windows()) > 1 else session.name
+    return window
 
 
 def is_in(folder: str, session: FolderSession) -> bool:

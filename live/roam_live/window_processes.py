@@ -23,6 +23,9 @@ if TYPE_CHECKING:
 SERVER, TERMINALS = "server", "terminals"
 SOCKETS = {SERVER: "clients", TERMINALS: "terminals"}
 
+# What lies in a window's folder while its server only stands ready.
+SPARE = "spare"
+
 # What a note of such a session is like.
 WINDOWS_VERSION = 4
 
@@ -128,6 +131,17 @@ class WindowProcesses:
     def ending(self) -> str:
         """How the end of its server is noted."""
         return end_words(*self.noted[SERVER])
+
+    def mark_spare(self, is_spare: bool) -> None:
+        """Marks what only stands ready, or has it be a window from now on."""
+        if is_spare:
+            with open(self.path(SPARE), "w", encoding="ascii"):
+                return
+        os.unlink(self.path(SPARE))
+
+    def is_spare(self) -> bool:
+        """Whether it only stands ready."""
+        return os.path.exists(self.path(SPARE))
 
     def name(self) -> str:
         """What the window is called, as was noted."""

@@ -52,10 +52,11 @@ if TYPE_CHECKING:
 # What is told to who had a window opened.
 OPENED = re.compile(r"opened (?:(?P<window>[1-9]\d?)|none (?P<why>.{1,200}))", re.ASCII)
 
-# So many seconds a window has until it is opened, and so often it is looked whether it is there: what is typed meanwhile is for it, so many
-# keys and characters at most.
+# So many seconds a window has until it is opened, so often it is looked whether it is there, and after so many a person is told that it takes
+# long: what is typed meanwhile is for it, so many keys and characters at most.
 OPENS = 3.0
 COMES = 0.02
+TAKES_LONG = 0.5
 MOST_KEYS = 4096
 MOST_TEXT = 1 << 20
 INTERRUPT = "\x03"
@@ -63,12 +64,13 @@ INTERRUPT = "\x03"
 # So many seconds a line stands.
 SAID = 2.0
 ONE = "no other window can be had here"
-FAR = f"{ONE}: the session is another machine's"
+FAR = f"{ONE}: an earlier roam has the session there"
 EARLIER = f"{ONE}: the session is an earlier roam's, or by hand"
 NOBODY = "what keeps the windows isn't there just now"
 LATE = "no window is opened yet: what keeps them is silent"
 DROPPED = "; keys for it are dropped"
 OPENING = "a window is opened; C-c doesn't wait for it"
+NOT_AWAITED = "a window may still come, and isn't waited for"
 MANY = f"there are {MOST_WINDOWS} windows, and no more"
 
 
@@ -93,8 +95,8 @@ class WindowWishes:
         self.visited: list[int] = []
         # The numbers of those whose labels stand in the last row.
         self.shown: list[int] = []
-        # Whether a window is being opened, and what is typed for it.
-        self.is_opening = False
+        # Whether a window is being opened, and that takes so long that a person was told; and what is typed for it.
+        self.is_opening = self.is_late = False
         self.held: list[Key] = []
         self.link = WindowsLink(self.path, loop, self.take, self.told.begin, self.lose)
 
@@ -269,7 +271,12 @@ class WindowWishes:
         elif self.say("open {} {}".format(*largest(size))):
             self.is_opening = True
             self.loop.later("window opens", OPENS, lambda: self.end_opening(LATE))
-            self.loop.later("window waits", OPENS / 6, lambda: self.front.display.tell(OPENING, OPENS))
+            self.loop.later("window waits", TAKES_LONG, self.tell_late)
+
+    def tell_late(self) -> None:
+        """Tells that a window takes long, and what doesn't wait for it."""
+        self.is_late = True
+        self.front.display.tell(OPENING, OPENS)
 
     def opened(self, number: int, why: str) -> None:
         """Goes to a window that was opened, with what was typed for it; 0 where none was."""
@@ -297,7 +304,11 @@ class WindowWishes:
         for name in ("window opens", "window waits"):
             self.loop.drop(name)
         was_told = self.front.display.told == OPENING
-        dropped, self.held, self.is_opening = len(self.held), [], False
+        dropped, self.held = self.held, []
+        self.is_opening = self.is_late = False
+        if [key.name for key in dropped if key.name in ("paste", "pasted")][-1:] == ["paste"]:
+            # What comes of it still isn't typed either.
+            self.front.commands.refuse_paste(why + DROPPED)
         if why:
             self.front.display.tell(why + DROPPED * bool(dropped), SAID)
         elif was_told:
@@ -315,13 +326,13 @@ class WindowWishes:
         return True
 
     def hold(self, keys: list[Key]) -> None:
-        """Has keys wait for a window that is being opened; C-c waits no longer. What the terminal tells itself doesn't wait."""
+        """Has keys wait for a window that is being opened; once a person was told that it takes long C-c waits no longer. What the terminal
+        tells itself doesn't wait."""
         for place, key in enumerate(keys):
             if key.name == COLOUR:
                 self.front.commands.reported(key)
-            elif key.name == INTERRUPT:
-                self.held += keys[:0]
-                self.end_opening("not waited for; the window may still come")
+            elif key.name == INTERRUPT and self.is_late:
+                self.end_opening(NOT_AWAITED)
                 self.front.commands.typed(keys[place + 1 :])
                 return
             elif key.name != MOUSE:

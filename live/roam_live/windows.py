@@ -29,6 +29,9 @@ OPENING, THERE, ENDING = "opening", "there", "ending"
 STEP = 0.004
 OPENS = 10.0
 ENDS = 1.0
+
+# So many seconds after somebody asked for windows, or one was opened, a server is spawned that stands ready for the next.
+READY = 1.0
 AGAIN = 1.0
 
 # So many seconds lie between two lines that tell of one window that something was written, or of one pane that it rang.
@@ -77,6 +80,9 @@ class Windows:
         self.last = 0
         # Why there is no first window.
         self.refusal = ""
+        # A server that stands ready for the next window, and when it was spawned: it has no start, so it sleeps, and is told nowhere.
+        self.spare: WindowProcesses | None = None
+        self.spared_at = 0.0
         self.lasting = Lasting(asked.common)
         self.loop.each(self.make_last)
         self.lines = common.shells.lines = WindowLines(self, common.shells.sockets)
@@ -90,16 +96,69 @@ class Windows:
 
     def open(self, size: Size | None, beside: int, told: Callable[[int, str], object]) -> None:
         """Opens a window, of a size where one is named, asked for at another; told with its number, or with 0 and why there is none."""
-        number = next((one for one in range(1, MOST_WINDOWS + 1) if one not in self.windows), 0)
+        number = self.free_number()
         if not number or self.common.is_over:
             told(0, OVER if number else FULL)
             return
-        window = KeptWindow(number, WindowProcesses(self.asked.common, number), told)
+        processes = self.taken_spare(number) or WindowProcesses(self.asked.common, number)
+        window = KeptWindow(number, processes, told)
         window.has_start = size is not None
         window.size = (max(size[0], LEAST[0]), max(size[1], LEAST[1])) if size else None
         window.begins_in = self.folder_beside(beside)
         self.windows[number] = window
         self.begin(window)
+
+    # ---- what stands ready
+
+    def await_spare(self) -> None:
+        """Has a server stand ready soon, where somebody may have a window opened."""
+        self.loop.later("spare window", READY, self.prepare)
+
+    def prepare(self) -> None:
+        """Spawns a server that stands ready in the folder of the next window; where that can't be the next one is spawned when it is asked
+        for."""
+        if self.spare and not self.spare.runs(SERVER):
+            self.spare.clean()
+            self.spare = None
+        number = self.free_number()
+        if self.spare or not number or self.common.is_over or not self.lines.has_asked():
+            return
+        spare = WindowProcesses(self.asked.common, number)
+        try:
+            spare.make_folder()
+            spare.mark_spare(True)
+            self.common.hung.append(spare.spawn_server())
+        except (OSError, Fault):
+            spare.clean()
+            return
+        self.spare, self.spared_at = spare, self.loop.clock()
+
+    def free_number(self) -> int:
+        """The smallest number that no window has; 0 where all have."""
+        return next((one for one in range(1, MOST_WINDOWS + 1) if one not in self.windows), 0)
+
+    def taken_spare(self, number: int) -> WindowProcesses | None:
+        """What stands ready for a window of this number, which it is for that from now on; None where nothing does."""
+        spare = self.spare
+        if not spare or spare.number != number:
+            return None
+        self.spare = None
+        is_there = os.path.exists(spare.path("session")) and os.path.exists(spare.path("panes"))
+        if spare.runs(SERVER) and (is_there or self.loop.clock() < self.spared_at + OPENS):
+            with contextlib.suppress(OSError):
+                spare.mark_spare(False)
+                return spare
+        # A cleaner of old files may have had what lies there.
+        spare.end(signal.SIGKILL)
+        spare.clean()
+        return None
+
+    def end_spare(self) -> None:
+        """Ends what stands ready, as a window is."""
+        if self.spare:
+            spare, self.spare = self.spare, None
+            self.windows[spare.number] = KeptWindow(spare.number, spare, lambda number, why: None)
+            self.end(self.windows[spare.number], is_meant=True)
 
     def folder_beside(self, number: int) -> str:
         """Where the first command of a window begins: where the program in front in the pane in focus of another is."""
@@ -130,6 +189,7 @@ class Windows:
 
     def in_front(self) -> dict[int, str]:
         """What runs in front in the windows' panes in focus, as far as that was looked up, which it is from now on."""
+        self.await_spare()
         for window in self.windows.values():
             if window.shells:
                 window.shells.look_at_fronts()
@@ -156,7 +216,7 @@ class Windows:
         for number in numbers_in(self.folder):
             processes = WindowProcesses(self.asked.common, number)
             processes.find()
-            if not processes.runs(SERVER):
+            if not processes.runs(SERVER) or processes.is_spare():
                 processes.end(signal.SIGKILL)
                 processes.clean()
                 continue
@@ -173,7 +233,8 @@ class Windows:
         """Begins a window with its server."""
         try:
             window.processes.make_folder()
-            self.common.hung.append(window.processes.spawn_server())
+            if not window.processes.runs(SERVER):
+                self.common.hung.append(window.processes.spawn_server())
         except (OSError, Fault) as fault:
             self.fail(window, reason(fault))
             return
@@ -255,6 +316,7 @@ class Windows:
             self.loop.later(f"window {window.number} has its size", OPENS, window.shells.await_no_more)
         self.lines.tell_window(window.number)
         window.told(window.number, "")
+        self.await_spare()
 
     def fail(self, window: KeptWindow, why: str) -> None:
         """Leaves nothing of a window that can't be there, and tells why."""
@@ -300,6 +362,7 @@ class Windows:
 
     def end_all(self) -> None:
         """Ends all windows, and waits for that, no longer than they have."""
+        self.end_spare()
         for window in [one for one in self.windows.values() if one.state != ENDING]:
             self.end(window, is_meant=True)
         end = self.loop.clock() + 1.5 * ENDS

@@ -267,10 +267,10 @@ def paste_words(folder):
     check("and the focus is where it was", outer.status(" 1 [2]"), outer.rows)
     told = said("capture", "other.1")
     check("mux capture NAME.1 prints that pane", told[0] == 0 and told[1].split("\n")[0] == "ready" and "\u2502" not in told[1], told)
-    check("a pane that isn't there is told of", fed(["paste", "other.7"], b"x") == (1, "mux: session other:1 has no pane 7\n"), said("ls"))
+    check("a pane that isn't there is told of", fed(["paste", "other.7"], b"x") == (1, "mux: session other has no pane 7\n"), said("ls"))
     check("nothing to be pasted too", fed(["paste", "other"], b"\0") == (1, "mux: there is nothing to be typed\n"), said("ls"))
     told = said("kill", "other.1")
-    is_refused = told[0] == 1 and "runs cat in pane 1; `mux kill -f other:1.1`" in told[2]
+    is_refused = told[0] == 1 and "runs cat in pane 1; `mux kill -f other.1`" in told[2]
     check("mux kill NAME.P asks where something else than a shell runs", is_refused, told)
     check("and closes it by -f", said("kill", "-f", "other.1") == (0, "", "") and outer.status("[2]"), outer.rows)
     told = said("kill", "-f", "other.2")

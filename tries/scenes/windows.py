@@ -5,8 +5,10 @@ import os
 import pathlib
 import random
 import signal
+import subprocess
 
-from tried import SESSION, Outer, check, comes, noted, scene, tool
+from tried import SESSION, Outer, check, comes, noted, said, scene, tool
+from scenes.machines import ssh_words
 
 # So many switches, with keys before and behind each in one piece; and the seed of which.
 SWITCHES = 200
@@ -57,16 +59,16 @@ class Person:
         return f"\x1b[200~{self.types(text)}\x1b[201~"
 
 
-@scene
-def window_switches(folder):
-    """Two hundred switches with keys, and pastes, typed in one piece round each: none is lost, and none goes to another window."""
+def switched(folder, words, count):
+    """Switches with keys, and pastes, typed in one piece round each, at a terminal with a tool on it: none is lost, and none goes to another
+    window. Tells the terminal."""
     paths = {window: folder / f"window{window}" for window in (1, 2, 3)}
-    outer, chance = Outer(tool("mux", SESSION)), random.Random(SEED)
+    outer, chance = Outer(words), random.Random(SEED)
     check("a session has a window", outer.status("[1] 1:"), outer.rows)
     for window, path in paths.items():
         opened(outer, window, path)
     person = Person(list(paths))
-    for number in range(SWITCHES):
+    for number in range(count):
         pieces = [person.types(f"<{number}a>"), person.switch(chance), person.types(f"<{number}b>")]
         for _ in range(chance.randrange(3)):
             pieces += [person.switch(chance), person.types(f"<{number}c>")]
@@ -78,6 +80,25 @@ def window_switches(folder):
         check(f"window {window} has all that was typed there, in order, and nothing else", comes(lambda: typed_in(path) == wanted, 60),
               lambda: differs(typed_in(path), wanted))
     check("the last row has the windows", outer.stands(23, 0, "[1] 1:"), outer.rows)
+    return outer
+
+
+@scene
+def window_switches(folder):
+    """Two hundred switches in a session of this machine."""
+    switched(folder, tool("mux", SESSION), SWITCHES)
+
+
+@scene
+def window_switches_far(folder):
+    """As many in one of another machine, over its relays."""
+    outer = switched(folder, ssh_words(folder, folder / "far", folder / "asked"), SWITCHES)
+    outer.type(b"\x02d")
+    check("a front end leaves", outer.ends() and outer.is_restored(), outer.rows)
+    for name in [path.name for path in pathlib.Path(os.environ["XDG_RUNTIME_DIR"], "roam").glob("ssh:*")]:
+        said("kill", "-f", name)
+    there = {**os.environ, "XDG_RUNTIME_DIR": str(folder / "far")}
+    subprocess.run(tool("mux", "kill", "-f", "other"), env=there, stdout=subprocess.DEVNULL, stderr=subprocess.DEVNULL, check=False)
 
 
 def window_process(window, role):

@@ -49,22 +49,30 @@ def acts(*words):
     link.close()
 
 
+def settled():
+    """Where the panes are once that has stood for a moment: what was taken last is told a little later."""
+    before, after = None, there()
+    while after != before:
+        time.sleep(0.05)
+        before, after = after, there()
+    return after
+
+
 def tree(chance):
     """Has the session have a tree of panes by chance, whose programs have written all that they will; where they are."""
-    places = there()
+    places = settled()
     acts(*[act for pane in list(places.rects)[1:] for act in (f"focus {pane}", "close")])
     comes(lambda: len(there().rects) == 1)
     count = chance.randint(FEWEST, MOST_PANES)
-    for _ in range(30):
-        panes = list(there().rects)
-        if len(panes) < count:
-            acts(f"focus {chance.choice(panes)}", chance.choice(("split right", "split down")), f"grow {chance.randint(-6, 6)}")
-    focus = chance.choice(list(there().rects))
-    # What was taken last is told a moment later.
+    for _ in range(20):
+        panes = list(settled().rects)
+        if len(panes) == count:
+            break
+        acts(f"focus {chance.choice(panes)}", chance.choice(("split right", "split down")), f"grow {chance.randint(-6, 6)}")
+    focus = chance.choice(list(settled().rects))
     acts(f"focus {focus}")
-    time.sleep(0.2)
     comes(lambda: there().focus == focus)
-    return there()
+    return settled()
 
 
 def session_cells():

@@ -17,6 +17,7 @@ LINES = "reads lines of a socket of the session's folder"
 NAMES = "reads names of sessions and hosts"
 NAMED = "is what a key of a name types, and reads nothing"
 SETTINGS = "reads what a person's settings file has stand in the last row"
+KEY_NAMES = "is what a key is typed as that is named, and reads nothing"
 WORDS = "reads what a program of this machine says"
 RELAY = "reads what the other end of a relay says"
 LENT = "reads the SGR before characters of a row that the keeper lends; what is written is made anew"
@@ -60,11 +61,15 @@ KNOWN = {
     ("roam_live/display.py", "Display.line_text", "ESC"): WRITES,
     ("roam_live/display.py", "Display.put_line", "ESC"): WRITES,
     ("roam_live/display.py", "Display.take_painting", "RESET"): BEGIN,
+    ("roam_live/far_windows.py", "LED", "re"): LINES,
+    ("roam_live/far_windows.py", "TOLD", "re"): LINES,
+    ("roam_live/key_names.py", "BACK_TAB", "ESC"): KEY_NAMES,
+    ("roam_live/key_names.py", "CHARACTERS", "ESC"): KEY_NAMES,
+    ("roam_live/key_names.py", "DIGITS", "ESC"): KEY_NAMES,
+    ("roam_live/key_names.py", "text_of", "ESC"): KEY_NAMES,
     ("roam_live/keypads.py", "ASKED", "re"): PROGRAM,
     ("roam_live/keypads.py", "ASKED", "ESC"): PROGRAM,
     ("roam_live/keypads.py", "Keypad.fed", "ESC"): PROGRAM,
-    ("roam_live/far_windows.py", "LED", "re"): LINES,
-    ("roam_live/far_windows.py", "TOLD", "re"): LINES,
     ("roam_live/keys.py", "", "ESC"): "reads what a person types, and is typed round a paste",
     ("roam_live/keys.py", "BEGUN", "re"): TYPED,
     ("roam_live/keys.py", "BEGUN", "ESC"): TYPED,

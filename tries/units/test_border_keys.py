@@ -116,6 +116,17 @@ class Moves(Attached):
         self.assertEqual((session.rects()[1].cols, session.focus), (37, 2))
         self.assertEqual({line for line in self.heard if "grow" not in line}, set())
 
+    def test_at_once(self):
+        """Behind a key that moves the focus it is the border of the pane that comes into focus, once it is told which that is."""
+        session = Lived()
+        for act in ("split right", "split right", "focus 1"):
+            session.do(act)
+        self.attach(session)
+        before = session.rects()[3]
+        self.types(b"\x02o\x02o" + KEYS["left"])
+        self.take(6)
+        self.assertEqual((session.rects()[3].col, session.focus), (before.col - 1, 3))
+
     def test_limits(self):
         """It goes no further than the panes have room; that is told."""
         session = Lived()

@@ -250,6 +250,75 @@ class Opened(Played):
                 self.windows.run()
 
 
+class Ready(Played):
+    """The server that stands ready for the next window."""
+
+    def spare(self):
+        """Has one stand ready, since somebody asked for windows."""
+        self.opened()
+        one = self.asker(1)
+        self.now += windows.READY
+        self.turns(2)
+        return one
+
+    def test_taken(self):
+        """It is spawned once somebody asks for windows, is told nowhere, and has no start; the next window has it, and another follows."""
+        self.opened()
+        self.now += windows.READY
+        self.turns(2)
+        self.assertEqual(self.spawned, [(1, SERVER)])
+        one = self.asker(1)
+        self.now += windows.READY
+        self.turns(2)
+        self.assertEqual((self.spawned[1:], self.path(2, "spare").exists(), self.windows.named()), ([(2, SERVER)], True, {1: ""}))
+        self.assertEqual(read_now(one), b"window 1 -\nwindows 1\n")
+        told = []
+        self.windows.open((24, 80), 1, lambda *words: told.append(words))
+        self.comes_up(2)
+        self.assertEqual((told, self.spawned[2:], self.path(2, "spare").exists()), ([(2, "")], [(2, TERMINALS)], False))
+        self.now += windows.READY
+        self.turns(2)
+        self.assertEqual(self.spawned[3:], [(3, SERVER)])
+
+    def test_broken(self):
+        """One that has ended, or whose files a cleaner had, isn't used."""
+        self.spare()
+        told = []
+        self.now += OPENS
+        self.windows.open((24, 80), 1, lambda *words: told.append(words))
+        self.assertEqual((self.killed, self.spawned[2:]), ([(2000, signal.SIGKILL)], [(2, SERVER)]))
+        self.comes_up(2)
+        self.assertEqual(told, [(2, "")])
+        self.now += windows.READY
+        self.turns(2)
+        self.alive.discard(3000)
+        self.windows.await_spare()
+        self.now += windows.READY
+        self.turns(2)
+        self.assertEqual(self.spawned[-2:], [(3, SERVER), (3, SERVER)])
+
+    def test_smaller(self):
+        """A number that is free below it goes first, and has none."""
+        self.spare()
+        self.assertIsNone(self.windows.taken_spare(1))
+        self.assertEqual((self.windows.spare.number, self.windows.free_number()), (2, 2))
+
+    def test_ended(self):
+        """It ends with the session, and the next keeper takes none over."""
+        self.spare()
+        self.windows.end_spare()
+        self.turns(3)
+        self.assertEqual((self.killed[0], self.alive, numbers_in(str(self.folder / "w"))), ((2000, signal.SIGTERM), {1000}, [1]))
+        other = WindowProcesses(str(self.folder), 6)
+        other.make_folder()
+        other.mark_spare(True)
+        other.noted = {SERVER: (6000, 1)}
+        other.note()
+        self.alive.add(6000)
+        self.windows.take_over()
+        self.assertEqual((self.killed[-1], 6 in self.windows.windows, self.path(6, "").exists()), ((6000, signal.SIGKILL), False, False))
+
+
 class Told(Played):
     """What is said and told at the sockets."""
 

@@ -10,7 +10,7 @@ from roam_live.front_end import FrontEnd
 from roam_live.keys import acts_of_bytes
 from roam_live.program import Fault
 from roam_live.choosing import WINDOWS_LINE
-from roam_live.window_wishes import DROPPED, EARLIER, FAR, LATE, OPENS
+from roam_live.window_wishes import DROPPED, EARLIER, FAR, LATE, NOT_AWAITED, OPENING, OPENS, TAKES_LONG
 from test_display import PlayedPanes, painting, places
 from test_front_end import AnySession
 
@@ -318,10 +318,33 @@ class Opened(Windows):
         self.assertEqual((self.front.number, self.front.display.told), (2, "window 3 is there now"))
 
     def test_given_up(self):
-        """C-c waits for it no longer, and what follows that is typed."""
+        """Once it was told that it takes long C-c waits for it no longer, and what follows that is typed; before that C-c is for it too."""
         self.tell_list()
-        self.type(b"\x02cab\x03d")
-        self.assertEqual((self.typed[1], self.front.windows.is_opening), ("d", False))
+        self.type(b"\x02cab\x03c")
+        self.now += TAKES_LONG
+        self.turn()
+        self.assertEqual((self.front.display.told, self.typed[1]), (OPENING, ""))
+        self.type(b"\x03d")
+        self.assertEqual((self.typed[1], self.front.windows.is_opening, self.front.display.told), ("d", False, NOT_AWAITED + DROPPED))
+        self.type(b"\x02c\x03e")
+        self.add(3)
+        self.tell("window 3 -", "opened 3")
+        self.assertEqual(self.typed, {1: "d", 2: "", 3: "\x03e"})
+
+    def test_half_pasted(self):
+        """Of a paste that was begun for it nothing is typed elsewhere, however late the rest of it comes."""
+        self.tell_list()
+        self.type(b"\x02ca\x1b[200~rm")
+        self.now += OPENS
+        self.turn()
+        self.type(b" -rf x\r")
+        self.type(b"y\r\x1b[201~b")
+        self.assertEqual((self.typed[1], self.front.display.told), ("b", LATE + DROPPED))
+        self.type(b"\x02ca\x1b[200~on")
+        self.add(3)
+        self.tell("window 3 -", "opened 3")
+        self.type(b"e\x1b[201~b")
+        self.assertEqual(self.typed, {1: "b", 2: "", 3: "aoneb"})
 
     def test_keeper_ends(self):
         """So does the end of the keeper."""
@@ -416,6 +439,15 @@ class Told(Windows):
         self.tell("gone 2")
         self.type(b" x\r\x1b[201~y")
         self.assertEqual((self.typed, self.front.display.told), ({1: "y", 2: ""}, "nothing is pasted: its window is gone"))
+        # So is one that was pasted into a line that copy mode asked for.
+        self.add(3)
+        self.tell("window 3 -")
+        self.type(b"\x023")
+        self.front.commands.copying.is_pasting = self.front.commands.keys.is_pasting = True
+        del self.windows[3]
+        self.tell("gone 3")
+        self.type(b"rm\r\x1b[201~z")
+        self.assertEqual(self.typed, {1: "yz", 2: "", 3: ""})
 
     def test_question(self):
         """A question stands until it is answered, also where its window goes, and means nothing for another then."""

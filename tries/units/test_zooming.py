@@ -106,6 +106,26 @@ class Back(Zoomed):
         texts = ["".join(chr(int(act.split()[1], 16)) for act in line.split(" ; ")[1:]) for line in self.heard]
         self.assertEqual(texts, ["\x1b[<0;1;1M", "\x1b[<0;80;23M"])
 
+    def test_at_once(self):
+        """Behind a key that moves the focus the pane that comes into focus is zoomed, once it is told which that is; or that in focus,
+        where nothing is told."""
+        for keys, pane in ((b"\x02o\x02z", 3), (b"\x02%\x02z", 4), (b"\x02q1\x02z", 1)):
+            self.attach(self.grid())
+            self.types(keys)
+            self.take(6)
+            self.assertTrue(self.is_zoomed(pane), keys)
+        self.attach(self.grid())
+        self.session.split = lambda pane, way: None
+        self.types(b"\x02%\x02z")
+        self.now += zooming.FOCUS_WAIT
+        self.person.loop.do_due()
+        self.take()
+        self.assertTrue(self.is_zoomed(2))
+        self.attach(self.grid())
+        self.person.commands.fed(b"\x02q1\x02z")
+        self.person.commands.told()
+        self.assertTrue(self.person.commands.zooming.is_on())
+
     def test_blank(self):
         """A pane that can't fill the terminal is shown alone all the same."""
         session = Lived(50, 160)
