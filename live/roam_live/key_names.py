@@ -19,8 +19,8 @@ class NamedKey(namedtuple("NamedKey", "held name")):
 
 # Other names of the same keys, in small letters: case doesn't count in a name.
 NAMES = {
-    "insert": "ic", "delete": "dc", "pagedown": "npage", "pgdn": "npage", "pageup": "ppage", "pgup": "ppage", "return": "enter",
-    **{name: name for name in ("ic", "dc", "npage", "ppage", "enter", "escape", "tab", "btab", "space", "bspace", "home", "end", "up", "down",
+    "ic": "insert", "dc": "delete", "npage": "pagedown", "pgdn": "pagedown", "ppage": "pageup", "pgup": "pageup", "return": "enter",
+    **{name: name for name in ("insert", "delete", "pagedown", "pageup", "enter", "escape", "tab", "btab", "space", "bspace", "home", "end", "up", "down",
                                "left", "right", "kpenter", "kp/", "kp*", "kp-", "kp+", "kp.")},
     **{f"kp{digit}": f"kp{digit}" for digit in range(10)},
     **{f"f{number}": f"f{number}" for number in range(1, 21)},
@@ -28,8 +28,8 @@ NAMES = {
 
 # The keys that have an act of their own.
 OWN = {
-    "up": "up", "down": "down", "left": "left", "right": "right", "home": "find", "end": "select", "ic": "insert", "dc": "remove",
-    "ppage": "prev", "npage": "next", "enter": "return", "bspace": "backspace", "kpenter": "padenter", "kp-": "padminus", "kp.": "padperiod",
+    "up": "up", "down": "down", "left": "left", "right": "right", "home": "find", "end": "select", "insert": "insert", "delete": "remove",
+    "pageup": "prev", "pagedown": "next", "enter": "return", "bspace": "backspace", "kpenter": "padenter", "kp-": "padminus", "kp.": "padperiod",
     **{f"kp{digit}": f"pad{digit}" for digit in range(10)},
     **{f"f{number}": f"pf{number}" for number in range(1, 5)},
     **{f"f{number}": f"f{number}" for number in range(6, 21)},
@@ -38,7 +38,7 @@ OWN = {
 # The characters of others, and the sequences of xterm, in which a parameter tells what is held.
 CHARACTERS = {"escape": "\x1b", "tab": "\t", "space": " ", "enter": "\r", "bspace": "\x7f", "kp/": "/", "kp*": "*", "kp+": "+"}
 LETTERS = {"up": "A", "down": "B", "right": "C", "left": "D", "home": "H", "end": "F", "f1": "P", "f2": "Q", "f3": "R", "f4": "S"}
-NUMBERS = {"ic": 2, "dc": 3, "ppage": 5, "npage": 6, "f5": 15, "f6": 17, "f7": 18, "f8": 19, "f9": 20, "f10": 21, "f11": 23, "f12": 24,
+NUMBERS = {"insert": 2, "delete": 3, "pageup": 5, "pagedown": 6, "f5": 15, "f6": 17, "f7": 18, "f8": 19, "f9": 20, "f10": 21, "f11": 23, "f12": 24,
            "f13": 25, "f14": 26, "f15": 28, "f16": 29, "f17": 31, "f18": 32, "f19": 33, "f20": 34}
 BACK_TAB = "\x1b[Z"
 
@@ -101,3 +101,30 @@ def acts_named(word: str) -> list[str]:
         return [f"key {OWN[key.name]}"]
     text = text_of(key)
     return [] if text is None else acts_of(Key("text", text))
+
+
+def named(key: NamedKey) -> str:
+    """The one name by which a key is known here: what is held, and its name in small letters. Of a character with Ctrl case doesn't count."""
+    name = key.name.lower() if key.held & CONTROL else key.name
+    return "".join(f"{letter}-" for letter in "CMS" if key.held & HELD[letter]) + name
+
+
+# What keys are called where they come from a terminal (module keys), and by the names here; and the sequences that have no name there.
+TYPED_NAMES = {own: name for name, own in OWN.items() if name not in ("enter", "bspace")}
+SEQUENCES = {
+    text: named(NamedKey(held, name))
+    for held in range(1, 8) for name in (*LETTERS, *NUMBERS) if (text := text_of(NamedKey(held, name))) is not None
+}
+SEQUENCES.update({BACK_TAB: "S-tab", "\x1b[15~": "f5"})
+CONTROLS = {"\r": "enter", "\t": "tab", "\x1b": "escape", "\x7f": "bspace", " ": "space", "\0": "C-space"}
+
+
+def name_of_key(key: Key) -> str:
+    """The name of a key as it was typed; nothing of one that has none here."""
+    if key.name in TYPED_NAMES:
+        return TYPED_NAMES[key.name]
+    if key.name in CONTROLS:
+        return CONTROLS[key.name]
+    if len(key.name) == 1:
+        return key.name if key.name.isprintable() else f"C-{chr(ord(key.name) | 0x40).lower()}" if key.name < " " else ""
+    return key.name if key.name.startswith("C-") else SEQUENCES.get(key.text, "")

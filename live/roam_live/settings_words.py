@@ -6,6 +6,7 @@ import os
 from collections import namedtuple
 
 from roam_live.choices import CLIPBOARD, GUESSING, MOST_ROWS, PREFIXES
+from roam_live.key_names import named, named_key
 from roam_live.words import printable
 
 TYPE_CHECKING = False
@@ -25,11 +26,6 @@ LONGEST_WORD = 1 << 16
 ESCAPES = {"a": "\a", "b": "\b", "e": "\x1b", "f": "\f", "s": " ", "v": "\v", "r": "\r", "n": "\n", "t": "\t"}
 HEXADECIMAL = "0123456789abcdefABCDEF"
 NAMED = "abcdefghijklmnopqrstuvwxyzABCDEFGHIJKLMNOPQRSTUVWXYZ0123456789_"
-
-# Keys by tmux's names, but those of one character and those with modifiers before them.
-KEY_NAMES = {"space", "enter", "escape", "tab", "btab", "bspace", "up", "down", "left", "right", "home", "end", "insert", "delete",
-             "pageup", "pagedown", *(f"f{number}" for number in range(1, 13))}
-OTHER_NAMES = {"ic": "insert", "dc": "delete", "ppage": "pageup", "pgup": "pageup", "npage": "pagedown", "pgdn": "pagedown"}
 
 
 class BadWord(Exception):
@@ -238,21 +234,11 @@ def joined(text: str) -> tuple[str, list[int], list[int]]:
 
 
 def key_named(name: str) -> str:
-    """A key by tmux's name for it, as it is known here: `C-`, `M-` and `S-` in this order before a character or a name in small letters."""
-    modifiers, rest = set[str](), name
-    while len(rest) > 2 and rest[1] == "-" and rest[0] in "CMScms":
-        modifiers.add(rest[0].upper())
-        rest = rest[2:]
-    if len(rest) == 2 and rest[0] == "^":
-        modifiers.add("C")
-        rest = rest[1]
-    if len(rest) > 1:
-        rest = OTHER_NAMES.get(rest.lower(), rest.lower())
-        if rest not in KEY_NAMES:
-            raise BadWord(f"{name[:40]} is no key that is known here")
-    elif not rest.isprintable() or not rest:
-        raise BadWord(f"{name[:40]!r} is no key")
-    return "".join(f"{one}-" for one in "CMS" if one in modifiers) + (rest.lower() if "C" in modifiers else rest)
+    """A key by tmux's name for it, as it is known here."""
+    key = named_key(name)
+    if not key:
+        raise BadWord(f"{printable(name)[:40]} is no key that is known here")
+    return named(key)
 
 
 # ---- options

@@ -15,7 +15,6 @@ WRITES = "writes to the person's terminal, and reads nothing"
 PROGRAM = "reads what a pane's program writes, at the keeper of shells"
 LINES = "reads lines of a socket of the session's folder"
 NAMES = "reads names of sessions and hosts"
-NAMED = "is what a key of a name types, and reads nothing"
 SETTINGS = "reads what a person's settings file has stand in the last row"
 KEY_NAMES = "is what a key is typed as that is named, and reads nothing"
 WORDS = "reads what a program of this machine says"
@@ -97,7 +96,6 @@ KNOWN = {
     ("roam_live/sending.py", "demand_acts", "re"): WORDS,
     ("roam_live/sessions.py", "NAME", "re"): NAMES,
     ("roam_live/sessions.py", "NEAR_NAME", "re"): NAMES,
-    **{("roam_live/key_names.py", name, "ESC"): NAMED for name in ("BACK_TAB", "CHARACTERS", "DIGITS", "text_of")},
     **{("roam_live/status_formats.py", name, "re"): SETTINGS for name in ("HEXADECIMAL", "NUMBERED", "PIECE", "restyled")},
     ("roam_live/settings_words.py", "ESCAPES", "ESC"): "is what an escape of a person's settings file stands for, and reads nothing",
     ("roam_live/terminal.py", "CLEARED", "ESC"): WRITES,
