@@ -2,6 +2,7 @@
 from __future__ import annotations
 
 from roam_live.choices import PREFIX, PREFIXES
+from roam_live.key_names import name_of_key
 from roam_live.keys import Key, acts_of
 
 TYPE_CHECKING = False
@@ -12,14 +13,20 @@ if TYPE_CHECKING:
     Asked = tuple[list[str], str]
     Mode = Callable[[Key, float, int], Asked]
 
+    from roam_live.settings import Binding
+
 # Keys after the prefix that are acts, and those that are wishes. An arrow is the wish to have the pane there in focus.
 BINDINGS = {"o": "next"}
 WISHES = {"%": "split right", '"': "split down", "x": "close", "d": "detach", "r": "repaint", "?": "help", "up": "up", "down": "down",
           "left": "left", "right": "right", "\x1a": "suspend", "m": "mouse", "[": "copy", "prev": "copy page", "/": "copy search",
           "]": "paste", "=": "choose", "z": "zoom", " ": "even", ";": "last", "c": "window new", "w": "window list", ",": "window name",
           "&": "window shut", "n": "go next", "p": "go previous", "l": "go last", "'": "go asked",
-          **{str(digit): f"go {digit or 10}" for digit in range(10)}, "q": "panes", "t": "row", "D": "leave others", "R": "settings"}
+          **{str(digit): f"go {digit or 10}" for digit in range(10)}, "q": "panes", "t": "row", "D": "leave others", "R": "settings",
+          ":": "command line"}
 BORDERS = {"C-right": "border right", "C-down": "border down", "C-left": "border left", "C-up": "border up"}
+
+# What a wish begins with that is a key's of a person's own: its table and its name stand behind.
+OWN = "own"
 
 # For so many seconds after a border was moved the next move needs no prefix; and for so many after C-b q a digit is a pane's.
 REPEATS = 0.5
@@ -56,7 +63,7 @@ C-b and then:
   r        size the session to this terminal, which cuts what is wider where
            that is smaller, and paint all anew
   t Space  hide the last row, or show it; even shares for all panes
-  ? R      these keys, until the next key; read roam.conf anew
+  ? R :    these keys, until the next key; read roam.conf; a command
   C-b      C-b itself"""
 
 
@@ -79,6 +86,8 @@ class Typing:
         self.prefix = PREFIXES[prefix]
         self.mode: Mode = self.plain
         self.repeats_until = self.picks_until = 0.0
+        # The keys that a person has bound, by their table and name; those that mean nothing, and whether all of a table are so else.
+        self.own: dict[tuple[str, str], Binding | None] = {}
         # How many rows the pane in focus was scrolled back.
         self.view = 0
 
@@ -90,6 +99,28 @@ class Typing:
         """The answer to what was asked: y, or any other key; a paste is none, and nothing else."""
         self.mode = self.pasting if key.name == "paste" else self.plain
         return [], "yes" if key.name in ("y", "Y") else "no"
+
+    def own_wish(self, table: str, key: Key, now: float) -> str | None:
+        """What a person's own binding of a key asks for, nothing where it is bound to nothing; None where there is none."""
+        if not self.own:
+            return None
+        name = name_of_key(key)
+        place = (table, name) if (table, name) in self.own else (table, "all")
+        if not name or place not in self.own:
+            return None
+        binding = self.own[place]
+        if binding and binding.repeats and table == "prefix":
+            self.repeats_until = now + REPEATS
+        return f"{OWN} {table} {name}" if binding else ""
+
+    def repeats_own(self, key: Key, now: float) -> bool:
+        """Whether a key of a person's own needs no prefix for a moment, since it may be repeated."""
+        binding = self.own.get(("prefix", name_of_key(key))) if self.own and self.repeats(now) else None
+        return binding is not None and binding.repeats
+
+    def pick(self, now: float) -> None:
+        """Has a digit be a pane's."""
+        self.mode, self.picks_until = self.picking, now + PICKS
 
     def is_typing(self) -> bool:
         """Whether what a person does goes to the pane in focus, but for the key behind a prefix, or a digit that is a pane's."""
@@ -146,9 +177,10 @@ class Typing:
         if key.name == self.prefix:
             self.mode = self.prefixed
             return [], ""
-        if key.name in BORDERS and self.repeats(now):
+        if key.name in BORDERS and self.repeats(now) or self.repeats_own(key, now):
             return self.prefixed(key, now, rows)
-        return acts_of(key), ""
+        wish = self.own_wish("root", key, now)
+        return (acts_of(key), "") if wish is None else ([], wish)
 
     def pasting(self, key: Key, now: float, rows: int) -> Asked:
         """What is pasted means nothing else, and is kept until its end."""
@@ -161,6 +193,9 @@ class Typing:
         self.mode = self.plain
         if key.name == "paste":
             return self.plain(key, now, rows)
+        own = self.own_wish("prefix", key, now)
+        if own is not None:
+            return [], own or "unknown"
         if key.name == self.prefix:
             return acts_of(key), ""
         if key.name in BORDERS:
@@ -170,7 +205,7 @@ class Typing:
             return [BINDINGS[key.name]], ""
         wish = WISHES.get(key.name, "unknown")
         if wish == "panes":
-            self.mode, self.picks_until = self.picking, now + PICKS
+            self.pick(now)
         return [], wish
 
     def scrolling(self, key: Key, now: float, rows: int) -> Asked:

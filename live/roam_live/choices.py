@@ -1,5 +1,5 @@
-"""What a person chooses by the environment, and else by a settings file: the prefix, when guesses are shown, whether roam has the mouse, who
-sets the clipboard, how many rows are kept of a pane, and more; and whether UDP is tried between machines."""
+"""What a person chooses by the environment, and else by a settings file: the prefix, when guesses are shown, whether roam has the mouse,
+who sets the clipboard, how many rows are kept of a pane, and more; and whether UDP is tried between machines."""
 from __future__ import annotations
 
 import os
@@ -25,7 +25,7 @@ DEFAULT_ROWS, MOST_ROWS = 10_000, 1_000_000
 # What is chosen by a settings file, as options by their names; what the environment chooses goes before it.
 BY_FILE: dict[str, str | int] = {}
 
-# How many milliseconds an escape waits for more, and how many seconds lie between two looks at what the status row says, where nobody chose.
+# How many milliseconds an escape waits for more, and how many seconds lie between two looks at a clock of the last row, where nobody chose.
 ESCAPE_TIME = 25
 STATUS_INTERVAL = 15
 
@@ -95,8 +95,8 @@ def may_set_clipboard() -> bool:
 
 
 def wants_vi() -> bool:
-    """Whether the keys of copy mode are vi's: by the option `mode-keys`, else where the name of the program of VISUAL, else of EDITOR, holds
-    `vi`, as tmux has it."""
+    """Whether the keys of copy mode are vi's: by the option `mode-keys`, else where the name of the program of VISUAL, else of EDITOR,
+    holds `vi`, as tmux has it."""
     by_program = "vi" in os.path.basename(os.environ.get("VISUAL") or os.environ.get("EDITOR") or "")
     return BY_FILE["mode-keys"] == "vi" if "mode-keys" in BY_FILE else by_program
 
@@ -107,8 +107,8 @@ def follows_latest() -> bool:
 
 
 def chosen_history() -> int:
-    """How many rows that left its screen are kept of a pane: as the environment's ROAM_HISTORY says, or the option `history-limit`, where one
-    is there."""
+    """How many rows that left its screen are kept of a pane: as the environment's ROAM_HISTORY says, or the option `history-limit`, where
+    one is there."""
     word = word_of("ROAM_HISTORY", "history-limit", str(DEFAULT_ROWS))
     if not (word.isascii() and word.isdigit() and len(word) <= len(str(MOST_ROWS)) and int(word) <= MOST_ROWS):
         raise Fault(f"ROAM_HISTORY is {word[:40]!r}, and may be 0 to {MOST_ROWS}")

@@ -7,7 +7,7 @@ import time
 from collections.abc import Callable
 
 from roam_live import terminal
-from roam_live.bindings import NEWEST, PICKS, Typing, help_with, spelled
+from roam_live.bindings import NEWEST, OWN, PICKS, Typing, help_with, spelled
 from roam_live.border_keys import BorderKeys
 from roam_live.choices import ESCAPE_TIME, follows_latest, number_of
 from roam_live.choosing import Choosing, ChoosingWindow
@@ -117,14 +117,15 @@ class Commands:
         # then.
         self.moved_to: int | None = None
         self.moved_from: Places | None = None
-        # What reads the settings file anew.
-        self.reads_settings: Callable[[], object] = lambda: None
+        # What does the commands of a person's own keys, and asks for one.
+        self.runs: Callable[[str], object] = lambda wish: None
         # The making of the pane to which this person's last key went, where that is known.
         self.typed_in = ""
 
     def choose(self, prefix: str) -> None:
         """Makes the key of a name the prefix."""
-        self.prefix, self.typing, self.help = prefix, Typing(prefix), help_with(prefix)
+        own, self.prefix, self.typing, self.help = self.typing.own, prefix, Typing(prefix), help_with(prefix)
+        self.typing.own = own
         self.display.fits_line = "" if self.link.watches else f"{prefix} r fits"
         self.display.leaves_line = f"{prefix} d leaves"
 
@@ -357,8 +358,8 @@ class Commands:
             self.switch_row()
         elif wish == "line":
             self.prompts.type(key)
-        elif wish == "settings":
-            self.reads_settings()
+        elif wish.startswith((OWN, "command line", "settings")):
+            self.runs(wish)
         elif wish.startswith((GOES, WINDOW)):
             if self.windows:
                 self.windows.grant(wish)

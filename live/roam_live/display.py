@@ -468,8 +468,8 @@ class Display:
         return f"{self.labels.rstrip()} {ZOOMED}" if self.zoomed and self.labels else self.labels
 
     def labels_line(self, width: int) -> str:
-        """The labels of the panes and of the windows, between what a settings file has stand at both ends; at the right one stands which key
-        fits the session to this terminal, where it isn't all shown."""
+        """The labels of the panes and of the windows, between what a settings file has stand at both ends; at the right one stands which
+        key fits the session to this terminal, where it isn't all shown."""
         left, right = self.status() if self.status else ([], [])
         left, right = clipped(left, width // 3), clipped(right, width // 2 if self.shows_all() else 0)
         room = width - columns(said(left)) - columns(said(right))

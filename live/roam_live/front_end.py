@@ -8,8 +8,11 @@ from collections.abc import Callable
 
 from roam_live.bells import BellFollower
 from roam_live.bindings import NEWEST
+from roam_live.bindings import OWN as KEY
 from roam_live.brought import brings_to
 from roam_live.choices import chosen_guessing, chosen_prefix, sets_clipboard, text_of, wants_mouse
+from roam_live.command_runner import CommandRunner
+from roam_live.command_table import Asked
 from roam_live.commands import Commands
 from roam_live.display import NO_SIZE, Display
 from roam_live.following import AWAITED, PanesFollower
@@ -77,11 +80,13 @@ class FrontEnd:
         self.watch_server(server)
         self.visit.shells.brings = brings_to(session, watches)
         self.windows = WindowWishes(self, self.loop)
-        self.status_row = StatusRow(self, self.loop)
+        self.status_row, self.runner = StatusRow(self, self.loop), CommandRunner(self, self.loop)
         self.commands.has_windows(self.windows)
         self.commands.choose(prefix)
         self.commands.pointing.is_on = has_mouse
-        self.display.is_row_hidden = text_of("status") == "off"
+        self.row = text_of("status")
+        self.display.is_row_hidden = self.row == "off"
+        self.commands.typing.own = OWN.found.bindings if OWN.found else {}
         self.windows.begin()
         self.join()
 
@@ -157,15 +162,35 @@ class FrontEnd:
         shells = ShellsLink(session.folder, loop, display.outer.size, self.watches, lambda: commands.others_told())
         shells.leaves, shells.others_left = lambda: self.leave(DETACHED), lambda count: self.commands.others_left(count)
         commands = Commands(session, panes, link, display, loop, self.leave, self.is_new, self.is_whole, shells)
-        commands.reads_settings = self.read_settings
+        commands.runs = self.run_wish
         return Visit(session, link, Keeper(session, link, panes.is_full), panes, shells, self.heard_bells(session), commands)
 
     # ---- settings
 
     def read_settings(self) -> None:
         """Goes by the settings file as it is now."""
-        status = text_of("status")
         OWN.read()
+        self.go_by_settings(READ)
+        self.run_file()
+
+    def run_wish(self, wish: str) -> None:
+        """Does what a key of a person's own asks for, or what a command line is for."""
+        word, _, rest = wish.partition(" ")
+        if word != KEY:
+            self.runner.do(Asked([], wish, ""))
+            return
+        table, _, name = rest.partition(" ")
+        binding = self.commands.typing.own.get((table, name))
+        if binding:
+            self.runner.run_all(binding.commands)
+
+    def run_file(self) -> None:
+        """Runs what the settings file has the shell run."""
+        self.runner.run_all([["run-shell", command] for command in OWN.found.runs] if OWN.found else [])
+
+    def go_by_settings(self, otherwise: str = "") -> None:
+        """Goes by the settings as they are now."""
+        self.commands.typing.own = OWN.found.bindings if OWN.found else {}
         try:
             prefix, self.guessing = chosen_prefix(), chosen_guessing()
             self.commands.pointing.is_on = wants_mouse()
@@ -177,10 +202,11 @@ class FrontEnd:
             self.commands.choose(prefix)
         for visit in (self.visit, *self.parting.visits.values()):
             visit.link.guess(self.guessing)
-        if text_of("status") != status and self.display.is_row_hidden != (text_of("status") == "off"):
+        row, self.row = self.row, text_of("status")
+        if self.row != row and self.display.is_row_hidden != (self.row == "off"):
             self.commands.switch_row()
         self.commands.show_aside()
-        self.tell_settings(READ)
+        self.tell_settings(otherwise)
 
     def tell_settings(self, otherwise: str = "") -> None:
         """Has the last row go by the settings, and tells what of them isn't done here."""
@@ -406,6 +432,7 @@ class FrontEnd:
             self.display.outer.enter()
             self.ask_colours()
             self.tell_settings()
+            self.run_file()
             self.connect()
             if self.visit.server is None:
                 self.loop.later("probe", PROBES, self.probe)

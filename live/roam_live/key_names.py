@@ -20,8 +20,8 @@ class NamedKey(namedtuple("NamedKey", "held name")):
 # Other names of the same keys, in small letters: case doesn't count in a name.
 NAMES = {
     "ic": "insert", "dc": "delete", "npage": "pagedown", "pgdn": "pagedown", "ppage": "pageup", "pgup": "pageup", "return": "enter",
-    **{name: name for name in ("insert", "delete", "pagedown", "pageup", "enter", "escape", "tab", "btab", "space", "bspace", "home", "end", "up", "down",
-                               "left", "right", "kpenter", "kp/", "kp*", "kp-", "kp+", "kp.")},
+    **{name: name for name in ("insert", "delete", "pagedown", "pageup", "enter", "escape", "tab", "btab", "space", "bspace", "home", "end",
+                               "up", "down", "left", "right", "kpenter", "kp/", "kp*", "kp-", "kp+", "kp.")},
     **{f"kp{digit}": f"kp{digit}" for digit in range(10)},
     **{f"f{number}": f"f{number}" for number in range(1, 21)},
 }
@@ -29,7 +29,8 @@ NAMES = {
 # The keys that have an act of their own.
 OWN = {
     "up": "up", "down": "down", "left": "left", "right": "right", "home": "find", "end": "select", "insert": "insert", "delete": "remove",
-    "pageup": "prev", "pagedown": "next", "enter": "return", "bspace": "backspace", "kpenter": "padenter", "kp-": "padminus", "kp.": "padperiod",
+    "pageup": "prev", "pagedown": "next", "enter": "return", "bspace": "backspace", "kpenter": "padenter", "kp-": "padminus",
+    "kp.": "padperiod",
     **{f"kp{digit}": f"pad{digit}" for digit in range(10)},
     **{f"f{number}": f"pf{number}" for number in range(1, 5)},
     **{f"f{number}": f"f{number}" for number in range(6, 21)},
@@ -38,8 +39,8 @@ OWN = {
 # The characters of others, and the sequences of xterm, in which a parameter tells what is held.
 CHARACTERS = {"escape": "\x1b", "tab": "\t", "space": " ", "enter": "\r", "bspace": "\x7f", "kp/": "/", "kp*": "*", "kp+": "+"}
 LETTERS = {"up": "A", "down": "B", "right": "C", "left": "D", "home": "H", "end": "F", "f1": "P", "f2": "Q", "f3": "R", "f4": "S"}
-NUMBERS = {"insert": 2, "delete": 3, "pageup": 5, "pagedown": 6, "f5": 15, "f6": 17, "f7": 18, "f8": 19, "f9": 20, "f10": 21, "f11": 23, "f12": 24,
-           "f13": 25, "f14": 26, "f15": 28, "f16": 29, "f17": 31, "f18": 32, "f19": 33, "f20": 34}
+NUMBERS = {"insert": 2, "delete": 3, "pageup": 5, "pagedown": 6, "f5": 15, "f6": 17, "f7": 18, "f8": 19, "f9": 20, "f10": 21, "f11": 23,
+           "f12": 24, "f13": 25, "f14": 26, "f15": 28, "f16": 29, "f17": 31, "f18": 32, "f19": 33, "f20": 34}
 BACK_TAB = "\x1b[Z"
 
 # The digits that type controls with Ctrl, as on a VT220 (its keyboard's table of control codes).
@@ -104,7 +105,8 @@ def acts_named(word: str) -> list[str]:
 
 
 def named(key: NamedKey) -> str:
-    """The one name by which a key is known here: what is held, and its name in small letters. Of a character with Ctrl case doesn't count."""
+    """The one name by which a key is known here: what is held, and its name in small letters. With Ctrl a character's case doesn't
+    count."""
     name = key.name.lower() if key.held & CONTROL else key.name
     return "".join(f"{letter}-" for letter in "CMS" if key.held & HELD[letter]) + name
 

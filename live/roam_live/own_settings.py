@@ -4,7 +4,6 @@ from __future__ import annotations
 import os
 
 from roam_live.choices import choose_by_file, text_of
-from roam_live.words import printable
 
 TYPE_CHECKING = False
 if TYPE_CHECKING:
@@ -29,12 +28,29 @@ def read_settings() -> FileSettings | None:
         choose_by_file({})
         return None
     # Who has no such file doesn't wait for these.
+    from roam_live.command_table import BY_NAME
     from roam_live.settings import FileSettings
 
-    found = FileSettings(commands=())
+    found = FileSettings(commands=BY_NAME)
     found.read(path)
+    for (table, key), binding in list(found.bindings.items()):
+        why = next(filter(None, map(refused, binding.commands)), "") if binding else ""
+        if why:
+            found.tell(path, 0, f"{key} isn't bound: {why}")
+            del found.bindings[table, key]
     choose_by_file(found.values)
     return found
+
+
+def refused(words: list[str]) -> str:
+    """Why a command can't be done; nothing where it can."""
+    from roam_live.command_table import BadCommand, asked_by
+
+    try:
+        asked_by(words)
+    except BadCommand as fault:
+        return str(fault)
+    return ""
 
 
 class OwnSettings:
@@ -63,9 +79,7 @@ def default_command() -> list[str]:
 
 def undone(found: FileSettings) -> list[str]:
     """What of a file isn't done, a line each."""
-    runs = [f"run-shell isn't there in roam: {printable(command)[:100]}" for command in found.runs]
-    more = [f"{found.untold} more lines aren't told"] if found.untold else []
-    return [*found.told, *runs, *more]
+    return [*found.told, *([f"{found.untold} more lines aren't told"] if found.untold else [])]
 
 
 def summary(found: FileSettings | None) -> str:

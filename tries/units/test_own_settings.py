@@ -7,7 +7,7 @@ from aids import Case
 from roam_live import choices
 from roam_live.display import Display
 from roam_live.loops import Loop
-from roam_live.own_settings import OWN, default_command, settings_path
+from roam_live.own_settings import OWN, default_command, settings_path, undone
 from roam_live.program import Fault
 from roam_live.status_row import StatusRow
 from roam_live.status_styles import Styled
@@ -75,8 +75,10 @@ class Own(Case):
         """One line that isn't done is told as it is, of several how many there are."""
         self.read("set -g prefix C-a\nfoo bar\n")
         self.assertEqual((OWN.line(), choices.chosen_prefix()), ("roam.conf:2: foo isn't there in roam", "C-a"))
-        self.read("foo\nbind x kill-pane\nrun-shell 'rm -rf /'\n")
+        self.read("foo\nbind x nosuch\nbind y split-window -Q\nbind C-v split-window -h\n")
         self.assertEqual(OWN.line(), "3 lines of roam.conf aren't done here, which `mux settings` prints")
+        self.assertEqual(undone(OWN.found)[2], "roam.conf: y isn't bound: split-window: it has no -Q here")
+        self.assertEqual(list(OWN.found.bindings), [("prefix", "C-v")])
         self.read("display 'good morning'\n")
         self.assertEqual(OWN.line(), "good morning")
 

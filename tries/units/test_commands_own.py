@@ -1,0 +1,151 @@
+"""Commands in tmux's words, keys that a person has bound, and the command line."""
+import unittest
+from collections import deque
+from unittest import mock
+
+from aids import Case
+from roam_live.bindings import BINDINGS, BORDERS, WISHES, Typing
+from roam_live.command_runner import CommandLine, CommandRunner
+from roam_live.command_table import BY_NAME, TABLE, BadCommand, asked_by, completed
+from roam_live.key_names import name_of_key
+from roam_live.keys import Keys
+from roam_live.loops import Loop
+from roam_live.settings import Binding
+
+# The command that each key behind the prefix stands for, as tmux has it; roam's own have a name of roam's.
+DEFAULTS = {
+    "%": "split-window -h", '"': "split-window -v", "x": "kill-pane", "d": "detach-client", "D": "detach-client -a", "r": "refresh-client",
+    "?": "list-keys", "up": "select-pane -U", "down": "select-pane -D", "left": "select-pane -L", "right": "select-pane -R",
+    "\x1a": "suspend-client", "m": "toggle-mouse", "[": "copy-mode", "prev": "copy-mode -u", "]": "paste-buffer", "=": "choose-buffer",
+    "z": "resize-pane -Z", " ": "next-layout", ";": "last-pane", "c": "new-window", "w": "choose-window", ",": "rename-window",
+    "&": "kill-window", "n": "next-window", "p": "previous-window", "l": "last-window", "q": "display-panes", "t": "toggle-status",
+    "'": "select-window", "R": "source-file", ":": "command-prompt", "C-up": "resize-pane -U", "C-down": "resize-pane -D", "C-left": "resize-pane -L",
+    "C-right": "resize-pane -R", **{str(number % 10): f"select-window -t {number}" for number in range(1, 11)},
+}
+
+# Words, and what they ask for: acts, a wish, and a text.
+ASKED = (
+    ("splitw -h", [], "split right", ""), ("splitw", [], "split down", ""), ("split-window -v -c /tmp", [], "split down", ""),
+    ("select-pane -t 3", ["focus 3"], "", ""), ("select-pane -t :.+", ["next"], "", ""), ("selectp -t :.2", ["focus 2"], "", ""),
+    ("selectw -t :3", [], "go 3", ""), ("select-window -t +", [], "go next", ""), ("select-window -n", [], "go next", ""),
+    ("resizep -L 5", [], "border left", "5"), ("resizep -D", [], "border down", "1"), ("selectl even-horizontal", [], "even", ""),
+    ("send-keys ls Enter", ["char 6c", "char 73", "key return"], "", ""), ("send C-c", ["char 3"], "", ""), ("send -l Up", ["char 55", "char 70"], "", ""),
+    ("display hello there", [], "tell", "hello there"), ("run -b ls", [], "run", "ls"), ("renamew", [], "window name", ""),
+    ("rename-window my own", [], "window name", "my own"), ("send-prefix", [], "prefix", ""),
+)
+WRONG = (("nosuch", "nosuch is no command of roam"), ("splitw -Q", "splitw: it has no -Q here"), ("selectw -t 100", "selectw: 100 is no number from 1 to 99"),
+         ("selectp -t 0", "selectp: 0 is no number from 1 to 9"), ("resizep", "resizep: it has -L, -R, -U, -D or -Z"), ("killp x", "killp: it has no word x"),
+         ("display", "display: it has a text behind it"), ("\x1b[2J", "?[2J is no command of roam"))
+
+
+def keys_of(text):
+    """The keys of bytes that a terminal sends."""
+    keys = Keys()
+    return keys.fed(text) + keys.ended()
+
+
+class Table(unittest.TestCase):
+    """The table."""
+
+    def test_asked(self):
+        for words, acts, wish, text in ASKED:
+            self.assertEqual(tuple(asked_by(words.split(" ")))[:3], (acts, wish, text), words)
+
+    def test_wrong(self):
+        for words, why in WRONG:
+            with self.assertRaises(BadCommand) as raised:
+                asked_by(words.split(" "))
+            self.assertEqual(str(raised.exception), why)
+
+    def test_defaults(self):
+        """Each key behind the prefix stands for a command: the one that asks for the same."""
+        wishes = {**WISHES, **BORDERS}
+        self.assertEqual(set(DEFAULTS), set(wishes) - {"/"})
+        for key, words in DEFAULTS.items():
+            self.assertEqual(asked_by(words.split(" ")).wish, wishes[key], key)
+        self.assertEqual((asked_by(["select-pane", "-t", ":.+"]).acts, len(BY_NAME)), ([BINDINGS["o"]], sum(len(one.names) for one in TABLE)))
+
+    def test_names(self):
+        self.assertEqual((completed("ren"), completed("nosuch")), (["rename-window", "renamew"], []))
+
+
+class Bound(unittest.TestCase):
+    """Keys of a person's own."""
+
+    def asked(self, own, text):
+        """What is asked for by what is typed."""
+        typing = Typing()
+        typing.own = own
+        return [typing.asked(key, 1.0, 24) for key in keys_of(text)]
+
+    def test_rebound(self):
+        """Each default key may be bound to another command, and each command to another key."""
+        for key in DEFAULTS:
+            typed = {"up": "\x1b[A", "down": "\x1b[B", "left": "\x1b[D", "right": "\x1b[C", "prev": "\x1b[5~", "C-up": "\x1b[1;5A",
+                     "C-down": "\x1b[1;5B", "C-left": "\x1b[1;5D", "C-right": "\x1b[1;5C"}.get(key, key)
+            name = name_of_key(keys_of(typed.encode())[0])
+            own = {("prefix", name): Binding([["list-keys"]], False)}
+            self.assertEqual(self.asked(own, b"\x02" + typed.encode())[-1], ([], f"own prefix {name}"), key)
+            self.assertEqual(self.asked({("prefix", name): None}, b"\x02" + typed.encode())[-1], ([], "unknown"), key)
+
+    def test_tables(self):
+        """A key of the root table needs no prefix; an unbound table has nothing but what is bound again."""
+        own = {("root", "f5"): Binding([["next-window"]], False), ("prefix", "all"): None, ("prefix", "v"): Binding([["kill-pane"]], True)}
+        self.assertEqual(self.asked(own, b"\x1b[15~a"), [([], "own root f5"), (["char 61"], "")])
+        self.assertEqual([wish for _, wish in self.asked(own, b"\x02d\x02vv\x02\x02")], ["", "unknown", "", "own prefix v", "own prefix v", "", "unknown"])
+        self.assertEqual(self.asked({("root", "C-a"): None}, b"\x01"), [([], "")])
+
+    def test_names(self):
+        for text, name in ((b"\x01", "C-a"), (b"\r", "enter"), (b"\t", "tab"), (b" ", "space"), (b"\x00", "C-space"), (b"\x1b[Z", "S-tab"),
+                           (b"\x1b[1;3D", "M-left"), (b"\x1b[5~", "pageup"), (b"\x1bOP", "f1"), (b"\x1c", "C-\\"), (b"A", "A"),
+                           (b"\x1b[99~", ""), (b"\x7f", "bspace"), (b"\x1b[1;5A", "C-up"), (b"\x1b[3;5~", "C-delete")):
+            self.assertEqual(name_of_key(keys_of(text)[0]), name, text)
+
+
+class Line(Case):
+    """The command line, and what commands do."""
+
+    def setUp(self):
+        self.loop, self.commands = Loop(), mock.Mock()
+        self.runner = CommandRunner(mock.Mock(commands=self.commands, number=2), self.loop)
+
+    def test_edited(self):
+        """Lines before are had by arrows, and names are completed as far as there is one way."""
+        line = CommandLine(deque(["one", "two"]))
+        for name, text in (("up", "two"), ("up", "one"), ("up", "one"), ("down", "two"), ("down", ""), ("n", "n"), ("e", "ne"), ("\t", "ne"),
+                           ("w", "new"), ("\t", "new"), ("-", "new-"), ("\t", "new-window "), ("\x15", ""), ("é", "é"), ("\x7f", "")):
+            line.edit(name)
+            self.assertEqual(line.text, text, name)
+        line.text = "next; ren"
+        line.edit("\t")
+        self.assertEqual((line.text, line.line()), ("next; rename", ":next; rename"))
+
+    def test_done(self):
+        """Commands are done in order, up to one that can't be."""
+        self.runner.typed("splitw -h; send-keys 'a b' ; nosuch; killp")
+        self.assertEqual([one.args[0] for one in self.commands.grant.call_args_list], ["split right"])
+        self.assertEqual([one.args for one in self.commands.act.call_args_list], [("char 61", "char 20", "char 62")])
+        self.commands.display.tell.assert_called_with("nosuch is no command of roam", 4.0)
+        self.assertEqual(list(self.runner.lines), ["splitw -h; send-keys 'a b' ; nosuch; killp"])
+        for wrong in ("splitw 'x", "bind { killp }"):
+            self.runner.typed(wrong)
+        self.assertEqual(len(self.commands.grant.call_args_list), 1)
+
+    def test_shell(self):
+        """The last line of what a shell says is told, printable; nothing waits for it."""
+        self.runner.typed("run 'echo one; printf \"two\\033[2J\"'")
+        while not self.commands.display.tell.called:
+            self.loop.turn()
+        self.commands.display.tell.assert_called_once_with("two?[2J", 4.0)
+        self.runner.runs[0].process.wait()
+        self.assertTrue(self.runner.runs[0].has_ended())
+
+    def test_set(self):
+        """An option is set at this terminal; one that can't be is told."""
+        self.runner.typed("set -g nosuch 1")
+        self.commands.display.tell.assert_called_with("nosuch is no option of roam", 4.0)
+        self.runner.front.go_by_settings.assert_not_called()
+
+
+if __name__ == "__main__":
+    unittest.main()
