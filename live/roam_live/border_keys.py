@@ -29,6 +29,7 @@ NO_ROOM = "this border is as far as it can be"
 STUCK = "shares are even, but at borders with panes on both sides that are split themselves"
 EVEN = "shares are even"
 UNTOLD = "the panes aren't told here"
+NO_FOCUS = "it isn't told yet which pane is in focus"
 
 
 def axis_of(side: str) -> str:
@@ -83,7 +84,10 @@ class BorderKeys:
     def do_waiting(self, is_late: bool = False) -> None:
         """Does what waits, once it is told where the panes are at the session's size, and where the focus is that was moved."""
         places, here = self.commands.panes.places, self.commands.places()
-        is_known = is_late or here is None or here.focus > 0
+        is_known = here is None or here.focus > 0
+        if is_late and self.waiting and not is_known:
+            self.waiting.clear()
+            self.commands.display.tell(NO_FOCUS)
         while self.waiting and is_known and not self.commands.given and (not places or places.is_covered()):
             wish = self.waiting.popleft()
             if wish == "even":
@@ -105,7 +109,6 @@ class BorderKeys:
     def move(self, side: str) -> None:
         """Moves the border on a side of the pane in focus towards that side, or where it has none there the one on the other side."""
         places, way = self.commands.places(), axis_of(side)
-        places = self.commands.panes.places if places and not places.focus else places
         if not places:
             self.commands.display.tell(UNTOLD)
             return

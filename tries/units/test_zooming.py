@@ -312,6 +312,29 @@ class Resized(Zoomed):
         self.assertEqual((self.session.places().size(), self.person.commands.zooming.is_on()), ((24, 80), False))
         self.assertIn("more than this terminal shows", self.person.display.told)
 
+    def test_grown(self):
+        """A session that wasn't all shown grows to a terminal that is larger by now, where nobody else types."""
+        self.attach(self.grid((30, 100)), (24, 80), folder=self.made_folder())
+        self.types(b"\x02z")
+        self.assertTrue(self.is_zoomed(2))
+        self.person.resize(50, 160)
+        self.take(6)
+        self.assertTrue(self.is_zoomed(2))
+        self.types(b"\x02z")
+        self.assertEqual(self.session.places().size(), (50, 160))
+
+    def test_behind_a_size(self):
+        """Behind a key that gives the session another size a pane is zoomed from there, whichever is told first."""
+        self.attach(self.grid((24, 80)), (30, 100), PlayedShells(True))
+        self.person.commands.fed(b"\x02r\x02z")
+        for act in [line for line in self.person.said() if line.startswith("size")]:
+            self.session.do(act)
+            self.person.tell(self.session.places())
+            self.assertTrue(self.person.commands.zooming.is_on(), act)
+        self.assertEqual((self.person.display.zoomed, self.session.rects()[2][2:]), (self.session.rects()[2], (29, 100)))
+        self.types(b"\x02z")
+        self.assertEqual(self.session.places().size(), (30, 100))
+
     def test_too_small(self):
         """A terminal on which nothing is shown changes nothing."""
         self.attach(self.grid())
