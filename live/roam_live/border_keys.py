@@ -7,6 +7,7 @@ from roam_live.borders import NO_PANE, SETTLES, Border, BorderDrag, begin_of, bo
 from roam_live.loops import Loop
 from roam_live.places import BESIDE
 from roam_live.shares import Evened
+from roam_live.zooming import FOCUS_WAIT
 
 TYPE_CHECKING = False
 if TYPE_CHECKING:
@@ -28,6 +29,7 @@ NO_ROOM = "this border is as far as it can be"
 STUCK = "shares are even, but at borders with panes on both sides that are split themselves"
 EVEN = "shares are even"
 UNTOLD = "the panes aren't told here"
+NO_FOCUS = "it isn't told yet which pane is in focus"
 
 
 def axis_of(side: str) -> str:
@@ -76,12 +78,17 @@ class BorderKeys:
         if self.commands.zooming.is_on():
             self.commands.zooming.end()
         self.waiting.append(wish)
+        self.loop.later("border keys", FOCUS_WAIT, lambda: self.do_waiting(is_late=True))
         self.do_waiting()
 
-    def do_waiting(self) -> None:
-        """Does what waits, once it is told where the panes are at the session's size."""
-        places = self.commands.panes.places
-        while self.waiting and not self.commands.given and (not places or places.is_covered()):
+    def do_waiting(self, is_late: bool = False) -> None:
+        """Does what waits, once it is told where the panes are at the session's size, and where the focus is that was moved."""
+        places, here = self.commands.panes.places, self.commands.places()
+        is_known = here is None or here.focus > 0
+        if is_late and self.waiting and not is_known:
+            self.waiting.clear()
+            self.commands.display.tell(NO_FOCUS)
+        while self.waiting and is_known and not self.commands.given and (not places or places.is_covered()):
             wish = self.waiting.popleft()
             if wish == "even":
                 self.even()
@@ -102,7 +109,7 @@ class BorderKeys:
     def move(self, side: str) -> None:
         """Moves the border on a side of the pane in focus towards that side, or where it has none there the one on the other side."""
         places, way = self.commands.places(), axis_of(side)
-        if not places or not places.focus:
+        if not places:
             self.commands.display.tell(UNTOLD)
             return
         found = [side_border(places.rects, places.focus, one) for one in (side, OPPOSITE[side])]

@@ -319,7 +319,7 @@ class Commands:
         self.pointing.is_on = before.pointing.is_on
         self.display.moved = self.fit_drawn
         self.is_fitted, self.showed_all, self.left_size = False, False, left_size
-        if self.typing.mode == self.typing.pasting:
+        if self.typing.mode == self.typing.pasting or before.copying.is_pasting:
             self.refuse_paste(WINDOW_GONE)
 
     def refuse_paste(self, why: str) -> None:

@@ -20,6 +20,9 @@ REFUSES = 2.5
 # So many seconds after a front end left that had made a zoom the session has taken what that typed last.
 LEFT = 0.5
 
+# For so many seconds it may be told where the focus is that a command of this person moves.
+FOCUS_WAIT = 1.0
+
 # So many seconds a line stands that tells why nothing is zoomed.
 TOLD = 3.0
 UNTOLD = "nothing is zoomed where the panes aren't told"
@@ -56,6 +59,8 @@ class Zooming:
         # Whether this terminal showed all of the session; and the zoom of another that was looked after.
         self.showed_all = False
         self.mended: ZoomNote | None = None
+        # Whether the pane that comes into focus by what was typed is to be zoomed, once that is told.
+        self.waits = False
 
     def is_on(self) -> bool:
         """Whether a pane is zoomed, or will be soon."""
@@ -82,6 +87,12 @@ class Zooming:
             self.end()
             return
         places = self.commands.places()
+        if places and not places.focus and not self.waits:
+            self.waits = True
+            self.loop.later("zoom waits", FOCUS_WAIT, self.switch)
+            return
+        self.drop_wait()
+        places = self.commands.panes.places if places and not places.focus else places
         size = self.own_size(places)
         before = places_at(places, size) if places and places.focus and places.is_covered() else None
         why = self.refusal(before)
@@ -91,6 +102,11 @@ class Zooming:
         self.pane, self.before, self.showed_all = places.focus, before, self.commands.display.shows_all()
         self.note = ZoomNote(size, ())
         self.ask(places)
+
+    def drop_wait(self) -> None:
+        """Waits no more for what is told of the focus."""
+        self.waits = False
+        self.loop.drop("zoom waits")
 
     def own_size(self, places: Places | None) -> Size:
         """The session's size where nobody has a zoom: that which another's end gives back."""
@@ -169,7 +185,10 @@ class Zooming:
     def told(self) -> None:
         """Goes by what is told of the panes: it is over where another is in focus, or they are others, or the session's size is another
         than it was asked for."""
-        places = self.commands.panes.places
+        places = self.commands.places()
+        if self.waits and places and places.focus:
+            self.switch()
+            return
         if not places or not self.pane:
             self.tell_over()
             return

@@ -91,15 +91,20 @@ class Moves(Attached):
 
     def test_missing(self):
         """Where a number is missing, and a border's sides look split in two, the panes at this place are tried."""
-        session = Lived()
-        session.parts = PaneSplit("down", PaneSplit("right", 1, 3), PaneSplit("right", 2, 5))
-        self.attach(session)
-        border = border_at(session.rects(), 5, end_of(session.rects()[1], "right"))
-        self.assertFalse(border.leaves and not border_keys.side_border(session.rects(), 1, "right").leaves)
-        for pane in (1, 3, 2, 5):
-            before, after = self.move(pane, "right")
-            side = "right" if pane in (1, 2) else "left"
-            self.assertEqual(after[side], before[side] + 1, pane)
+        for side, pane in (("right", 1), ("right", 3), ("left", 2), ("left", 5)):
+            session = Lived()
+            session.parts = PaneSplit("down", PaneSplit("right", 1, 2), PaneSplit("right", 3, 5))
+            self.attach(session)
+            rects = session.rects()
+            self.assertEqual(border_at(rects, 5, end_of(rects[1], "right")).leaves, [])
+            row = [(1, 1), (2, -1)] if pane in (1, 2) else [(3, 1), (5, -1)]
+            border = border_keys.side_border(rects, pane, side)
+            self.assertEqual((border.leaves, border.before, border.behind), (row, row[0][0], row[1][0]))
+            before, after = self.move(pane, side)
+            self.assertEqual(after[side], before[side] + (1 if side == "right" else -1), pane)
+        self.attach(by_chance(3))
+        self.assertFalse(border_keys.is_across(Rect(1, 1, 5, 9), Rect(1, 12, 5, 9), "right"))
+        self.assertTrue(border_keys.is_across(Rect(7, 1, 5, 9), Rect(1, 1, 5, 9), "up"))
 
     def test_several(self):
         """Keys that come while a border goes move it on, each by one; the focus and no other border is changed."""
@@ -115,6 +120,23 @@ class Moves(Attached):
         self.take(20)
         self.assertEqual((session.rects()[1].cols, session.focus), (37, 2))
         self.assertEqual({line for line in self.heard if "grow" not in line}, set())
+
+    def test_at_once(self):
+        """Behind a key that moves the focus it is the border of the pane that comes into focus, once it is told which that is."""
+        session = Lived()
+        for act in ("split right", "split right", "focus 1"):
+            session.do(act)
+        self.attach(session)
+        before = session.rects()[3]
+        self.types(b"\x02o\x02o" + KEYS["left"])
+        self.take(6)
+        self.assertEqual((session.rects()[3].col, session.focus), (before.col - 1, 3))
+        session.split = lambda pane, way: None
+        self.types(b"\x02%" + KEYS["left"])
+        self.assertEqual(session.rects()[3].col, before.col - 1)
+        self.now += border_keys.FOCUS_WAIT
+        self.person.loop.do_due()
+        self.assertEqual((self.person.said(), self.person.display.told), ([], border_keys.NO_FOCUS))
 
     def test_limits(self):
         """It goes no further than the panes have room; that is told."""

@@ -439,6 +439,15 @@ class Told(Windows):
         self.tell("gone 2")
         self.type(b" x\r\x1b[201~y")
         self.assertEqual((self.typed, self.front.display.told), ({1: "y", 2: ""}, "nothing is pasted: its window is gone"))
+        # So is one that was pasted into a line that copy mode asked for.
+        self.add(3)
+        self.tell("window 3 -")
+        self.type(b"\x023")
+        self.front.commands.copying.is_pasting = self.front.commands.keys.is_pasting = True
+        del self.windows[3]
+        self.tell("gone 3")
+        self.type(b"rm\r\x1b[201~z")
+        self.assertEqual(self.typed, {1: "yz", 2: "", 3: ""})
 
     def test_question(self):
         """A question stands until it is answered, also where its window goes, and means nothing for another then."""

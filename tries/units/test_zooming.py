@@ -106,6 +106,26 @@ class Back(Zoomed):
         texts = ["".join(chr(int(act.split()[1], 16)) for act in line.split(" ; ")[1:]) for line in self.heard]
         self.assertEqual(texts, ["\x1b[<0;1;1M", "\x1b[<0;80;23M"])
 
+    def test_at_once(self):
+        """Behind a key that moves the focus the pane that comes into focus is zoomed, once it is told which that is; or that in focus,
+        where nothing is told."""
+        for keys, pane in ((b"\x02o\x02z", 3), (b"\x02%\x02z", 4), (b"\x02q1\x02z", 1)):
+            self.attach(self.grid())
+            self.types(keys)
+            self.take(6)
+            self.assertTrue(self.is_zoomed(pane), keys)
+        self.attach(self.grid())
+        self.session.split = lambda pane, way: None
+        self.types(b"\x02%\x02z")
+        self.now += zooming.FOCUS_WAIT
+        self.person.loop.do_due()
+        self.take()
+        self.assertTrue(self.is_zoomed(2))
+        self.attach(self.grid())
+        self.person.commands.fed(b"\x02q1\x02z")
+        self.person.commands.told()
+        self.assertTrue(self.person.commands.zooming.is_on())
+
     def test_blank(self):
         """A pane that can't fill the terminal is shown alone all the same."""
         session = Lived(50, 160)
@@ -291,6 +311,29 @@ class Resized(Zoomed):
         self.take(6)
         self.assertEqual((self.session.places().size(), self.person.commands.zooming.is_on()), ((24, 80), False))
         self.assertIn("more than this terminal shows", self.person.display.told)
+
+    def test_grown(self):
+        """A session that wasn't all shown grows to a terminal that is larger by now, where nobody else types."""
+        self.attach(self.grid((30, 100)), (24, 80), folder=self.made_folder())
+        self.types(b"\x02z")
+        self.assertTrue(self.is_zoomed(2))
+        self.person.resize(50, 160)
+        self.take(6)
+        self.assertTrue(self.is_zoomed(2))
+        self.types(b"\x02z")
+        self.assertEqual(self.session.places().size(), (50, 160))
+
+    def test_behind_a_size(self):
+        """Behind a key that gives the session another size a pane is zoomed from there, whichever is told first."""
+        self.attach(self.grid((24, 80)), (30, 100), PlayedShells(True))
+        self.person.commands.fed(b"\x02r\x02z")
+        for act in [line for line in self.person.said() if line.startswith("size")]:
+            self.session.do(act)
+            self.person.tell(self.session.places())
+            self.assertTrue(self.person.commands.zooming.is_on(), act)
+        self.assertEqual((self.person.display.zoomed, self.session.rects()[2][2:]), (self.session.rects()[2], (29, 100)))
+        self.types(b"\x02z")
+        self.assertEqual(self.session.places().size(), (30, 100))
 
     def test_too_small(self):
         """A terminal on which nothing is shown changes nothing."""
