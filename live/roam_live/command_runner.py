@@ -9,7 +9,7 @@ from collections.abc import Callable
 
 from roam_live.asked_line import AskedLine
 from roam_live.choices import BY_FILE, choose_by_file
-from roam_live.command_table import Asked, BadCommand, asked_by, completed
+from roam_live.command_table import CommandWish, BadCommand, asked_by, completed
 from roam_live.keys import Key, acts_of
 from roam_live.loops import Loop
 from roam_live.program import read, reason
@@ -129,7 +129,7 @@ class CommandRunner:
         except BadCommand as fault:
             self.tell(str(fault))
 
-    def do(self, asked: Asked) -> None:
+    def do(self, asked: CommandWish) -> None:
         """Does what a command asks for."""
         commands = self.front.commands
         does: dict[str, Callable[[str], object]] = {"tell": self.tell_text, "run": self.run_shell, "window name": self.name_window, "command line": self.ask,

@@ -19,7 +19,7 @@ class BadCommand(Exception):
     """What a command says can't be done; why, in words."""
 
 
-class Asked(namedtuple("Asked", "acts wish text words", defaults=((),))):
+class CommandWish(namedtuple("CommandWish", "acts wish text words", defaults=((),))):
     """What a command asks for: acts that are typed, or a wish of the front end's, and a text that belongs to it; and the command's words."""
 
     acts: list[str]
@@ -58,115 +58,115 @@ class Flags:
         return int(text)
 
 
-class Command(namedtuple("Command", "names flags reads help")):
+class NamedCommand(namedtuple("NamedCommand", "names flags reads help")):
     """A command: its names, the longest first, the flags that it has, as getopt has them, how its words are read, and what it does."""
 
     names: tuple[str, ...]
     flags: str
-    reads: Callable[[Flags], Asked]
+    reads: Callable[[Flags], CommandWish]
     help: str
 
 
-def wish(word: str) -> Callable[[Flags], Asked]:
+def wish(word: str) -> Callable[[Flags], CommandWish]:
     """Reads a command that is one wish, without words."""
-    def read(flags: Flags) -> Asked:
+    def read(flags: Flags) -> CommandWish:
         if flags.words:
             raise BadCommand(f"it has no word {printable(flags.words[0])[:40]}")
-        return Asked([], word, "")
+        return CommandWish([], word, "")
     return read
 
 
-def by_flag(wishes: dict[str, str], default: str) -> Callable[[Flags], Asked]:
+def by_flag(wishes: dict[str, str], default: str) -> Callable[[Flags], CommandWish]:
     """Reads a command whose flag says which wish it is."""
-    def read(flags: Flags) -> Asked:
-        return Asked([], next((word for flag, word in wishes.items() if flags.has(flag)), default), "")
+    def read(flags: Flags) -> CommandWish:
+        return CommandWish([], next((word for flag, word in wishes.items() if flags.has(flag)), default), "")
     return read
 
 
-def window_of(flags: Flags) -> Asked:
+def window_of(flags: Flags) -> CommandWish:
     """Reads which window is gone to: of a number, or another in order."""
     target = flags.found.get("t", flags.words[0] if flags.words else "").lstrip(":=")
     ways = {"+": "go next", "-": "go previous", "!": "go last"}
     if flags.has("n") or flags.has("p") or flags.has("l"):
         return by_flag({"n": "go next", "p": "go previous", "l": "go last"}, "")(flags)
-    return Asked([], ways[target] if target in ways else f"go {flags.number(target, 0, 99) or 'asked'}", "")
+    return CommandWish([], ways[target] if target in ways else f"go {flags.number(target, 0, 99) or 'asked'}", "")
 
 
-def pane_of(flags: Flags) -> Asked:
+def pane_of(flags: Flags) -> CommandWish:
     """Reads which pane gets the focus: one of a number, the next, the last, or one beside."""
     target = flags.found.get("t", "").rpartition(".")[2].lstrip(":")
     if target == "+":
-        return Asked(["next"], "", "")
+        return CommandWish(["next"], "", "")
     if target and target != "!":
-        return Asked([f"focus {flags.number(target, 1, 9)}"], "", "")
+        return CommandWish([f"focus {flags.number(target, 1, 9)}"], "", "")
     return by_flag({"L": "left", "R": "right", "U": "up", "D": "down", "l": "last"}, "last" if target else "panes")(flags)
 
 
-def sized(flags: Flags) -> Asked:
+def sized(flags: Flags) -> CommandWish:
     """Reads how a pane is sized: zoomed, or by one of its borders, so many times."""
     if flags.has("Z"):
-        return Asked([], "zoom", "")
+        return CommandWish([], "zoom", "")
     side = next((side for flag, side in (("L", "left"), ("R", "right"), ("U", "up"), ("D", "down")) if flags.has(flag)), "")
     if not side:
         raise BadCommand("it has -L, -R, -U, -D or -Z")
-    return Asked([], f"border {side}", str(flags.number(flags.words[0] if flags.words else "", 1, 99)))
+    return CommandWish([], f"border {side}", str(flags.number(flags.words[0] if flags.words else "", 1, 99)))
 
 
-def keys_sent(flags: Flags) -> Asked:
+def keys_sent(flags: Flags) -> CommandWish:
     """Reads keys by their names, or texts, which are typed."""
     words = flags.words[:MOST_WORDS]
     is_named = not flags.has("l")
-    return Asked([act for word in words for act in is_named and acts_named(word) or acts_of(Key("text", word[:LONGEST_TEXT]))], "", "")
+    return CommandWish([act for word in words for act in is_named and acts_named(word) or acts_of(Key("text", word[:LONGEST_TEXT]))], "", "")
 
 
-def texted(word: str, is_needed: bool = True) -> Callable[[Flags], Asked]:
+def texted(word: str, is_needed: bool = True) -> Callable[[Flags], CommandWish]:
     """Reads a command that has a text."""
-    def read(flags: Flags) -> Asked:
+    def read(flags: Flags) -> CommandWish:
         text = " ".join(flags.words)[:LONGEST_TEXT]
         if is_needed and not text:
             raise BadCommand("it has a text behind it")
-        return Asked([], word, text)
+        return CommandWish([], word, text)
     return read
 
 
 # All of them. Flags that ask for what is so in roam anyway, as a folder of a new pane, are passed over.
 TABLE = (
-    Command(("new-window", "neww"), "ac:n:dt:", wish("window new"), "opens a window"),
-    Command(("kill-window", "killw"), "at:", wish("window shut"), "shuts the window"),
-    Command(("rename-window", "renamew"), "t:", texted("window name", is_needed=False), "names the window"),
-    Command(("next-window", "next"), "a", wish("go next"), "goes to the next window"),
-    Command(("previous-window", "prev"), "a", wish("go previous"), "goes to the window before"),
-    Command(("last-window", "last"), "", wish("go last"), "goes to the window where one was before"),
-    Command(("select-window", "selectw"), "t:npl", window_of, "goes to a window, by its number"),
-    Command(("choose-window", "choose-tree"), "swZG", wish("window list"), "chooses a window from a list"),
-    Command(("split-window", "splitw"), "hvc:t:", by_flag({"h": "split right", "v": "split down"}, "split down"), "splits the pane"),
-    Command(("kill-pane", "killp"), "t:", wish("close"), "closes the pane"),
-    Command(("select-pane", "selectp"), "LRUDlt:", pane_of, "puts another pane in focus"),
-    Command(("last-pane", "lastp"), "", wish("last"), "puts the pane in focus that was before"),
-    Command(("display-panes", "displayp"), "b", wish("panes"), "has a digit be a pane's"),
-    Command(("resize-pane", "resizep"), "LRUDZt:", sized, "zooms the pane, or moves one of its borders"),
-    Command(("select-layout", "selectl", "next-layout", "nextl"), "Enopt:", lambda flags: Asked([], "even", ""), "gives even shares"),
-    Command(("copy-mode",), "ue", by_flag({"u": "copy page"}, "copy"), "enters copy mode"),
-    Command(("paste-buffer", "pasteb"), "p", wish("paste"), "pastes what was copied last"),
-    Command(("choose-buffer",), "Z", wish("choose"), "chooses what is pasted"),
-    Command(("detach-client", "detach"), "a", by_flag({"a": "leave others"}, "detach"), "detaches this terminal, or all others"),
-    Command(("suspend-client", "suspendc"), "", wish("suspend"), "suspends the front end"),
-    Command(("refresh-client", "refresh"), "S", wish("repaint"), "fits the session to this terminal"),
-    Command(("list-keys", "lsk"), "N", wish("help"), "shows the keys"),
-    Command(("send-prefix",), "", wish("prefix"), "types the prefix"),
-    Command(("send-keys", "send"), "l", keys_sent, "types keys by their names, or a text"),
-    Command(("command-prompt",), "", wish("command line"), "asks for a command"),
-    Command(("source-file", "source"), "q", texted("settings", is_needed=False), "reads the settings file anew"),
-    Command(("set-option", "set", "set-window-option", "setw"), "agowqsu", texted("set"), "sets an option at this terminal"),
-    Command(("display-message", "display"), "p", texted("tell"), "tells a text in the last row"),
-    Command(("run-shell", "run"), "b", texted("run"), "runs a command of the shell"),
-    Command(("toggle-mouse",), "", wish("mouse"), "has roam have the mouse, or not"),
-    Command(("toggle-status",), "", wish("row"), "hides the last row, or shows it"),
+    NamedCommand(("new-window", "neww"), "ac:n:dt:", wish("window new"), "opens a window"),
+    NamedCommand(("kill-window", "killw"), "at:", wish("window shut"), "shuts the window"),
+    NamedCommand(("rename-window", "renamew"), "t:", texted("window name", is_needed=False), "names the window"),
+    NamedCommand(("next-window", "next"), "a", wish("go next"), "goes to the next window"),
+    NamedCommand(("previous-window", "prev"), "a", wish("go previous"), "goes to the window before"),
+    NamedCommand(("last-window", "last"), "", wish("go last"), "goes to the window where one was before"),
+    NamedCommand(("select-window", "selectw"), "t:npl", window_of, "goes to a window, by its number"),
+    NamedCommand(("choose-window", "choose-tree"), "swZG", wish("window list"), "chooses a window from a list"),
+    NamedCommand(("split-window", "splitw"), "hvc:t:", by_flag({"h": "split right", "v": "split down"}, "split down"), "splits the pane"),
+    NamedCommand(("kill-pane", "killp"), "t:", wish("close"), "closes the pane"),
+    NamedCommand(("select-pane", "selectp"), "LRUDlt:", pane_of, "puts another pane in focus"),
+    NamedCommand(("last-pane", "lastp"), "", wish("last"), "puts the pane in focus that was before"),
+    NamedCommand(("display-panes", "displayp"), "b", wish("panes"), "has a digit be a pane's"),
+    NamedCommand(("resize-pane", "resizep"), "LRUDZt:", sized, "zooms the pane, or moves one of its borders"),
+    NamedCommand(("select-layout", "selectl", "next-layout", "nextl"), "Enopt:", lambda flags: CommandWish([], "even", ""), "gives even shares"),
+    NamedCommand(("copy-mode",), "ue", by_flag({"u": "copy page"}, "copy"), "enters copy mode"),
+    NamedCommand(("paste-buffer", "pasteb"), "p", wish("paste"), "pastes what was copied last"),
+    NamedCommand(("choose-buffer",), "Z", wish("choose"), "chooses what is pasted"),
+    NamedCommand(("detach-client", "detach"), "a", by_flag({"a": "leave others"}, "detach"), "detaches this terminal, or all others"),
+    NamedCommand(("suspend-client", "suspendc"), "", wish("suspend"), "suspends the front end"),
+    NamedCommand(("refresh-client", "refresh"), "S", wish("repaint"), "fits the session to this terminal"),
+    NamedCommand(("list-keys", "lsk"), "N", wish("help"), "shows the keys"),
+    NamedCommand(("send-prefix",), "", wish("prefix"), "types the prefix"),
+    NamedCommand(("send-keys", "send"), "l", keys_sent, "types keys by their names, or a text"),
+    NamedCommand(("command-prompt",), "", wish("command line"), "asks for a command"),
+    NamedCommand(("source-file", "source"), "q", texted("settings", is_needed=False), "reads the settings file anew"),
+    NamedCommand(("set-option", "set", "set-window-option", "setw"), "agowqsu", texted("set"), "sets an option at this terminal"),
+    NamedCommand(("display-message", "display"), "p", texted("tell"), "tells a text in the last row"),
+    NamedCommand(("run-shell", "run"), "b", texted("run"), "runs a command of the shell"),
+    NamedCommand(("toggle-mouse",), "", wish("mouse"), "has roam have the mouse, or not"),
+    NamedCommand(("toggle-status",), "", wish("row"), "hides the last row, or shows it"),
 )
 BY_NAME = {name: command for command in TABLE for name in command.names}
 
 
-def asked_by(words: list[str]) -> Asked:
+def asked_by(words: list[str]) -> CommandWish:
     """What a command asks for, by its words. BadCommand tells what of it can't be done."""
     name, *rest = words
     command = BY_NAME.get(name)

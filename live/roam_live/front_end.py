@@ -12,7 +12,7 @@ from roam_live.bindings import OWN as KEY
 from roam_live.brought import brings_to
 from roam_live.choices import chosen_guessing, chosen_prefix, sets_clipboard, text_of, wants_mouse
 from roam_live.command_runner import CommandRunner
-from roam_live.command_table import Asked
+from roam_live.command_table import CommandWish
 from roam_live.commands import Commands
 from roam_live.display import NO_SIZE, Display
 from roam_live.following import AWAITED, PanesFollower
@@ -177,7 +177,7 @@ class FrontEnd:
         """Does what a key of a person's own asks for, or what a command line is for."""
         word, _, rest = wish.partition(" ")
         if word != KEY:
-            self.runner.do(Asked([], wish, ""))
+            self.runner.do(CommandWish([], wish, ""))
             return
         table, _, name = rest.partition(" ")
         binding = self.commands.typing.own.get((table, name))

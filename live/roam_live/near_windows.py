@@ -12,7 +12,7 @@ from roam_live.listeners import Listener
 from roam_live.loops import Loop
 from roam_live.near_sockets import NearSockets
 from roam_live.program import Fault, reason, replace_text, say
-from roam_live.window_processes import numbers_in, window_folder, windows_folder
+from roam_live.window_notes import numbers_in, window_folder, windows_folder
 
 TYPE_CHECKING = False
 if TYPE_CHECKING:

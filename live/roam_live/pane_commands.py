@@ -44,11 +44,14 @@ LAST_SHELL = "/bin/sh"
 class Options:
     """What a keeper is asked for, of the panes in a folder: their command, the user's shell where none is named; the server's process,
     where it is known; whether a command's end closes its pane, and whether another keeper was there before. Where they are those of a
-    window of a session, its number, and the session's own folder; or whether the folder is that of a session with windows."""
+    window of a session, its number, and the session's own folder; or whether the folder is that of a session with windows,
+    of which the first one's server is being spawned by who launches it."""
 
     def __init__(self, *, folder: str, command: list[str] | None = None, server: int | None = None, close: bool = False,
-                 again: bool = False, window: int = 0, common: str = "", has_windows: bool = False) -> None:
+                 again: bool = False, window: int = 0, common: str = "", has_windows: bool = False,
+                 is_first: bool = False) -> None:
         self.dir, self.server, self.close, self.again, self.has_windows = folder, server, close, again, has_windows
+        self.is_first = is_first
         self.window, self.common = window, common or folder
         self.command = command or [os.environ.get("SHELL") or LAST_SHELL]
         self.instead = None if command else LAST_SHELL

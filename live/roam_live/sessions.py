@@ -9,7 +9,6 @@ import os
 import pathlib
 import re
 import signal
-import shutil
 import stat
 import time
 from collections.abc import Iterable, Iterator
@@ -20,7 +19,7 @@ from roam_live.program import (TOOLS, Fault, begun, count_front_ends, end_words,
                                program, replace_text, say)
 from roam_live.places import ASKED, MOST_STARTS, Places, asked_places
 from roam_live.window_lines import MOST_WINDOWS, name_in
-from roam_live.window_processes import NUMBER, SPARE, WINDOWS, WINDOWS_VERSION, note_ends, numbers_in
+from roam_live.window_notes import NUMBER, SPARE, WINDOWS, WINDOWS_VERSION, note_ends, numbers_in
 
 NAME = re.compile(r"[A-Za-z0-9_-]{1,32}")
 
@@ -33,6 +32,9 @@ LONGEST_PATH = 107
 # What a session's note is like. An earlier roam had one without this number: its session has no start for terminals. One of 2 knows no
 # guesses.
 VERSION = 3
+
+# The window with which a session begins.
+FIRST = 1
 
 # So many seconds after the last terminal left a relay ends.
 ALONE = 3600
@@ -273,6 +275,9 @@ class FolderSession(Processes):
             self.wait_for("server", before, lambda: (self.folder / "session").exists() and self.is_served())
             self.spawn_shells()
 
+    def demand_ready(self) -> None:
+        """Sees that what keeps its shells is there, where it was spawned just now."""
+
     def spawn_shells(self, more: Iterable[str] = ()) -> None:
         """Spawns what keeps a shell in each pane."""
         state = self.state or {}
@@ -339,6 +344,8 @@ class FolderSession(Processes):
         for path in [*(note for folder in folders if folder.is_dir() for note in folder.iterdir()), *notes]:
             path.unlink(missing_ok=True)
         if self.served == "relay":
+            import shutil
+
             shutil.rmtree(self.folder / WINDOWS, ignore_errors=True)
 
     def end_all(self) -> None:
@@ -463,14 +470,20 @@ class WindowedSession(FolderSession):
     # ---- what belongs to it
 
     def launch(self, command: Iterable[str] = ()) -> None:
-        """Launches what keeps its windows, which opens the first, with a command in place of each shell; all or nothing."""
+        """Launches what keeps its windows, and the server of the first, with a command in place of each shell; all or nothing."""
         self.clean()
         self.state = {"version": self.version, "command": list(command)}
-        before = self.logged()
+        window = Window(self, FIRST)
+        window.name = self.name
         with self.whole():
-            self.spawn_shells()
-            # A command that ends at once may have ended it already.
-            self.wait_for("shells", before, lambda: self.is_ready() or self.own["shells"].poll() == 0)
+            # It takes longest, and waits for the server of the first window, which is spawned meanwhile.
+            self.spawn_shells(["--first"])
+            window.spawn_server()
+
+    def demand_ready(self) -> None:
+        """Waits until what keeps its windows has one."""
+        # A command that ends at once may have ended it already.
+        self.wait_for("shells", self.logged(), lambda: self.is_ready() or self.own["shells"].poll() == 0)
 
     def spawn_shells(self, more: Iterable[str] = ()) -> None:
         """Spawns what keeps its windows."""
@@ -580,6 +593,19 @@ class Window(FolderSession):
     def window(self, number: int | None = None) -> FolderSession:
         """A window of its session by its number, else this one."""
         return self if number in (None, self.number) else self.session.window(number)
+
+    def spawn_server(self) -> None:
+        """Spawns the server, in the window's folder, which is made."""
+        for folder in (self.folder.parent, self.folder):
+            folder.mkdir(mode=0o700, exist_ok=True)
+        self.state = {"version": self.version}
+        before = self.logged()
+        try:
+            self.spawned("server", [program(), "serve", "--as-meant", "--dir", str(self.folder)])
+            self.wait_for("server", before, lambda: (self.folder / "session").exists() and self.is_served())
+        except BaseException:
+            self.end_all()
+            raise
 
     def title(self) -> str:
         """What it is called; nothing where it has no name."""

@@ -89,6 +89,7 @@ class ShellsLink(Following):
     def follow_on(self, before: ShellsLink) -> None:
         """Knows what the keeper was told by an earlier connection of this terminal, which brings nothing twice to one."""
         self.keeper, self.brings, self.colours, self.untold = before.keeper, before.brings, before.colours, before.untold
+        self.is_known = before.is_known
 
     def leave_now(self) -> None:
         """Leaves, as another terminal has it."""

@@ -4,7 +4,6 @@ from __future__ import annotations
 import contextlib
 import json
 import os
-import re
 import signal
 
 from roam_live.processes import is_note
@@ -12,6 +11,7 @@ from roam_live.program import SocketPeer, begun, connected_now, end_words, is_ru
 from roam_live.programs import PANE
 from roam_live.terminal import SIGNALS
 from roam_live.window_lines import NO_NAME, name_in, name_word
+from roam_live.window_notes import SPARE, WINDOWS_VERSION, window_folder, windows_folder
 
 TYPE_CHECKING = False
 if TYPE_CHECKING:
@@ -23,52 +23,8 @@ if TYPE_CHECKING:
 SERVER, TERMINALS = "server", "terminals"
 SOCKETS = {SERVER: "clients", TERMINALS: "terminals"}
 
-# What lies in a window's folder while its server only stands ready.
-SPARE = "spare"
-
-# What a note of such a session is like.
-WINDOWS_VERSION = 4
-
-# The folder in a session's in which those of its windows lie, and what names one.
-WINDOWS = "w"
-NUMBER = re.compile(r"[1-9]\d?", re.ASCII)
-
 # No note has so many bytes.
 MOST_NOTE = 1 << 16
-
-# So many of those that were ended on purpose are noted.
-MOST_ENDED = 128
-
-
-def windows_folder(common: str) -> str:
-    """The folder in which those of a session's windows lie."""
-    return os.path.join(common, WINDOWS)
-
-
-def window_folder(common: str, number: int) -> str:
-    """The folder of a window."""
-    return os.path.join(windows_folder(common), str(number))
-
-
-def numbers_in(folder: str) -> list[int]:
-    """The windows of which there are folders, in order."""
-    with contextlib.suppress(OSError):
-        return sorted(int(name) for name in os.listdir(folder) if NUMBER.fullmatch(name))
-    return []
-
-
-def note_ends(common: str, lines: list[str]) -> None:
-    """Notes in a session's folder that processes are ended on purpose, before they are: the last of them stay."""
-    if not lines:
-        return
-    path = os.path.join(common, "ended")
-    before: list[str] = []
-    with contextlib.suppress(OSError, ValueError):
-        with open(path, encoding="utf-8") as file:
-            before = file.read(1 << 14).splitlines()
-    with contextlib.suppress(OSError):
-        replace_text(path, "".join(f"{line}\n" for line in [*(one for one in before if one not in lines), *lines][-MOST_ENDED:]))
-
 
 class WindowProcesses:
     """The processes of one window, and what is noted of them."""

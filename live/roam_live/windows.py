@@ -14,7 +14,8 @@ from roam_live.programs import working_folder
 from roam_live.row_keeping import pane_of_key
 from roam_live.terminal import LEAST, size_act
 from roam_live.window_lines import ACTIVITY, BELL, GONE, MOST_WINDOWS, RUNS, WindowLines
-from roam_live.window_processes import SERVER, TERMINALS, WindowProcesses, note_ends, numbers_in, windows_folder
+from roam_live.window_notes import note_ends, numbers_in, windows_folder
+from roam_live.window_processes import SERVER, TERMINALS, WindowProcesses
 from roam_live.window_shells import Common, Shells
 
 TYPE_CHECKING = False
@@ -57,6 +58,8 @@ class KeptWindow:
         # Where its first pane's command begins, whether another keeper had it before, and whether it has a start here from the beginning:
         # of a session's first window who launches it sees to that, or a terminal of another machine has one there.
         self.begins_in, self.is_again, self.has_start = "", False, True
+        # Whether its server is spawned by somebody else, and isn't known yet.
+        self.is_given = False
         # Until when it has to be there, or gone.
         self.until = 0.0
         # When it may be told again that something was written there, and that a pane rang.
@@ -86,7 +89,10 @@ class Windows:
         self.lasting = Lasting(asked.common)
         self.loop.each(self.make_last)
         self.lines = common.shells.lines = WindowLines(self, common.shells.sockets)
-        self.take_over()
+        if asked.is_first:
+            self.await_first()
+        else:
+            self.take_over()
 
     # ---- what is asked
 
@@ -224,6 +230,12 @@ class Windows:
             window.is_again, window.has_start = True, False
             self.await_(window, OPENS)
 
+    def await_first(self) -> None:
+        """Goes on with the first window, whose server somebody else is about to spawn."""
+        window = self.windows[1] = KeptWindow(1, WindowProcesses(self.asked.common, 1), self.first)
+        window.has_start, window.is_given = False, True
+        self.await_(window, OPENS)
+
     def taken(self, number: int, why: str) -> None:
         """Takes note of a window that was taken over, or couldn't be."""
         if not number:
@@ -250,6 +262,9 @@ class Windows:
         if window.state != OPENING:
             return
         processes = window.processes
+        if window.is_given:
+            processes.read()
+            window.is_given = not processes.runs(SERVER)
         try:
             is_there = self.follow(window) and (window.is_again or self.has_come(window))
         except (OSError, Fault) as fault:
@@ -257,7 +272,7 @@ class Windows:
             return
         if is_there:
             self.opened(window)
-        elif not processes.runs(SERVER):
+        elif not window.is_given and not processes.runs(SERVER):
             self.fail(window, "its server has ended")
         elif self.loop.clock() < window.until:
             self.loop.later(f"window {window.number} begins", STEP, lambda: self.step(window))
@@ -272,6 +287,8 @@ class Windows:
         processes = window.processes
         if window.shells:
             return True
+        if window.is_given:
+            return False
         if not window.is_again and not os.path.exists(processes.path("session")):
             return False
         try:

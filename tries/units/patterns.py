@@ -123,7 +123,7 @@ KNOWN = {
     ("roam_live/window_lines.py", "NAME", "re"): LINES,
     ("roam_live/window_lines.py", "OPEN", "re"): LINES,
     ("roam_live/window_lines.py", "SHUT", "re"): LINES,
-    ("roam_live/window_processes.py", "NUMBER", "re"): NAMES,
+    ("roam_live/window_notes.py", "NUMBER", "re"): NAMES,
     ("roam_live/window_shells.py", "", "ESC"): "is typed where the focus comes and goes, and reads nothing",
     ("roam_live/window_wishes.py", "OPENED", "re"): LINES,
     ("roam_live/windows_link.py", "TOLD", "re"): LINES,

@@ -32,7 +32,7 @@ class Mux(Case):
         self.is_terminal = True
         self.patch_of(mux.os, "isatty", lambda end: self.is_terminal)
         self.runs, self.done = set(), []
-        for name in ("launch", "spawn_shells", "demand_terminals", "demand_shells", "note_found", "kill", "end_all", "tidy"):
+        for name in ("launch", "spawn_shells", "demand_terminals", "demand_shells", "demand_ready", "note_found", "kill", "end_all", "tidy"):
             self.patch_each(name, self.does(name))
         self.patch_each("find", lambda session: session.name in self.runs)
         self.patch_each("runs", lambda session, role=None: session.name in self.runs)

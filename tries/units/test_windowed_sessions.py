@@ -11,7 +11,7 @@ from roam_live.places import Places, Rect
 from roam_live.program import Fault, begun, end_words
 from roam_live.sessions import VERSION, FolderSession, Window, WindowedSession, session_named, window_in
 from roam_live.targets import session_of, target_of, window_of
-from roam_live.window_processes import WINDOWS_VERSION
+from roam_live.window_notes import WINDOWS_VERSION
 
 PLACES = Places({1: Rect(1, 1, 23, 80)}, 1, 1)
 

@@ -8,7 +8,8 @@ from aids import Case, StillLoop, read_now
 from roam_live import pane_commands, window_processes, window_shells, windows
 from roam_live.program import Fault, begun
 from roam_live.window_lines import MOST_WINDOWS, name_in, name_word
-from roam_live.window_processes import SERVER, TERMINALS, WindowProcesses, note_ends, numbers_in
+from roam_live.window_notes import note_ends, numbers_in
+from roam_live.window_processes import SERVER, TERMINALS, WindowProcesses
 from roam_live.windows import ENDING, ENDS, FULL, OPENS, OVER, THERE, Windows
 
 
