@@ -60,8 +60,8 @@ class Person:
 
 
 def switched(folder, words, count):
-    """Switches with keys, and pastes, typed in one piece round each, at a terminal with a tool on it: none is lost, and none goes to another
-    window. Tells the terminal."""
+    """Switches with keys, and pastes, typed in one piece round each, at a terminal with a tool on it: none is lost, and none goes to
+    another window. Tells the terminal."""
     paths = {window: folder / f"window{window}" for window in (1, 2, 3)}
     outer, chance = Outer(words), random.Random(SEED)
     check("a session has a window", outer.status("[1] 1:"), outer.rows)
@@ -165,6 +165,42 @@ def window_kills(folder):
     outer.type(b"exit\r")
     check("that of the last is the session's", outer.ends() and outer.process.returncode == 0, outer.rows)
     check("which is told", b"[the session has ended]" in outer.written, bytes(outer.written[-80:]))
+
+
+@scene
+def window_each(folder):
+    """Each terminal is at a window of its own, and has its own last row; what one names, and where something happens, the other sees; it
+    may have the other leave."""
+    first = Outer(tool("mux", SESSION))
+    first.shows("1:sh*")
+    second = Outer(tool("mux", SESSION), (20, 60))
+    second.shows("1:sh*")
+    second.type(b"\x02cecho ow''n\r")
+    check("one opens a window, and the other stays where it is", second.status("[1] 1:sh- 2:sh*") and second.shows("own") and
+          first.status("[1] 1:sh* 2:sh") and not any("own" in row for row in first.rows()), first.rows)
+    second.type("\x02,\x15hé中\x1b]0;x\x07\r".encode())
+    second.type("\x02,\x15hé中\r".encode())
+    check("a name is shown at both", second.status("[1] 1:sh- 2:hé中*") and first.status("[1] 1:sh* 2:hé中"), first.rows)
+    second.type(b"\x021")
+    second.status("[1] 1:sh* 2:")
+    first.type(b"\x022sleep 1; printf '\\a'; echo lou''d\r\x021")
+    is_told = all(outer.status("[1] 1:sh* 2:hé中#!-") for outer in (first, second))
+    check("a bell in a window where nobody is rings at both", is_told, (first.rows()[-1], second.rows()[-1]))
+    check("with the terminal's own", b"\x07" in first.written and b"\x07" in second.written, second.rows)
+    second.type(b"\x022")
+    check("until one is there", second.shows("loud") and second.status("[1] 1:sh- 2:hé中*"), second.rows)
+    first.type(b"\x02D")
+    check("one has the other leave", first.status("1 other terminal detached") and second.ends() and second.is_restored(), first.rows)
+    check("which is told", b"[detached from elsewhere]" in second.written, bytes(second.written[-80:]))
+    for rows in (24, 23):
+        first.type(b"\x02t")
+        is_sized = comes(lambda: f"{rows + 1} by 80" in said("list-windows", SESSION)[1].splitlines()[0])
+        check(f"the window has the last row, or not: {rows}", is_sized, said("list-windows", SESSION))
+        first.type(b"clear; stty size\r")
+        is_shown = first.shows(f"{rows} 80") and comes(lambda: ("2:" in first.rows()[23]) == (rows == 23))
+        check("so have its programs, and the terminal", is_shown, first.rows)
+    first.type(b"\x02d")
+    check("it leaves", first.ends() and first.is_restored(), first.rows)
 
 
 def differs(seen, wanted):

@@ -66,7 +66,9 @@ LINES = (
     ("NAME=x\nset -g status-left $NAME", "status-left=x"), ("%hidden NAME=y\nset -g status-left $NAME", "status-left=y"),
     ("set -g default-command ~/bin/x", "default-command=/home/me/bin/x"), ("set -g default-command a~b", "default-command=a~b"),
     ('set -g status-left "a\nb"', "! 1: status-left is 'a\\nb', and may have 1,000 printable characters"),
+    ("set -g status-left \\U00110000", "! 1: \\U00110000 is no character"), ("set -g status-left a\\\\\\\nb", "status-left=a\\b"),
     # Keys.
+    ("bind -Troot F5 kill-pane", "[root f5: kill-pane]"),
     ("bind r source-file ~/.tmux.conf", "[prefix r: source-file /home/me/.tmux.conf]"),
     ("bind-key -r H resize-pane -L 5", "[prefix H: resize-pane -L 5 again]"),
     ("bind -n M-Left select-pane -L", "[root M-left: select-pane -L]"), ("bind -T root F5 kill-pane", "[root f5: kill-pane]"),
