@@ -63,6 +63,16 @@ class WindowsAsked:
                 raise Fault(f"session {self.session.name}: what keeps its shells has ended")
             self.told += self.lines.fed(piece or b"")
 
+    def rename(self, number: int, name: str) -> None:
+        """Gives a window a name, or none where that is empty; it has been asked for windows."""
+        self.say(f"name {number} {name_word(name)}")
+        while True:
+            words = self.until(WINDOW, GONE)
+            if words[:2] == [GONE, str(number)]:
+                raise Fault(f"session {self.session.whole_session().name} has no window {number}")
+            if words[1:2] == [str(number)]:
+                return
+
     def clients(self) -> list[list[str]]:
         """The words of the lines that tell which terminals are there, as far as they can be such."""
         self.say(CLIENTS)
@@ -118,7 +128,9 @@ def new_window(session: FolderSession, name: str) -> int:
     if len(words) != 2 or not words[1].isascii() or not words[1].isdigit():
         raise Fault(f"session {session.whole_session().name}: no window is opened: {printable(' '.join(words[2:]))}")
     if name:
-        rename(session.window(int(words[1])), name)
+        asked.say(WINDOWS)
+        asked.until(WINDOWS)
+        asked.rename(int(words[1]), name)
     print(f"{session.whole_session().name}:{int(words[1])}")
     return 0
 
@@ -132,13 +144,10 @@ def check_title(name: str) -> None:
 def rename(window: FolderSession, name: str) -> int:
     """Gives a window a name, or none where that is empty."""
     check_title(name)
-    number = window.number or 1
     asked = WindowsAsked(window)
     asked.say(WINDOWS)
     asked.until(WINDOWS)
-    asked.say(f"name {number} {name_word(name)}")
-    if asked.until(WINDOW, GONE)[0] == GONE:
-        raise Fault(f"session {window.whole_session().name} has no window {number}")
+    asked.rename(window.number or 1, name)
     return 0
 
 
@@ -156,11 +165,18 @@ def shut(window: FolderSession) -> int:
         if window.runs():
             raise
     end = time.monotonic() + ANSWERS
-    while (window.process("server") == server or os.path.exists(window.folder)) and time.monotonic() < end:
+    while is_there(window, server):
+        if time.monotonic() > end:
+            raise Fault(f"window {window.name} doesn't end")
         time.sleep(0.01)
-    if window.process("server") == server:
-        raise Fault(f"window {window.name} doesn't end")
     return 0
+
+
+def is_there(window: FolderSession, server: int | None) -> bool:
+    """Whether a window, or what is left of it, is there: another may have its number. Of another machine's the server isn't known here."""
+    if server is None:
+        return window.find()
+    return window.process("server") in (server, None) and os.path.exists(window.folder)
 
 
 def list_clients(session: FolderSession) -> int:

@@ -713,6 +713,12 @@ class NearSession(FolderSession):
                 return
             time.sleep(0.01)
 
+    def line(self) -> str:
+        """What `mux ls` says of it: the size and the panes are those of the relay's own window."""
+        windows = self.windows()
+        more = f", {len(windows)} windows: {' '.join(str(window.number) for window in windows)}" if len(windows) > 1 else ""
+        return super().line() + more
+
     def end_all(self) -> None:
         """Ends the relay, and the client starts of all windows."""
         windows = [window for window in self.windows() if window is not self]

@@ -175,6 +175,8 @@ class Near(Sessions):
                          (session.folder, os.getpid(), None, session, True))
         with self.assertRaisesRegex(Fault, "^session ssh:h:n has no window 3$"):
             one.window(3)
+        self.patch_of(FolderSession, "places", lambda session: PLACES)
+        self.assertTrue(session.line().endswith("1 pane   0 terminals, 2 windows: 2 5"), session.line())
         session.clean()
         self.assertEqual(os.listdir(session.folder), [])
 
