@@ -121,6 +121,14 @@ SEQUENCES.update({BACK_TAB: "S-tab", "\x1b[15~": "f5"})
 CONTROLS = {"\r": "enter", "\t": "tab", "\x1b": "escape", "\x7f": "bspace", " ": "space", "\0": "C-space"}
 
 
+def typed_name(name: str) -> str:
+    """What a key is called where it comes from a terminal, by its name here."""
+    if name in OWN:
+        return OWN[name]
+    controls = {known: letter for letter, known in CONTROLS.items()}
+    return controls.get(name) or (chr(ord(name[2].upper()) & 0x1F) if len(name) == 3 and name.startswith("C-") else name)
+
+
 def name_of_key(key: Key) -> str:
     """The name of a key as it was typed; nothing of one that has none here."""
     if key.name in TYPED_NAMES:
