@@ -9,7 +9,7 @@ from collections.abc import Callable
 from roam_live import terminal
 from roam_live.asides import GivenAside, GivenClip
 from roam_live.colours import ASKED
-from roam_live.last_row import ZOOMED, clipped, columns, fitted, label_at, row_text, said, tail
+from roam_live.last_row import SYNCHRONIZED, ZOOMED, clipped, columns, fitted, label_at, row_text, said, tail
 from roam_live.status_styles import ROW_STYLE, Styled
 from roam_live.loops import Loop
 from roam_live.places import Rect
@@ -159,6 +159,8 @@ class Display:
         self.status: Callable[[], tuple[list[Styled], list[Styled]]] | None = None
         self.parts: tuple[list[Styled], str, list[Styled]] = ([], "", [])
         self.is_row_hidden = self.is_entering = False
+        # Whether keys go to all panes of the window.
+        self.is_synchronized = False
         # What is drawn over a part of what is painted, and the line that stands in the last row meanwhile; whether that is asked for there;
         # whether the start was told of its mask; and what is called where what is shown of the session may be another part.
         self.drawing: Drawing | None = None
@@ -464,8 +466,9 @@ class Display:
         return "" if self.asked is None or not self.has_row() else self.labels_line(self.outer.size()[1])
 
     def panes_label(self) -> str:
-        """The labels of the panes, and whether that in focus is zoomed."""
-        return f"{self.labels.rstrip()} {ZOOMED}" if self.zoomed and self.labels else self.labels
+        """The labels of the panes, whether that in focus is zoomed, and whether keys go to all."""
+        flags = ZOOMED * (self.zoomed is not None) + SYNCHRONIZED * self.is_synchronized
+        return f"{self.labels.rstrip()} {flags}" if flags and self.labels else self.labels
 
     def labels_line(self, width: int) -> str:
         """The labels of the panes and of the windows, between what a settings file has stand at both ends; at the right one stands which

@@ -124,7 +124,7 @@ class Line(Case):
         """Commands are done in order, up to one that can't be."""
         self.runner.typed("splitw -h; send-keys 'a b' ; nosuch; killp")
         self.assertEqual([one.args[0] for one in self.commands.grant.call_args_list], ["split right"])
-        self.assertEqual([one.args for one in self.commands.act.call_args_list], [("char 61", "char 20", "char 62")])
+        self.assertEqual([one.args for one in self.commands.type_key.call_args_list], [(["char 61", "char 20", "char 62"],)])
         self.commands.display.tell.assert_called_with("nosuch is no command of roam", 4.0)
         self.assertEqual(list(self.runner.lines), ["splitw -h; send-keys 'a b' ; nosuch; killp"])
         for wrong in ("splitw 'x", "bind { killp }"):
