@@ -14,7 +14,8 @@ from roam_live.choosing import Choosing, ChoosingWindow
 from roam_live.copying import Copying, CopyEvent
 from roam_live.display import NO_SIZE, Display
 from roam_live.foci import Foci
-from roam_live.keys import Key, Keys
+from roam_live.extended_keys import ANSWERED, form_for
+from roam_live.keys import Key, Keys, acts_of
 from roam_live.links import StartLink
 from roam_live.loops import Loop
 from roam_live.colours import COLOUR
@@ -142,10 +143,11 @@ class Commands:
     def typed(self, keys: list[Key]) -> None:
         """Takes keys; those behind one that goes to another window, or opens one, are for that."""
         self.follow_latest()
+        keys = self.typing.joined(keys)
         for place, key in enumerate(keys):
             if self.windows and self.windows.takes(self, keys[place:]):
                 break
-            if key.name == COLOUR or key.name == MOUSE and self.typing.mode != self.typing.pasting:
+            if key.name in (COLOUR, ANSWERED) or key.name == MOUSE and self.typing.mode != self.typing.pasting:
                 self.reported(key)
                 continue
             is_help = self.display.cover == self.help
@@ -161,6 +163,8 @@ class Commands:
         """Takes what the terminal reports: what is done with the mouse, or a colour that it has."""
         if key.name == MOUSE:
             self.pointing.take(key.text)
+        elif key.name == ANSWERED:
+            self.display.outer.take_answer(key.text)
         elif self.shells:
             self.shells.tell_colour(key.text)
 
@@ -183,17 +187,27 @@ class Commands:
         if self.display.cover:
             acts = [act for act in acts if act == NEWEST]
             wish = "no" if wish == "yes" else wish if wish in UNDER_COVER or wish.startswith(GOES) else ""
-        self.type_key(acts)
+        self.type_key(acts, key)
         self.grant(wish, key)
 
-    def type_key(self, acts: list[str]) -> None:
+    def type_key(self, acts: list[str], key: Key = Key("", "")) -> None:
         """Types what a key asks for: where keys go to all panes, those of it that do."""
         keys = [act for act in acts if act.startswith(KEYS)]
         if not keys or not self.synchronizing.is_working():
-            self.act(*acts)
+            places = self.places() if key.extended else None
+            self.act(*(self.formed(acts, key, places.focus) if places else acts))
             return
         self.act(*acts[: -len(keys)])
-        self.synchronizing.add(keys)
+        if key.extended:
+            self.synchronizing.add_key(lambda pane: self.formed(keys, key, pane))
+        else:
+            self.synchronizing.add(keys)
+
+    def formed(self, acts: list[str], key: Key, pane: int) -> list[str]:
+        """Acts, with those of the key at their end in the form in which a pane's program asked for it."""
+        typed = acts_of(key)
+        form = form_for(key.extended, self.panes.modes(pane)) if key.extended and typed and acts[-len(typed) :] == typed else ""
+        return [*acts[: -len(typed)], *acts_of(Key("text", form))] if form else acts
 
     def take_pasted(self, key: Key, before: Mode) -> None:
         """Takes what a key is of a paste, where a person was as told before it."""

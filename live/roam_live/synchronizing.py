@@ -6,6 +6,7 @@ from collections.abc import Callable
 from functools import partial
 
 from roam_live.choices import text_of
+from roam_live.last_row import ALL_PANES
 from roam_live.links import MOST_ACTS
 from roam_live.loops import Loop
 
@@ -28,7 +29,6 @@ FOCUS_WAIT = 1.0
 
 # So many seconds a line stands that tells what is so from now on.
 TOLD = 2.0
-ON = "keys go to all panes of this window"
 OFF = "keys go to the pane in focus"
 ALONE = "pasted in the pane in focus alone: {}"
 UNTOLD = "keys go to the pane in focus: where the panes are isn't told"
@@ -98,7 +98,7 @@ class Synchronizing:
         self.choose_guesses()
         self.commands.show_known()
         places = self.commands.panes.places
-        self.commands.display.tell(OFF if not self.is_on() else ON if places else UNTOLD, TOLD)
+        self.commands.display.tell(OFF if not self.is_on() else ALL_PANES if places else UNTOLD, TOLD)
 
     def choose_guesses(self) -> None:
         """Has no guesses be shown while it is on: what a key shows in one pane isn't known of the others."""
@@ -121,6 +121,10 @@ class Synchronizing:
     def add(self, acts: list[str]) -> None:
         """Acts of a key are typed, or of many."""
         self.keys += [partial(part, acts[begin : begin + MOST_OF_KEY]) for begin in range(0, len(acts), MOST_OF_KEY)]
+
+    def add_key(self, key: Typed) -> None:
+        """A key is typed, which types something else in each pane."""
+        self.keys.append(key)
 
     def settle(self, is_last: bool = False) -> None:
         """Types the keys that were typed; while it isn't told where the focus is they wait, but for the last time to wait."""
