@@ -130,8 +130,9 @@ class Synchronizing:
         """Types the keys that were typed; while it isn't told where the focus is they wait, but for the last time to wait."""
         if not self.keys:
             return
-        panes, places = self.panes(), self.commands.places()
-        if not panes and places and not is_last:
+        panes = self.panes()
+        may_be_told = self.commands.places() is not None or self.commands.panes.is_awaited()
+        if not panes and may_be_told and not is_last:
             if "synchronize" not in self.loop.due:
                 self.loop.later("synchronize", FOCUS_WAIT, lambda: self.settle(is_last=True))
             return

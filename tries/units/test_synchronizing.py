@@ -95,6 +95,17 @@ class Person(Attached):
         self.commands.fed(b"z\x02o")
         self.assertEqual(self.person.said()[-1:], ["next"])
 
+    def test_awaited(self):
+        """In a window whose panes aren't told yet keys wait until they are."""
+        self.begin(2)
+        self.switch()
+        panes, told = self.person.panes, self.session.places()
+        panes.awaited, panes.place.told = True, None
+        self.commands.fed(b"x")
+        self.assertEqual(self.person.said(), [])
+        self.person.tell(told)
+        self.assertEqual(self.person.said(), ["char 78 ; focus 1 ; char 78 ; focus 2"])
+
     def test_alone(self):
         """One pane has what is typed as ever, and so has one that is zoomed; who only watches types nothing."""
         self.begin(1)
