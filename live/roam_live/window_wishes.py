@@ -72,6 +72,7 @@ LATE = "no window is opened yet: what keeps them is silent"
 DROPPED = "; keys for it are dropped"
 OPENING = "a window is opened; C-c doesn't wait for it"
 NOT_AWAITED = "a window may still come, and isn't waited for"
+SMALL = "a window has {} rows and {} columns at least".format(*LEAST)
 MANY = f"there are {MOST_WINDOWS} windows, and no more"
 
 
@@ -99,6 +100,8 @@ class WindowWishes:
         # Whether a window is being opened, and that takes so long that a person was told; and what is typed for it.
         self.is_opening = self.is_late = False
         self.held: list[Key] = []
+        # What opens one, and wasn't said yet, since the keeper isn't connected: it may be soon, as where it was launched just before.
+        self.unsaid = ""
         self.link = WindowsLink(self.path, loop, self.take, self.told.begin, self.lose)
 
     def path(self) -> str:
@@ -144,6 +147,9 @@ class WindowWishes:
 
     def take(self, lines: list[str]) -> None:
         """Takes what the keeper told."""
+        if self.unsaid:
+            self.link.ask(self.unsaid)
+            self.unsaid = ""
         for line in lines:
             opened = OPENED.fullmatch(line)
             if opened:
@@ -158,7 +164,7 @@ class WindowWishes:
 
     def lose(self) -> None:
         """Goes on with what was told: the windows are told anew once the connection is there again."""
-        if self.is_opening:
+        if self.is_opening and not self.unsaid:
             self.end_opening(NOBODY)
 
     def show(self) -> None:
@@ -264,15 +270,19 @@ class WindowWishes:
 
     def open(self) -> None:
         """Has a window be opened, of the size that this terminal shows all of."""
-        size = self.front.display.room()
-        if not is_large_enough(size):
-            self.front.display.tell("a window has {} rows and {} columns at least".format(*LEAST), SAID)
-        elif len(self.numbers()) >= MOST_WINDOWS:
-            self.front.display.tell(MANY, SAID)
-        elif self.say("open {} {}".format(*largest(size))):
-            self.is_opening = True
-            self.loop.later("window opens", OPENS, lambda: self.end_opening(LATE))
-            self.loop.later("window waits", TAKES_LONG, self.tell_late)
+        size, self.is_opening = self.front.display.room(), True
+        why = SMALL if not is_large_enough(size) else MANY if len(self.numbers()) >= MOST_WINDOWS else ""
+        if why:
+            # What stands behind in the same read was for it too.
+            self.loop.later("window opens", 0.0, lambda: self.end_opening(why))
+            return
+        line = "open {} {}".format(*largest(size))
+        if self.link.peer:
+            self.link.ask(line)
+        else:
+            self.unsaid = line
+        self.loop.later("window opens", OPENS, lambda: self.end_opening(LATE))
+        self.loop.later("window waits", TAKES_LONG, self.tell_late)
 
     def tell_late(self) -> None:
         """Tells that a window takes long, and what doesn't wait for it."""
@@ -305,7 +315,7 @@ class WindowWishes:
         for name in ("window opens", "window waits"):
             self.loop.drop(name)
         was_told = self.front.display.told == OPENING
-        dropped, self.held = self.held, []
+        dropped, self.held, self.unsaid = self.held, [], ""
         self.is_opening = self.is_late = False
         if [key.name for key in dropped if key.name in ("paste", "pasted")][-1:] == ["paste"]:
             # What comes of it still isn't typed either.

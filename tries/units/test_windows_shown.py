@@ -10,7 +10,7 @@ from roam_live.front_end import FrontEnd
 from roam_live.keys import acts_of_bytes
 from roam_live.program import Fault
 from roam_live.choosing import WINDOWS_LINE
-from roam_live.window_wishes import DROPPED, EARLIER, FAR, LATE, NOT_AWAITED, OPENING, OPENS, TAKES_LONG
+from roam_live.window_wishes import DROPPED, EARLIER, FAR, LATE, NOT_AWAITED, OPENING, OPENS, SMALL, TAKES_LONG
 from test_display import PlayedPanes, painting, places
 from test_front_end import AnySession
 
@@ -345,6 +345,33 @@ class Opened(Windows):
         self.tell("window 3 -", "opened 3")
         self.type(b"e\x1b[201~b")
         self.assertEqual(self.typed, {1: "b", 2: "", 3: "aoneb"})
+
+    def test_keeper_comes(self):
+        """A keeper that isn't connected yet is asked once it is, and nothing that was typed for the window goes elsewhere."""
+        self.front.windows.link.lost("not there")
+        self.turn()
+        self.type(b"\x02cab")
+        self.assertEqual(self.typed[1], "")
+        self.now += 0.2
+        self.turn()
+        peer = self.keepers[-1][0]
+        self.assertEqual(read_now(peer), b"windows\n")
+        self.send(peer, b"window 1 -\nwindow 2 -\nwindows 2\n")
+        self.turn()
+        self.assertEqual(read_now(peer), b"open 24 80\n")
+        self.add(3)
+        self.send(peer, b"window 3 -\nopened 3\n")
+        self.turn()
+        self.assertEqual(self.typed, {1: "", 2: "", 3: "ab"})
+
+    def test_no_room(self):
+        """Where one can't be asked for either what stands behind in the same read is dropped, and what is typed later isn't."""
+        terminal.set_size(0, 3, 80)
+        self.type(b"\x02cab")
+        self.turn()
+        self.assertEqual((self.typed[1], self.front.display.told), ("", SMALL + DROPPED))
+        self.type(b"c")
+        self.assertEqual(self.typed[1], "c")
 
     def test_keeper_ends(self):
         """So does the end of the keeper."""
