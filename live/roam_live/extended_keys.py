@@ -1,5 +1,5 @@
-"""Keys that a terminal tells with all that is held, where it can (xterm, modifyOtherKeys): how it is asked for that, how it tells them, what
-it sent for each before, and in which form a pane's program is sent them that asked for the same."""
+"""Keys that a terminal tells with all that is held, where it can (xterm, modifyOtherKeys): how it is asked for that, how it tells them,
+what it sent for each before, and in which form a pane's program is sent them that asked for the same."""
 from __future__ import annotations
 
 import re
@@ -24,6 +24,9 @@ FORM = re.compile(r"\x1b\[27;(\d{1,3});(\d{1,7})~|\x1b\[(\d{1,7});(\d{1,3})u", r
 ENTER, TAB, ESCAPE, SPACE = 13, 9, 27, 32
 BACKSPACES = (8, 127)
 NAMES = {ENTER: "enter", TAB: "tab", ESCAPE: "escape", SPACE: "space", **{code: "bspace" for code in BACKSPACES}}
+# What Ctrl makes of some characters.
+CONTROLLED = {"2": "\0", "3": "\x1b", "4": "\x1c", "5": "\x1d", "6": "\x1e", "7": "\x1f", "8": "\x7f", "/": "\x1f", "?": "\x7f"}
+
 BACK_TAB = "\x1b[Z"
 
 # Which modes of a pane's program tell that it asked for them: for those that nothing else tells, or for all.
@@ -77,7 +80,7 @@ def controlled(letter: str) -> str:
     code = ord(letter)
     if 0x40 <= code < 0x7F or letter == " ":
         return chr(code & 0x1F)
-    return {"2": "\0", "3": "\x1b", "4": "\x1c", "5": "\x1d", "6": "\x1e", "7": "\x1f", "8": "\x7f", "/": "\x1f", "?": "\x7f"}.get(letter, letter)
+    return CONTROLLED.get(letter, letter)
 
 
 def extended_key(text: str) -> ExtendedKey | None:

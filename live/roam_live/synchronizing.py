@@ -1,5 +1,5 @@
-"""Keys that a person types to all panes of a window at once: each pane gets the focus for them, in one line of acts, and the pane that had it
-gets it back."""
+"""Keys that a person types to all panes of a window at once: each pane gets the focus for them, in one line of acts, and the pane that
+had it gets it back."""
 from __future__ import annotations
 
 from collections.abc import Callable

@@ -63,7 +63,7 @@ KNOWN = {
     ("roam_live/display.py", "Display.take_painting", "RESET"): BEGIN,
     **{("roam_live/extended_keys.py", name, "ESC"): TYPED for name in ("ANSWER", "BEGIN", "FORM")},
     **{("roam_live/extended_keys.py", name, "re"): TYPED for name in ("ANSWER", "FORM")},
-    **{("roam_live/extended_keys.py", name, "ESC"): KEY_NAMES for name in ("BACK_TAB", "ExtendedKey.form", "controlled")},
+    **{("roam_live/extended_keys.py", name, "ESC"): KEY_NAMES for name in ("BACK_TAB", "CONTROLLED", "ExtendedKey.form")},
     ("roam_live/extended_keys.py", "", "ESC"): WRITES,
     ("roam_live/extended_keys.py", "given_back", "ESC"): WRITES,
     ("roam_live/far_windows.py", "LED", "re"): LINES,

@@ -41,7 +41,7 @@ class Forms(unittest.TestCase):
     """Sequences as keys."""
 
     def test_keys(self):
-        """Each has its names and is what it was; who asked for all has it in its form, and who asked for some where nothing else tells it."""
+        """Each has its names and is what it was; who asked for all has it in its form, who asked for some where nothing else tells it."""
         for form, names, text, is_some in KEYS:
             key = key_of(told(form))
             self.assertEqual((names_of_key(key), key.text), (names, text), form)
@@ -69,7 +69,8 @@ class Forms(unittest.TestCase):
 
     def test_cut(self):
         """Keys and answers among what is typed are the same wherever they are cut, and no part of an answer is ever typed."""
-        chance, parts = random.Random(9), [told(form) for form, *_ in KEYS] + [text for text, _ in ANSWERS] + ["a", "é", "\x1b[A", "\x1b[<0;1;1M"]
+        chance = random.Random(9)
+        parts = [*(told(form) for form, *_ in KEYS), *(text for text, _ in ANSWERS), "a", "é", "\x1b[A", "\x1b[<0;1;1M"]
         for _ in range(150):
             text = "".join(chance.choice(parts) for _ in range(8)).encode()
             cuts, keys, bytewise = sorted(chance.sample(range(len(text)), 5)), Keys(), Keys()
@@ -98,7 +99,7 @@ class Bound(unittest.TestCase):
     """Keys of a person's own."""
 
     def test_bound(self):
-        """A key is bound by its own name, else by that of the key that it was; with Meta also where a terminal sends an escape before it."""
+        """A key is bound by its own name, else by that of the key that it was; with Meta also where an escape stands before it."""
         own = {("root", name): Binding([["next-window"]], False) for name in ("C-tab", "enter", "M-h", "C-M-a")}
         for text, name in ((told("27;5;9"), "C-tab"), ("\t", ""), (told("27;2;13"), "enter"), ("\x1bh", "M-h"), (told("27;3;104"), "M-h"),
                            ("\x1b\x01", "C-M-a"), (told("27;7;97"), "C-M-a"), ("\x1bj", ""), ("\x1b", "")):
@@ -130,7 +131,7 @@ class Typed(Attached):
     """What is typed in panes."""
 
     def test_typed(self):
-        """A pane's program that asked for such keys has them, and another in the same session as ever, also where all panes are typed in."""
+        """A pane's program that asked for such keys has them, and another in the session as ever, also where all panes are typed in."""
         session = Lived()
         session.do("split right")
         self.attach(session)
