@@ -4,6 +4,7 @@ from __future__ import annotations
 
 import os
 
+from roam_live.choices import wants_extended_keys
 from roam_live.extended_keys import QUERY, WANTED, answered, given_back
 from roam_live.mouse import ASKED, OFF
 from roam_live.program import write
@@ -103,8 +104,8 @@ class GivenAside:
     def keys_asked(self, is_first: bool = False) -> bytes:
         """What is written where it is to tell keys with all that is held; the first time it is asked how it told them before. What takes
         this for something else has its style set behind it."""
-        self.has_keys = self.is_able
-        return QUERY * is_first + WANTED if self.is_able else b""
+        self.has_keys = self.is_able and wants_extended_keys()
+        return QUERY * is_first + WANTED if self.has_keys else b""
 
     def take_answer(self, text: str) -> None:
         """Takes what it answers of how it told keys: the first answer, since another is to none that was asked."""

@@ -4,6 +4,7 @@ from collections import deque
 from unittest import mock
 
 from aids import Case
+from roam_live import choices
 from roam_live.bindings import BINDINGS, BORDERS, WISHES, Typing
 from roam_live.command_runner import CommandLine, CommandRunner
 from roam_live.command_table import BY_NAME, TABLE, BadCommand, asked_by, completed
@@ -119,6 +120,20 @@ class Line(Case):
         line.text = "next; ren"
         line.edit("\t")
         self.assertEqual((line.text, line.line()), ("next; rename", ":next; rename"))
+
+    def test_synchronized(self):
+        """Whether keys go to all panes is switched in the window, where it is another than it is; no other window has it then."""
+        for was_on, line, is_switched in ((False, "setw synchronize-panes on", True), (True, "setw synchronize-panes on", False),
+                                          (True, "setw synchronize-panes off", True), (True, "set -w synchronize-panes", True),
+                                          (False, "setw synchronize-panes", True), (True, "setw -u synchronize-panes", True),
+                                          (False, "synchronize-panes", True)):
+            self.commands.reset_mock()
+            self.commands.synchronizing.is_on.return_value = was_on
+            self.runner.typed(line)
+            self.assertEqual([one.args[0] for one in self.commands.grant.call_args_list], ["synchronize"] * is_switched, line)
+            self.assertNotIn("synchronize-panes", choices.BY_FILE)
+        self.runner.typed("setw synchronize-panes perhaps")
+        self.commands.display.tell.assert_called_with("synchronize-panes is 'perhaps', and may be on or off", 4.0)
 
     def test_done(self):
         """Commands are done in order, up to one that can't be."""

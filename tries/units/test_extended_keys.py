@@ -5,6 +5,7 @@ import unittest
 from lived import Attached, Lived
 from roam_live.asides import GivenAside
 from roam_live.bindings import Typing
+from roam_live.choices import choose_by_file
 from roam_live.extended_keys import ANSWERED, BACK_TAB, QUERY, WANTED, answered, extended_key, form_for
 from roam_live.key_names import named, named_key, names_of_key
 from roam_live.keys import Key, Keys, acts_of, key_of
@@ -123,6 +124,10 @@ class Given(unittest.TestCase):
             aside.take_answer("\x1b[>4;3m") if answer else None
             self.assertEqual((aside.taken_back(), aside.taken_back()), (back, b""))
             self.assertEqual((aside.keys_asked(), aside.taken_back()), (WANTED, back))
+        choose_by_file({"extended-keys": "off"})
+        self.addCleanup(choose_by_file, {})
+        self.assertEqual((aside.keys_asked(is_first=True), aside.taken_back()), (b"", b""))
+        choose_by_file({})
         aside.is_able = False
         self.assertEqual((aside.keys_asked(is_first=True), aside.taken_back()), (b"", b""))
 
