@@ -222,7 +222,9 @@ class Commands:
             self.pastes.begin(NO_ANSWER if before == self.typing.answering else "")
 
     def is_full(self) -> bool:
-        """Whether so much waits behind a paste, or for rows, that nothing more is to come."""
+        """Whether so much waits behind a paste, for rows or for the focus, that nothing more is to come."""
+        if self.synchronizing.is_full():
+            return True
         return self.pastes.is_full() or self.copying.is_full() or self.windows is not None and self.windows.is_full()
 
     def unpasted(self) -> str:

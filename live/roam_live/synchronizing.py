@@ -27,6 +27,9 @@ MOST_OF_KEY = 16
 # For so many seconds keys wait until it is told which pane is in focus, behind a command that moves the focus.
 FOCUS_WAIT = 1.0
 
+# So many of them wait then before no more is read.
+MOST_KEYS = 1 << 16
+
 # So many seconds a line stands that tells what is so from now on.
 TOLD = 2.0
 OFF = "keys go to the pane in focus"
@@ -117,6 +120,10 @@ class Synchronizing:
         if not panes:
             self.commands.display.tell(ALONE.format("where the panes are isn't told"), TOLD)
         return panes if len(panes) > 1 else []
+
+    def is_full(self) -> bool:
+        """Whether so many keys wait that nothing more is to come."""
+        return len(self.keys) >= MOST_KEYS
 
     def add(self, acts: list[str]) -> None:
         """Acts of a key are typed, or of many."""

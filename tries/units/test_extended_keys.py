@@ -72,7 +72,7 @@ class Forms(unittest.TestCase):
         """Keys and answers among what is typed are the same wherever they are cut, and no part of an answer is ever typed."""
         chance = random.Random(9)
         parts = [*(told(form) for form, *_ in KEYS), *(text for text, _ in ANSWERS), "a", "é", "\x1b[A", "\x1b[<0;1;1M"]
-        for _ in range(150):
+        for _ in range(60):
             text = "".join(chance.choice(parts) for _ in range(8)).encode()
             cuts, keys, bytewise = sorted(chance.sample(range(len(text)), 5)), Keys(), Keys()
             pieces = [text[begin:end] for begin, end in zip([0, *cuts], [*cuts, len(text)])]

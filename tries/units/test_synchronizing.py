@@ -3,6 +3,7 @@ import random
 import unittest
 
 from lived import Attached, Lived
+from roam_live import synchronizing
 from roam_live.links import MOST_ACTS
 from roam_live.synchronizing import FOCUS_WAIT, lines_of
 
@@ -28,7 +29,7 @@ class Lines(unittest.TestCase):
         """Each pane has all keys in their order, the focus is back behind each line, and no line has more acts than may be."""
         chance = random.Random(5)
         for count in range(2, 10):
-            for _ in range(20):
+            for _ in range(8):
                 panes = chance.sample(range(1, 10), count)
                 keys = [[f"char {chance.randint(97, 122):x}"] * chance.choice((1, 1, 1, 6, 16)) for _ in range(chance.randint(1, 12))]
                 lines = lines_of(panes, [lambda pane, key=key: key for key in keys])
@@ -102,9 +103,11 @@ class Person(Attached):
         panes, told = self.person.panes, self.session.places()
         panes.awaited, panes.place.told = True, None
         self.commands.fed(b"x")
-        self.assertEqual(self.person.said(), [])
+        self.assertEqual((self.person.said(), self.commands.is_full()), ([], False))
+        self.patch_of(synchronizing, "MOST_KEYS", 1)
+        self.assertTrue(self.commands.is_full())
         self.person.tell(told)
-        self.assertEqual(self.person.said(), ["char 78 ; focus 1 ; char 78 ; focus 2"])
+        self.assertEqual((self.person.said(), self.commands.is_full()), (["char 78 ; focus 1 ; char 78 ; focus 2"], False))
 
     def test_alone(self):
         """One pane has what is typed as ever, and so has one that is zoomed; who only watches types nothing."""
