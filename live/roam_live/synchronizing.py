@@ -7,7 +7,6 @@ from functools import partial
 
 from roam_live.choices import text_of
 from roam_live.last_row import ALL_PANES
-from roam_live.links import MOST_ACTS
 from roam_live.loops import Loop
 
 TYPE_CHECKING = False
@@ -23,6 +22,13 @@ OPTION = "synchronize-panes"
 
 # So many acts are typed in one line: a key has no more.
 MOST_OF_KEY = 16
+
+# So many acts stand in one line at most: each change of the focus takes a session long, so that keys go together where they can.
+MOST_ACTS = 64
+
+# So many acts are on their way before keys wait to go together, and it is looked again so many seconds later.
+ON_THEIR_WAY = 32
+AGAIN = 0.01
 
 # For so many seconds keys wait until it is told which pane is in focus, behind a command that moves the focus.
 FOCUS_WAIT = 1.0
@@ -142,6 +148,9 @@ class Synchronizing:
         if not panes and may_be_told and not is_last:
             if "synchronize" not in self.loop.due:
                 self.loop.later("synchronize", FOCUS_WAIT, lambda: self.settle(is_last=True))
+            return
+        if panes and not is_last and self.commands.link.untaken() * 2 * len(panes) > ON_THEIR_WAY:
+            self.loop.later("synchronize", AGAIN, self.settle)
             return
         self.loop.drop("synchronize")
         keys, self.keys = self.keys, []

@@ -4,8 +4,7 @@ import unittest
 
 from lived import Attached, Lived
 from roam_live import synchronizing
-from roam_live.links import MOST_ACTS
-from roam_live.synchronizing import FOCUS_WAIT, lines_of
+from roam_live.synchronizing import AGAIN, FOCUS_WAIT, MOST_ACTS, lines_of
 
 
 def typed_in(lines, focus):
@@ -40,7 +39,7 @@ class Lines(unittest.TestCase):
 
     def test_one_line(self):
         """A key goes to nine panes in one line, and several to two."""
-        for panes, count, lines in ((range(1, 10), 1, 1), (range(1, 10), 2, 1), ((2, 1), 15, 1), ((2, 1), 16, 2)):
+        for panes, count, lines in ((range(1, 10), 1, 1), (range(1, 10), 6, 1), (range(1, 10), 7, 2), ((2, 1), 31, 1), ((2, 1), 32, 2)):
             self.assertEqual(len(lines_of(list(panes), [lambda pane: ["char 61"]] * count)), lines, (panes, count))
 
 
@@ -95,6 +94,19 @@ class Person(Attached):
         self.assertEqual(self.person.said(), ["next", "char 79"])
         self.commands.fed(b"z\x02o")
         self.assertEqual(self.person.said()[-1:], ["next"])
+
+    def test_together(self):
+        """While much is on its way keys wait, and go together then."""
+        self.begin(2)
+        self.switch()
+        self.commands.link.has_taken = False
+        for letter in (b"a", b"b"):
+            self.commands.fed(letter)
+        self.assertEqual(self.person.said(), [])
+        self.commands.link.has_taken = True
+        self.now += AGAIN
+        self.person.loop.turn()
+        self.assertEqual(self.person.said(), ["char 61 ; char 62 ; focus 1 ; char 61 ; char 62 ; focus 2"])
 
     def test_awaited(self):
         """In a window whose panes aren't told yet keys wait until they are."""
