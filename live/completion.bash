@@ -11,8 +11,10 @@ _roam_mux_windows() {
     "${@:2}" list-windows "$1" 2> /dev/null | while read -r number _; do echo "$number"; done
 }
 
-_roam_mux_words="attach new ls list list-windows new-window rename-window clients watch kill send paste capture log buffer env settings ssh help --help
+_roam_mux_words="attach new ls list list-windows new-window rename-window clients watch kill send paste capture log buffer env cmd settings ssh help --help
     --version"
+
+_roam_commands="choose-buffer choose-tree choose-window command-prompt copy-mode detach detach-client display display-message display-panes displayp kill-pane kill-window killp killw last last-pane last-window lastp list-keys lsk new-window neww next next-layout next-window nextl paste-buffer pasteb prev previous-window refresh refresh-client rename-window renamew resize-pane resizep run run-shell select-layout select-pane select-window selectl selectp selectw send send-keys send-prefix set set-option set-window-option setw source source-file split-window splitw suspend-client suspendc synchronize-panes toggle-mouse toggle-status"
 
 # The acts that a client types, a line each; a number, a size or a character is left to the person.
 _roam_acts() {
@@ -51,6 +53,11 @@ _roam_mux() {
         fi
         return
     fi
+    # Behind cmd stand a session and a command.
+    if [ "${COMP_WORDS[first]}" = cmd ] && [ "$COMP_CWORD" -eq "$((first + 2))" ]; then
+        mapfile -t COMPREPLY < <(compgen -W "$_roam_commands" -- "$word")
+        return
+    fi
     # Behind buffer stand what is done, and a session.
     if [ "${COMP_WORDS[first]}" = buffer ] && [ "$COMP_CWORD" -gt "$((first + 1))" ]; then
         [ "$COMP_CWORD" -gt "$((first + 2))" ] || words=$(_roam_mux_names "${mux[@]}")
@@ -64,7 +71,7 @@ _roam_mux() {
     :) words=$(_roam_mux_windows "${COMP_WORDS[COMP_CWORD - 2]}" "${mux[@]}") ;;
     new-window) words="-n --help $(_roam_mux_names "${mux[@]}")" ;;
     -n) words= ;;
-    watch | env | list-windows | rename-window | clients) words="--help $(_roam_mux_names "${mux[@]}")" ;;
+    watch | env | cmd | list-windows | rename-window | clients) words="--help $(_roam_mux_names "${mux[@]}")" ;;
     send) words="-l --help $(_roam_mux_names "${mux[@]}")" ;;
     paste) words="--raw --help $(_roam_mux_names "${mux[@]}")" ;;
     kill) words="-f --help $(_roam_mux_names "${mux[@]}")" ;;

@@ -2,7 +2,8 @@
 from __future__ import annotations
 
 from roam_live.choices import PREFIX, PREFIXES
-from roam_live.key_names import name_of_key, names_of_key
+from roam_live.command_table import DEFAULT_KEYS, asked_by
+from roam_live.key_names import name_of_key, named, named_key, names_of_key, typed_name
 from roam_live.keys import Key, acts_of
 
 TYPE_CHECKING = False
@@ -15,15 +16,12 @@ if TYPE_CHECKING:
 
     from roam_live.settings import Binding
 
-# Keys after the prefix that are acts, and those that are wishes. An arrow is the wish to have the pane there in focus.
-BINDINGS = {"o": "next"}
-WISHES = {"%": "split right", '"': "split down", "x": "close", "d": "detach", "r": "repaint", "?": "help", "up": "up", "down": "down",
-          "left": "left", "right": "right", "\x1a": "suspend", "m": "mouse", "[": "copy", "prev": "copy page", "/": "copy search",
-          "]": "paste", "=": "choose", "z": "zoom", " ": "even", ";": "last", "c": "window new", "w": "window list", ",": "window name",
-          "&": "window shut", "n": "go next", "p": "go previous", "l": "go last", "'": "go asked",
-          **{str(digit): f"go {digit or 10}" for digit in range(10)}, "q": "panes", "t": "row", "D": "leave others", "R": "settings",
-          ":": "command line"}
-BORDERS = {"C-right": "border right", "C-down": "border down", "C-left": "border left", "C-up": "border up"}
+# What the keys behind the prefix ask for where nobody bound them otherwise, by the table of commands: acts, or wishes, of which some move
+# borders. An arrow is the wish to have the pane there in focus.
+DEFAULTS = {typed_name(named(key)): asked_by(words.split(" ")) for name, words in DEFAULT_KEYS.items() if (key := named_key(name))}
+BINDINGS = {key: asked.acts[0] for key, asked in DEFAULTS.items() if asked.acts}
+BORDERS = {key: asked.wish for key, asked in DEFAULTS.items() if asked.wish.startswith("border")}
+WISHES = {key: asked.wish for key, asked in DEFAULTS.items() if key not in BINDINGS and key not in BORDERS}
 
 ESCAPE = "\x1b"
 

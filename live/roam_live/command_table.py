@@ -15,6 +15,10 @@ if TYPE_CHECKING:
 MOST_WORDS, LONGEST_TEXT = 100, 1000
 
 
+# Where a new pane or window begins in any case.
+HERE = "#{pane_current_path}"
+
+
 class BadCommand(Exception):
     """What a command says can't be done; why, in words."""
 
@@ -44,6 +48,8 @@ class Flags:
                 if flag in valued:
                     break
         self.words = rest[1:] if rest[:1] == ["--"] else rest
+        if self.found.get("c", HERE) != HERE:
+            raise BadCommand(f"-c has {HERE} alone here")
 
     def has(self, flag: str) -> bool:
         """Whether a flag stands there."""
@@ -129,24 +135,24 @@ def texted(word: str, is_needed: bool = True) -> Callable[[Flags], CommandWish]:
     return read
 
 
-# All of them. Flags that ask for what is so in roam anyway, as a folder of a new pane, are passed over.
+# All of them. A flag that asks for what is so in roam anyway is passed over, and any other is refused: another pane would be meant.
 TABLE = (
-    NamedCommand(("new-window", "neww"), "ac:n:dt:", wish("window new"), "opens a window"),
-    NamedCommand(("kill-window", "killw"), "at:", wish("window shut"), "shuts the window"),
-    NamedCommand(("rename-window", "renamew"), "t:", texted("window name", is_needed=False), "names the window"),
-    NamedCommand(("next-window", "next"), "a", wish("go next"), "goes to the next window"),
-    NamedCommand(("previous-window", "prev"), "a", wish("go previous"), "goes to the window before"),
+    NamedCommand(("new-window", "neww"), "c:", wish("window new"), "opens a window"),
+    NamedCommand(("kill-window", "killw"), "", wish("window shut"), "shuts the window"),
+    NamedCommand(("rename-window", "renamew"), "", texted("window name", is_needed=False), "names the window"),
+    NamedCommand(("next-window", "next"), "", wish("go next"), "goes to the next window"),
+    NamedCommand(("previous-window", "prev"), "", wish("go previous"), "goes to the window before"),
     NamedCommand(("last-window", "last"), "", wish("go last"), "goes to the window where one was before"),
     NamedCommand(("select-window", "selectw"), "t:npl", window_of, "goes to a window, by its number"),
     NamedCommand(("choose-window", "choose-tree"), "swZG", wish("window list"), "chooses a window from a list"),
-    NamedCommand(("split-window", "splitw"), "hvc:t:", by_flag({"h": "split right", "v": "split down"}, "split down"), "splits the pane"),
-    NamedCommand(("kill-pane", "killp"), "t:", wish("close"), "closes the pane"),
+    NamedCommand(("split-window", "splitw"), "hvc:", by_flag({"h": "split right", "v": "split down"}, "split down"), "splits the pane"),
+    NamedCommand(("kill-pane", "killp"), "", wish("close"), "closes the pane"),
     NamedCommand(("select-pane", "selectp"), "LRUDlt:", pane_of, "puts another pane in focus"),
     NamedCommand(("last-pane", "lastp"), "", wish("last"), "puts the pane in focus that was before"),
     NamedCommand(("display-panes", "displayp"), "b", wish("panes"), "has a digit be a pane's"),
-    NamedCommand(("resize-pane", "resizep"), "LRUDZt:", sized, "zooms the pane, or moves one of its borders"),
-    NamedCommand(("select-layout", "selectl", "next-layout", "nextl"), "Enopt:", lambda flags: CommandWish([], "even", ""), "gives even shares"),
-    NamedCommand(("copy-mode",), "ue", by_flag({"u": "copy page"}, "copy"), "enters copy mode"),
+    NamedCommand(("resize-pane", "resizep"), "LRUDZ", sized, "zooms the pane, or moves one of its borders"),
+    NamedCommand(("select-layout", "selectl", "next-layout", "nextl"), "Enop", lambda flags: CommandWish([], "even", ""), "gives even shares"),
+    NamedCommand(("copy-mode",), "ues", by_flag({"u": "copy page", "s": "copy search"}, "copy"), "enters copy mode, a page back, or with a search"),
     NamedCommand(("paste-buffer", "pasteb"), "p", wish("paste"), "pastes what was copied last"),
     NamedCommand(("choose-buffer",), "Z", wish("choose"), "chooses what is pasted"),
     NamedCommand(("detach-client", "detach"), "a", by_flag({"a": "leave others"}, "detach"), "detaches this terminal, or all others"),
@@ -164,6 +170,17 @@ TABLE = (
     NamedCommand(("toggle-status",), "", wish("row"), "hides the last row, or shows it"),
     NamedCommand(("synchronize-panes",), "", wish("synchronize"), "has keys go to all panes of the window, or not"),
 )
+# What keys ask for behind the prefix where nobody bound them otherwise.
+DEFAULT_KEYS = {
+    "%": "split-window -h", '"': "split-window -v", "x": "kill-pane", "o": "select-pane -t :.+", ";": "last-pane", "q": "display-panes",
+    "Up": "select-pane -U", "Down": "select-pane -D", "Left": "select-pane -L", "Right": "select-pane -R", "z": "resize-pane -Z",
+    "C-Up": "resize-pane -U", "C-Down": "resize-pane -D", "C-Left": "resize-pane -L", "C-Right": "resize-pane -R", "Space": "select-layout",
+    "c": "new-window", "n": "next-window", "p": "previous-window", "l": "last-window", "w": "choose-window", ",": "rename-window",
+    "&": "kill-window", "'": "select-window", **{str(number % 10): f"select-window -t {number}" for number in range(1, 11)},
+    "[": "copy-mode", "PPage": "copy-mode -u", "/": "copy-mode -s", "]": "paste-buffer", "=": "choose-buffer", "d": "detach-client",
+    "D": "detach-client -a", "C-z": "suspend-client", "r": "refresh-client", "m": "toggle-mouse", "t": "toggle-status", "R": "source-file",
+    ":": "command-prompt", "?": "list-keys",
+}
 BY_NAME = {name: command for command in TABLE for name in command.names}
 
 

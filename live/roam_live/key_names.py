@@ -129,6 +129,14 @@ def names_of_key(key: Key) -> list[str]:
     return list(dict.fromkeys(filter(None, [*told, name_of_key(key)])))
 
 
+def typed_name(name: str) -> str:
+    """What a key is called where it comes from a terminal, by its name here."""
+    if name in OWN:
+        return OWN[name]
+    controls = {known: letter for letter, known in CONTROLS.items()}
+    return controls.get(name) or (chr(ord(name[2].upper()) & 0x1F) if len(name) == 3 and name.startswith("C-") else name)
+
+
 def name_of_key(key: Key) -> str:
     """The name of a key as most terminals tell it; nothing of one that has none here."""
     if key.name in TYPED_NAMES:

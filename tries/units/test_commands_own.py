@@ -1,32 +1,25 @@
 """Commands in tmux's words, keys that a person has bound, and the command line."""
+import pathlib
+import subprocess
 import unittest
 from collections import deque
 from unittest import mock
 
 from aids import Case
 from roam_live import choices
-from roam_live.bindings import BINDINGS, BORDERS, WISHES, Typing
+from roam_live.bindings import BINDINGS, BORDERS, HELP, WISHES, Typing
 from roam_live.command_runner import CommandLine, CommandRunner
-from roam_live.command_table import BY_NAME, TABLE, BadCommand, asked_by, completed
+from roam_live.command_table import DEFAULT_KEYS, BadCommand, asked_by, completed
 from roam_live.key_names import name_of_key
 from roam_live.keys import Keys
 from roam_live.loops import Loop
 from roam_live.settings import Binding
 
-# The command that each key behind the prefix stands for, as tmux has it; roam's own have a name of roam's.
-DEFAULTS = {
-    "%": "split-window -h", '"': "split-window -v", "x": "kill-pane", "d": "detach-client", "D": "detach-client -a", "r": "refresh-client",
-    "?": "list-keys", "up": "select-pane -U", "down": "select-pane -D", "left": "select-pane -L", "right": "select-pane -R",
-    "\x1a": "suspend-client", "m": "toggle-mouse", "[": "copy-mode", "prev": "copy-mode -u", "]": "paste-buffer", "=": "choose-buffer",
-    "z": "resize-pane -Z", " ": "next-layout", ";": "last-pane", "c": "new-window", "w": "choose-window", ",": "rename-window",
-    "&": "kill-window", "n": "next-window", "p": "previous-window", "l": "last-window", "q": "display-panes", "t": "toggle-status",
-    "'": "select-window", "R": "source-file", ":": "command-prompt", "C-up": "resize-pane -U", "C-down": "resize-pane -D", "C-left": "resize-pane -L",
-    "C-right": "resize-pane -R", **{str(number % 10): f"select-window -t {number}" for number in range(1, 11)},
-}
+TOP = pathlib.Path(__file__).resolve().parents[2]
 
 # Words, and what they ask for: acts, a wish, and a text.
 ASKED = (
-    ("splitw -h", [], "split right", ""), ("splitw", [], "split down", ""), ("split-window -v -c /tmp", [], "split down", ""),
+    ("splitw -h", [], "split right", ""), ("splitw", [], "split down", ""), ("split-window -v -c #{pane_current_path}", [], "split down", ""),
     ("select-pane -t 3", ["focus 3"], "", ""), ("select-pane -t :.+", ["next"], "", ""), ("selectp -t :.2", ["focus 2"], "", ""),
     ("selectw -t :3", [], "go 3", ""), ("select-window -t +", [], "go next", ""), ("select-window -n", [], "go next", ""),
     ("resizep -L 5", [], "border left", "5"), ("resizep -D", [], "border down", "1"), ("selectl even-horizontal", [], "even", ""),
@@ -34,7 +27,8 @@ ASKED = (
     ("display hello there", [], "tell", "hello there"), ("run -b ls", [], "run", "ls"), ("renamew", [], "window name", ""),
     ("rename-window my own", [], "window name", "my own"), ("send-prefix", [], "prefix", ""),
 )
-WRONG = (("nosuch", "nosuch is no command of roam"), ("splitw -Q", "splitw: it has no -Q here"), ("selectw -t 100", "selectw: 100 is no number from 1 to 99"),
+WRONG = (("kill-pane -t 3", "kill-pane: it has no -t here"), ("killw -a", "killw: it has no -a here"),
+         ("neww -c /tmp", "neww: -c has #{pane_current_path} alone here"), ("nosuch", "nosuch is no command of roam"), ("splitw -Q", "splitw: it has no -Q here"), ("selectw -t 100", "selectw: 100 is no number from 1 to 99"),
          ("selectp -t 0", "selectp: 0 is no number from 1 to 9"), ("resizep", "resizep: it has -L, -R, -U, -D or -Z"), ("killp x", "killp: it has no word x"),
          ("display", "display: it has a text behind it"), ("\x1b[2J", "?[2J is no command of roam"))
 
@@ -59,12 +53,21 @@ class Table(unittest.TestCase):
             self.assertEqual(str(raised.exception), why)
 
     def test_defaults(self):
-        """Each key behind the prefix stands for a command: the one that asks for the same."""
-        wishes = {**WISHES, **BORDERS}
-        self.assertEqual(set(DEFAULTS), set(wishes) - {"/"})
-        for key, words in DEFAULTS.items():
-            self.assertEqual(asked_by(words.split(" ")).wish, wishes[key], key)
-        self.assertEqual((asked_by(["select-pane", "-t", ":.+"]).acts, len(BY_NAME)), ([BINDINGS["o"]], sum(len(one.names) for one in TABLE)))
+        """Each key behind the prefix stands for a command, and the help has it."""
+        wishes = {**WISHES, **BORDERS, **BINDINGS}
+        self.assertEqual(len(wishes), len(DEFAULT_KEYS))
+        self.assertEqual((wishes["%"], wishes["up"], wishes["prev"], wishes[" "], wishes["\x1a"], wishes["C-left"], wishes["o"], wishes["0"], wishes["/"]),
+                         ("split right", "up", "copy page", "even", "suspend", "border left", "next", "go 10", "copy search"))
+        left = " ".join(line[:11] for line in HELP.split("\n")) + " q and a digit arrows C-arrows [ PgUp /  1 to 9 0 '"
+        for name in DEFAULT_KEYS:
+            told = {"PPage": "PgUp", **{side: "arrows" for side in ("Up", "Down", "Left", "Right")}}.get(name, name)
+            told = "C-arrows" if name[:2] == "C-" and name[2:] in ("Up", "Down", "Left", "Right") else "1 to 9" if name.isdigit() and name != "0" else told
+            self.assertIn(told, left.split(" ") if " " not in told else left, name)
+
+    def test_pages(self):
+        """The page of settings and completion have what the table has."""
+        run = subprocess.run([str(TOP / "tools/command_pages"), "--check"], stdout=subprocess.PIPE, check=False)
+        self.assertEqual((run.returncode, run.stdout), (0, b""))
 
     def test_names(self):
         self.assertEqual((completed("ren"), completed("nosuch")), (["rename-window", "renamew"], []))
@@ -81,7 +84,7 @@ class Bound(unittest.TestCase):
 
     def test_rebound(self):
         """Each default key may be bound to another command, and each command to another key."""
-        for key in DEFAULTS:
+        for key in {**WISHES, **BORDERS, **BINDINGS}:
             typed = {"up": "\x1b[A", "down": "\x1b[B", "left": "\x1b[D", "right": "\x1b[C", "prev": "\x1b[5~", "C-up": "\x1b[1;5A",
                      "C-down": "\x1b[1;5B", "C-left": "\x1b[1;5D", "C-right": "\x1b[1;5C"}.get(key, key)
             name = name_of_key(keys_of(typed.encode())[0])
