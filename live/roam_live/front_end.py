@@ -2,6 +2,7 @@
 from __future__ import annotations
 
 import contextlib
+import os
 import signal
 import time
 from collections.abc import Callable
@@ -266,6 +267,8 @@ class FrontEnd:
     def connect(self) -> None:
         """Connects to the start; where that can't be done now it is tried again, and the person may leave."""
         failed = self.keeper.connect()
+        if failed and self.is_window_gone() and self.windows.leave(self.number):
+            return
         if failed:
             wait, said = failed
             self.loop.later("connect", wait, self.connect)
@@ -277,6 +280,11 @@ class FrontEnd:
         if loss:
             self.commands.give_again()
             self.display.tell(loss, LOSS_TOLD)
+
+    def is_window_gone(self) -> bool:
+        """Whether the window where the person is has no folder any more: of another machine's it may be told too late that it is gone."""
+        folder = self.visit.session.folder
+        return bool(self.number and folder and not os.path.isdir(folder))
 
     def show_window(self) -> None:
         """Has a start that is connected paint what is to be shown."""

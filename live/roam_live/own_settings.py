@@ -79,7 +79,10 @@ def default_command() -> list[str]:
 
 def undone(found: FileSettings) -> list[str]:
     """What of a file isn't done, a line each."""
-    return [*found.told, *([f"{found.untold} more lines aren't told"] if found.untold else [])]
+    from roam_live.status_formats import SIDES, unread
+
+    wrong = [line for side in SIDES for line in unread(f"status-{side}", str(found.values.get(f"status-{side}", "")))]
+    return [*found.told, *([f"{found.untold} more lines aren't told"] if found.untold else []), *wrong]
 
 
 def summary(found: FileSettings | None) -> str:

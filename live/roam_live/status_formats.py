@@ -8,6 +8,8 @@ from collections import namedtuple
 from roam_live.status_styles import ROW_STYLE, Styled
 from roam_live.words import printable
 
+SIDES = ("left", "right")
+
 # A format has so many characters at most, and each of its values so many that are shown.
 MOST_FORMAT = 1024
 MOST_VALUE = 200
@@ -97,6 +99,11 @@ def read_format(text: str) -> Format:
     if len(text) > MOST_FORMAT:
         wrong.append(f"what is behind {MOST_FORMAT} characters")
     return Format(tuple(pieces), tuple(wrong), step)
+
+
+def unread(option: str, text: str) -> list[str]:
+    """What of the format that an option has isn't there in roam, a line each."""
+    return [f"{option}: {printable(word)[:40]} isn't there in roam" for word in read_format(text).wrong]
 
 
 def filled(read: Format, values: dict[str, str], now: float) -> list[Styled]:

@@ -13,7 +13,7 @@ if TYPE_CHECKING:
     from roam_live.status_formats import Format
     from roam_live.status_styles import Styled
 
-SIDES = ("left", "right")
+OPTIONS = ("status-left", "status-right")
 
 # What the moment is called at which a clock in it goes on.
 MOMENT = "status"
@@ -29,17 +29,19 @@ class StatusRow:
 
     def choose(self) -> list[str]:
         """Goes by the formats that are chosen now; tells what of them isn't there, a line each."""
-        texts = [text_of(f"status-{side}") for side in SIDES]
+        texts = {option: text_of(option) for option in OPTIONS}
         display, self.formats = self.front.display, []
         self.loop.drop(MOMENT)
-        if any(texts):
+        wrong: list[str] = []
+        if any(texts.values()):
             # Who has none doesn't wait for these.
-            from roam_live.status_formats import read_format
+            from roam_live.status_formats import read_format, unread
 
-            self.formats = [read_format(text) for text in texts]
+            self.formats = [read_format(text) for text in texts.values()]
+            wrong = [line for option, text in texts.items() for line in unread(option, text)]
         display.status, display.line_put = self.shown if self.formats else None, None
         self.tick()
-        return [f"status-{side}: {word[:40]} isn't there in roam" for side, read in zip(SIDES, self.formats) for word in read.wrong]
+        return wrong
 
     def tick(self) -> None:
         """Has the row say what it says now, and again once a clock in it goes on."""

@@ -969,3 +969,21 @@ class Painted(Case):
         person.loop.do_due()
         self.assertEqual((person.display.told, person.commands.given), ("its panes have no room in 5 by 20", None))
         self.assertFalse(person.display.shows_all())
+
+
+class Gone(Case):
+    """A window whose folder is gone before that was told."""
+
+    def test_left(self):
+        """It gives way to another, and isn't connected to again; where there is none it is tried anew."""
+        front = mock.Mock(number=2)
+        front.keeper.connect.return_value = 8.0, "no server"
+        front.visit.session.folder = str(self.made_folder() / "2")
+        front.is_window_gone = lambda: FrontEnd.is_window_gone(front)
+        for is_left in (True, False):
+            front.windows.leave.return_value = is_left
+            front.loop.later.reset_mock()
+            FrontEnd.connect(front)
+            self.assertEqual((front.windows.leave.call_args.args, front.loop.later.called), ((2,), not is_left))
+        front.visit.session.folder = str(self.made_folder())
+        self.assertFalse(front.is_window_gone())

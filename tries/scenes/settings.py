@@ -1,0 +1,61 @@
+"""A person's settings file at a terminal: whole files of forms that are in use, what they change, and files that are refused."""
+import os
+import pathlib
+import sys
+
+from tried import SESSION, Outer, check, comes, said, scene, tool
+
+
+def written(text):
+    """Writes the settings file."""
+    path = pathlib.Path(os.environ["XDG_CONFIG_HOME"], "roam/roam.conf")
+    path.parent.mkdir(parents=True, exist_ok=True)
+    path.write_text(text, encoding="utf-8")
+    return path
+
+
+@scene
+def settings_files(folder):
+    """Each whole file lets a person attach, and each of its lines that isn't done is told once."""
+    sys.path.insert(0, str(pathlib.Path(__file__).resolve().parents[1] / "units"))
+    from test_settings import FILES
+
+    os.environ["XDG_CONFIG_HOME"] = str(folder / "config")
+    check("a session is there", said("new", "-d", SESSION)[0] == 0)
+    for number, (text, *_) in enumerate(FILES):
+        written(text)
+        status, told, _ = said("settings")
+        lines = told.splitlines()[1:]
+        check(f"file {number}: each line that isn't done is told once, {len(lines)}", status == bool(lines) and len(set(lines)) == len(lines), told)
+        outer = Outer(tool("mux", SESSION))
+        check(f"file {number}: a person attaches", outer.shows("[1]") and outer.shows("$"), outer.rows())
+        outer.process.terminate()
+        check(f"file {number}: and leaves", outer.ends(), outer.rows())
+
+
+@scene
+def settings_changed(folder):
+    """What a file says takes effect, also where it is read anew; the environment goes before it."""
+    os.environ["XDG_CONFIG_HOME"] = str(folder / "config")
+    path = written("set -g prefix C-a\nset -g status-left '<#S> '\nset -g status-right '#[fg=red]#P of #I'\nbind -n F5 split-window -h\n")
+    outer = Outer(tool("mux", SESSION))
+    check("the last row has both ends", outer.status(f"<{SESSION}> [1]", end="1 of 1"), outer.rows())
+    outer.type(b"\x1b[15~")
+    check("F5 splits", comes(lambda: "[2]" in outer.rows()[-1] and outer.rows()[-1].endswith("2 of 1")), outer.rows())
+    outer.type(b"\x01:set -g status-right ''\r")
+    check("C-a : sets an option", outer.status(f"<{SESSION}>", end=" "), outer.rows())
+    outer.type(b"\x01:nosuch\r")
+    check("a command that isn't there is told", outer.shows("nosuch is no command of roam"), outer.rows())
+    written("set -g status off\nfoo\n")
+    outer.type(b"\x01R")
+    check("a row is hidden, and what isn't done is told as the row is there again", comes(lambda: "[2]" not in outer.rows()[-1]), outer.rows())
+    path.chmod(0o666)
+    outer.type(b"\x02R")
+    check("a file that others may write is told of", outer.shows("others may write it"), outer.rows())
+    outer.type(b"\x02d")
+    check("it is left", outer.ends(), outer.rows())
+    written("set -g prefix C-a\n").chmod(0o600)
+    other = Outer(tool("mux", SESSION), environment={"ROAM_PREFIX": "C-x"})
+    check("it is there again", other.shows("[2]"), other.rows())
+    other.type(b"\x18d")
+    check("the environment's prefix goes before the file's", other.ends(), other.rows())
