@@ -4,6 +4,8 @@ from __future__ import annotations
 
 import os
 
+from roam_live.choices import wants_extended_keys
+from roam_live.extended_keys import QUERY, WANTED, answered, given_back
 from roam_live.mouse import ASKED, OFF
 from roam_live.program import write
 from roam_live.words import printable
@@ -75,6 +77,9 @@ class GivenAside:
         self.shape = 0
         # Which reports it is asked for: none, `drags` or `motion`.
         self.reports = ""
+        # Whether it is asked to tell keys with all that is held, and how it told them before, as far as it said.
+        self.has_keys = False
+        self.keys_before, self.has_answered = 0, False
 
     def given(self, title: str, shape: int) -> bytes:
         """What is written where this is the title and the shape from now on: what is new of it. The terminal's own title isn't changed
@@ -96,9 +101,23 @@ class GivenAside:
         self.reports = reports
         return ASKED[reports]
 
+    def keys_asked(self, is_first: bool = False) -> bytes:
+        """What is written where it is to tell keys with all that is held; the first time it is asked how it told them before. What takes
+        this for something else has its style set behind it."""
+        self.has_keys = self.is_able and wants_extended_keys()
+        return QUERY * is_first + WANTED if self.has_keys else b""
+
+    def take_answer(self, text: str) -> None:
+        """Takes what it answers of how it told keys: the first answer, since another is to none that was asked."""
+        before = answered(text)
+        if before is not None and not self.has_answered:
+            self.keys_before, self.has_answered = before, True
+
     def taken_back(self) -> bytes:
-        """What is written where the terminal is given back: it has its own title again, and its own shape, and reports nothing. Nothing is
-        given then."""
+        """What is written where the terminal is given back: it has its own title again, and its own shape, reports nothing, and tells keys
+        as before. Nothing is given then."""
         text = (OFF if self.reports else b"") + (TITLE_BACK if self.has_kept else b"") + (shaped(0) if self.shape else b"")
+        text += given_back(self.keys_before) if self.has_keys else b""
+        self.has_keys = False
         self.title, self.has_kept, self.shape, self.reports = "", False, 0, ""
         return text

@@ -3,7 +3,7 @@ from __future__ import annotations
 
 from roam_live.choices import PREFIX, PREFIXES
 from roam_live.command_table import DEFAULT_KEYS, asked_by
-from roam_live.key_names import name_of_key, named, named_key, typed_name
+from roam_live.key_names import name_of_key, named, named_key, names_of_key, typed_name
 from roam_live.keys import Key, acts_of
 
 TYPE_CHECKING = False
@@ -22,6 +22,8 @@ DEFAULTS = {typed_name(named(key)): asked_by(words.split(" ")) for name, words i
 BINDINGS = {key: asked.acts[0] for key, asked in DEFAULTS.items() if asked.acts}
 BORDERS = {key: asked.wish for key, asked in DEFAULTS.items() if asked.wish.startswith("border")}
 WISHES = {key: asked.wish for key, asked in DEFAULTS.items() if key not in BINDINGS and key not in BORDERS}
+
+ESCAPE = "\x1b"
 
 # What a wish begins with that is a key's of a person's own: its table and its name stand behind.
 OWN = "own"
@@ -98,11 +100,24 @@ class Typing:
         self.mode = self.pasting if key.name == "paste" else self.plain
         return [], "yes" if key.name in ("y", "Y") else "no"
 
+    def joined(self, keys: list[Key]) -> list[Key]:
+        """Keys, of which an escape and the one behind it are one with Meta where a person has bound that."""
+        found: list[Key] = []
+        for key in keys:
+            before = found[-1] if found and self.own else None
+            one = Key(f"M-{key.name}", before.text + key.text) if before and before.name == ESCAPE and key.name != "text" else None
+            if one and any((table, name_of_key(one)) in self.own for table in ("root", "prefix")):
+                found[-1] = one
+            else:
+                found.append(key)
+        return found
+
     def own_wish(self, table: str, key: Key, now: float) -> str | None:
         """What a person's own binding of a key asks for, nothing where it is bound to nothing; None where there is none."""
         if not self.own:
             return None
-        name = name_of_key(key)
+        names = names_of_key(key)
+        name = next((name for name in names if (table, name) in self.own), names[0] if names else "")
         place = (table, name) if (table, name) in self.own else (table, "all")
         if not name or place not in self.own:
             return None
@@ -113,7 +128,8 @@ class Typing:
 
     def repeats_own(self, key: Key, now: float) -> bool:
         """Whether a key of a person's own needs no prefix for a moment, since it may be repeated."""
-        binding = self.own.get(("prefix", name_of_key(key))) if self.own and self.repeats(now) else None
+        bindings = [self.own.get(("prefix", name)) for name in names_of_key(key)] if self.own and self.repeats(now) else []
+        binding = next(filter(None, bindings), None)
         return binding is not None and binding.repeats
 
     def pick(self, now: float) -> None:

@@ -106,6 +106,11 @@ def follows_latest() -> bool:
     return BY_FILE.get("window-size") == WINDOW_SIZES[1]
 
 
+def wants_extended_keys() -> bool:
+    """Whether the terminal is asked to tell keys with all that is held: where the option `extended-keys` isn't `off`."""
+    return text_of("extended-keys") != "off"
+
+
 def chosen_history() -> int:
     """How many rows that left its screen are kept of a pane: as the environment's ROAM_HISTORY says, or the option `history-limit`, where
     one is there."""

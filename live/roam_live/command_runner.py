@@ -13,6 +13,7 @@ from roam_live.command_table import CommandWish, BadCommand, asked_by, completed
 from roam_live.keys import Key, acts_of
 from roam_live.loops import Loop
 from roam_live.program import read, reason
+from roam_live.synchronizing import OPTION
 from roam_live.window_lines import name_word
 from roam_live.words import printable
 
@@ -135,7 +136,8 @@ class CommandRunner:
         does: dict[str, Callable[[str], object]] = {"tell": self.tell_text, "run": self.run_shell, "window name": self.name_window, "command line": self.ask,
                 "prefix": self.type_prefix, "settings": self.read_settings}
         if asked.acts:
-            commands.act(*asked.acts)
+            commands.type_key(asked.acts)
+            commands.synchronizing.settle()
         elif asked.wish == "set":
             self.set_option(asked.words)
         elif asked.wish in does:
@@ -178,7 +180,8 @@ class CommandRunner:
     def type_prefix(self, text: str) -> None:
         """Types the prefix."""
         prefix = self.front.commands.typing.prefix
-        self.front.commands.act(*acts_of(Key(prefix, prefix)))
+        self.front.commands.type_key(acts_of(Key(prefix, prefix)))
+        self.front.commands.synchronizing.settle()
 
     def read_settings(self, text: str) -> None:
         """Reads the settings file anew."""
@@ -199,14 +202,20 @@ class CommandRunner:
         from roam_live.settings import FileSettings
         from roam_live.settings_words import BadWord
 
-        found = FileSettings(commands=())
+        found, synchronizing = FileSettings(commands=()), self.front.commands.synchronizing
         found.values.update(BY_FILE)
+        found.values[OPTION] = "on" if synchronizing.is_on() else "off"
         try:
             found.set_option([*words[1:]])
         except BadWord as fault:
             raise BadCommand(str(fault)) from None
-        choose_by_file(found.values)
-        self.front.go_by_settings()
+        # This one is the window's alone.
+        is_on, others = found.values.pop(OPTION, "off") == "on", {OPTION: BY_FILE[OPTION]} if OPTION in BY_FILE else {}
+        choose_by_file({**found.values, **others})
+        if is_on == synchronizing.is_on():
+            self.front.go_by_settings()
+        else:
+            self.front.commands.grant("synchronize", Key("", ""))
 
     def run_shell(self, text: str) -> None:
         """Runs a command of the shell beside."""

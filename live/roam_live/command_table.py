@@ -168,6 +168,7 @@ TABLE = (
     NamedCommand(("run-shell", "run"), "b", texted("run"), "runs a command of the shell"),
     NamedCommand(("toggle-mouse",), "", wish("mouse"), "has roam have the mouse, or not"),
     NamedCommand(("toggle-status",), "", wish("row"), "hides the last row, or shows it"),
+    NamedCommand(("synchronize-panes",), "", wish("synchronize"), "has keys go to all panes of the window, or not"),
 )
 # What keys ask for behind the prefix where nobody bound them otherwise.
 DEFAULT_KEYS = {

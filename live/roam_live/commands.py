@@ -14,7 +14,8 @@ from roam_live.choosing import Choosing, ChoosingWindow
 from roam_live.copying import Copying, CopyEvent
 from roam_live.display import NO_SIZE, Display
 from roam_live.foci import Foci
-from roam_live.keys import Key, Keys
+from roam_live.extended_keys import ANSWERED, form_for
+from roam_live.keys import Key, Keys, acts_of
 from roam_live.links import StartLink
 from roam_live.loops import Loop
 from roam_live.colours import COLOUR
@@ -27,6 +28,7 @@ from roam_live.following import PanesFollower
 from roam_live.places import BESIDE, MOVES, Places
 from roam_live.presence import LEAVE_OTHERS
 from roam_live.prompts import Prompts
+from roam_live.synchronizing import Synchronizing
 from roam_live.zooming import Zooming
 
 TYPE_CHECKING = False
@@ -66,7 +68,7 @@ LEAVES_IN = 2.0
 OTHERS_STAY = "the others can't be detached: what keeps the shells doesn't answer, or is an earlier roam's"
 
 # What waits in the loop for a window, and is nothing in another.
-OF_WINDOW = ("fit", "others", "size", "given", "motion", "border", "untold", "even", "zoom", "zoom left")
+OF_WINDOW = ("fit", "others", "size", "given", "motion", "border", "untold", "even", "zoom", "zoom left", "synchronize")
 
 # What is told where the session gets this terminal's size since somebody types here.
 LATEST_TOLD = "sized to this terminal (window-size latest): what is wider was cut"
@@ -111,6 +113,8 @@ class Commands:
         self.choosing_window: ChoosingWindow | None = None
         self.prompts = Prompts(self)
         self.pastes = Pastes(link, panes, shells, loop, self.unpasted, lambda line: display.tell(line, PASTE_TOLD))
+        self.synchronizing = Synchronizing(self, loop)
+        self.pastes.spreads = self.synchronizing.pasted_in
         # The session's size and the labels of its panes, as they were told last.
         self.known: tuple[terminal.Size, str] = (NO_SIZE, "")
         # Where a command of this person moved the focus, since it was told: to a pane, or to one that isn't known, 0; and what was told
@@ -139,10 +143,11 @@ class Commands:
     def typed(self, keys: list[Key]) -> None:
         """Takes keys; those behind one that goes to another window, or opens one, are for that."""
         self.follow_latest()
+        keys = self.typing.joined(keys)
         for place, key in enumerate(keys):
             if self.windows and self.windows.takes(self, keys[place:]):
                 break
-            if key.name == COLOUR or key.name == MOUSE and self.typing.mode != self.typing.pasting:
+            if key.name in (COLOUR, ANSWERED) or key.name == MOUSE and self.typing.mode != self.typing.pasting:
                 self.reported(key)
                 continue
             is_help = self.display.cover == self.help
@@ -152,11 +157,14 @@ class Commands:
             if not is_help or key.name in (self.typing.prefix, "paste"):
                 self.take(key)
         self.copying.settle()
+        self.synchronizing.settle()
 
     def reported(self, key: Key) -> None:
         """Takes what the terminal reports: what is done with the mouse, or a colour that it has."""
         if key.name == MOUSE:
             self.pointing.take(key.text)
+        elif key.name == ANSWERED:
+            self.display.outer.take_answer(key.text)
         elif self.shells:
             self.shells.tell_colour(key.text)
 
@@ -179,8 +187,27 @@ class Commands:
         if self.display.cover:
             acts = [act for act in acts if act == NEWEST]
             wish = "no" if wish == "yes" else wish if wish in UNDER_COVER or wish.startswith(GOES) else ""
-        self.act(*acts)
+        self.type_key(acts, key)
         self.grant(wish, key)
+
+    def type_key(self, acts: list[str], key: Key = Key("", "")) -> None:
+        """Types what a key asks for: where keys go to all panes, those of it that do."""
+        keys = [act for act in acts if act.startswith(KEYS)]
+        if not keys or not self.synchronizing.is_working():
+            places = self.places() if key.extended else None
+            self.act(*(self.formed(acts, key, places.focus) if places else acts))
+            return
+        self.act(*acts[: -len(keys)])
+        if key.extended:
+            self.synchronizing.add_key(lambda pane: self.formed(keys, key, pane))
+        else:
+            self.synchronizing.add(keys)
+
+    def formed(self, acts: list[str], key: Key, pane: int) -> list[str]:
+        """Acts, with those of the key at their end in the form in which a pane's program asked for it."""
+        typed = acts_of(key)
+        form = form_for(key.extended, self.panes.modes(pane)) if key.extended and typed and acts[-len(typed) :] == typed else ""
+        return [*acts[: -len(typed)], *acts_of(Key("text", form))] if form else acts
 
     def take_pasted(self, key: Key, before: Mode) -> None:
         """Takes what a key is of a paste, where a person was as told before it."""
@@ -188,13 +215,16 @@ class Commands:
         if was_pasting and is_pasting:
             self.pastes.add(key.text)
         elif was_pasting:
+            self.synchronizing.settle(is_last=True)
             self.pastes.end()
             self.note_key()
         elif is_pasting:
             self.pastes.begin(NO_ANSWER if before == self.typing.answering else "")
 
     def is_full(self) -> bool:
-        """Whether so much waits behind a paste, or for rows, that nothing more is to come."""
+        """Whether so much waits behind a paste, for rows or for the focus, that nothing more is to come."""
+        if self.synchronizing.is_full():
+            return True
         return self.pastes.is_full() or self.copying.is_full() or self.windows is not None and self.windows.is_full()
 
     def unpasted(self) -> str:
@@ -207,6 +237,8 @@ class Commands:
         """Has acts typed, by who doesn't only watch."""
         if self.link.watches:
             return
+        if acts:
+            self.synchronizing.settle(is_last=True)
         self.pastes.type(*self.zooming.ended_by(acts))
         self.note_moves(*acts)
 
@@ -217,6 +249,7 @@ class Commands:
 
     def type_together(self, *acts: str) -> None:
         """Has acts typed in a line of their own, whatever is zoomed."""
+        self.synchronizing.settle(is_last=True)
         self.pastes.type_together(*acts)
         self.note_moves(*acts)
 
@@ -263,6 +296,7 @@ class Commands:
         self.fit_first()
         self.show_known()
         self.show_aside()
+        self.synchronizing.settle()
 
     def show_aside(self) -> None:
         """Gives the terminal the title and the cursor's shape of the pane in focus, and asks it for what its program wants of the mouse."""
@@ -280,6 +314,7 @@ class Commands:
         if places or is_untold:
             self.known = (places.size(), places.labels()) if places else (NO_SIZE, "")
         size, labels = self.known
+        self.display.is_synchronized = self.synchronizing.is_on()
         self.display.know(self.given or size, labels, self.is_whole or is_untold)
 
     def places(self) -> Places | None:
@@ -291,6 +326,7 @@ class Commands:
 
     def left(self) -> None:
         """Does what is left to do where the person leaves."""
+        self.synchronizing.settle(is_last=True)
         self.act(*self.typing.left())
         self.zooming.leave()
 
@@ -391,6 +427,8 @@ class Commands:
             self.border_keys.ask(wish.split()[-1])
         elif wish == "last":
             self.go_back()
+        elif wish == "synchronize":
+            self.synchronizing.switch()
         elif wish in BESIDE:
             self.go(wish)
         elif wish in ("yes", "no"):

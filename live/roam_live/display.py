@@ -9,7 +9,7 @@ from collections.abc import Callable
 from roam_live import terminal
 from roam_live.asides import GivenAside, GivenClip
 from roam_live.colours import ASKED
-from roam_live.last_row import ZOOMED, clipped, columns, fitted, label_at, row_text, said, tail
+from roam_live.last_row import ALL_PANES, SYNCHRONIZED, ZOOMED, clipped, columns, fitted, label_at, row_text, said, tail
 from roam_live.status_styles import ROW_STYLE, Styled
 from roam_live.loops import Loop
 from roam_live.places import Rect
@@ -56,7 +56,7 @@ class OuterTerminal:
         self.modes = terminal.make_raw(0)
         if self.modes is None:
             raise Fault("the terminal can't be made raw")
-        self.waiting += terminal.ENTERED
+        self.waiting += self.aside.keys_asked(is_first=True) + terminal.ENTERED
 
     def size(self) -> terminal.Size:
         """Its rows and columns now; of one that has hung up those that it had."""
@@ -67,7 +67,7 @@ class OuterTerminal:
     def enter_again(self) -> None:
         """Takes the terminal again, after a shell had it while this was stopped."""
         terminal.make_raw(0)
-        self.waiting += terminal.ENTERED
+        self.waiting += self.aside.keys_asked() + terminal.ENTERED
         self.is_application = False
         # Whoever had it may have asked it for others.
         self.aside.reports = ""
@@ -84,6 +84,10 @@ class OuterTerminal:
         """Asks it for its colours; what it answers comes among what is typed, if it comes."""
         if self.aside.is_able:
             self.waiting += ASKED
+
+    def take_answer(self, text: str) -> None:
+        """Takes what it answers of how it tells keys."""
+        self.aside.take_answer(text)
 
     def set_clip(self, text: str) -> None:
         """Sets its clipboard, by a text in base64."""
@@ -159,6 +163,8 @@ class Display:
         self.status: Callable[[], tuple[list[Styled], list[Styled]]] | None = None
         self.parts: tuple[list[Styled], str, list[Styled]] = ([], "", [])
         self.is_row_hidden = self.is_entering = False
+        # Whether keys go to all panes of the window.
+        self.is_synchronized = False
         # What is drawn over a part of what is painted, and the line that stands in the last row meanwhile; whether that is asked for there;
         # whether the start was told of its mask; and what is called where what is shown of the session may be another part.
         self.drawing: Drawing | None = None
@@ -461,11 +467,15 @@ class Display:
             return "; ".join(filter(None, (f"roam: no answer for {self.silent} s", self.leaves_line)))
         if self.drawing_line:
             return self.drawing_line
-        return "" if self.asked is None or not self.has_row() else self.labels_line(self.outer.size()[1])
+        if self.asked is None or not self.has_row():
+            # The session's own rows stand there, of which none tells this.
+            return ALL_PANES if self.is_synchronized and self.asked is None else ""
+        return self.labels_line(self.outer.size()[1])
 
     def panes_label(self) -> str:
-        """The labels of the panes, and whether that in focus is zoomed."""
-        return f"{self.labels.rstrip()} {ZOOMED}" if self.zoomed and self.labels else self.labels
+        """The labels of the panes, whether that in focus is zoomed, and whether keys go to all."""
+        flags = ZOOMED * (self.zoomed is not None) + SYNCHRONIZED * self.is_synchronized
+        return f"{self.labels.rstrip()} {flags}" if flags and self.labels else self.labels
 
     def labels_line(self, width: int) -> str:
         """The labels of the panes and of the windows, between what a settings file has stand at both ends; at the right one stands which

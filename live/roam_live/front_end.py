@@ -76,6 +76,8 @@ class FrontEnd:
         self.parting = Parting(self.loop)
         # The sizes of the windows of which all was shown as they were left, by their numbers.
         self.shown_whole: dict[int, Size] = {}
+        # In which of them keys were switched to go to all panes, or not.
+        self.synchronized: dict[int, bool] = {}
         server = opened_server(session)
         self.visit = self.begun(session)
         self.watch_server(server)
@@ -164,6 +166,7 @@ class FrontEnd:
         shells.leaves, shells.others_left = lambda: self.leave(DETACHED), lambda count: self.commands.others_left(count)
         commands = Commands(session, panes, link, display, loop, self.leave, self.is_new, self.is_whole, shells)
         commands.runs = self.run_wish
+        commands.synchronizing.remember(self.synchronized, session.number, lambda: self.guessing)
         return Visit(session, link, Keeper(session, link, panes.is_full), panes, shells, self.heard_bells(session), commands)
 
     # ---- settings
@@ -202,7 +205,7 @@ class FrontEnd:
             self.prefix = prefix
             self.commands.choose(prefix)
         for visit in (self.visit, *self.parting.visits.values()):
-            visit.link.guess(self.guessing)
+            visit.commands.synchronizing.choose_guesses()
         row, self.row = self.row, text_of("status")
         if self.row != row and self.display.is_row_hidden != (self.row == "off"):
             self.commands.switch_row()
@@ -220,6 +223,7 @@ class FrontEnd:
         """Waits for nothing more of a window that is gone."""
         self.parting.forget(number)
         self.shown_whole.pop(number, None)
+        self.synchronized.pop(number, None)
 
     def go(self, number: int) -> None:
         """Goes to another window, which is shown in place of this one: what was typed here goes on its way. Fault tells why that can't

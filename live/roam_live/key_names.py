@@ -118,7 +118,15 @@ SEQUENCES = {
     for held in range(1, 8) for name in (*LETTERS, *NUMBERS) if (text := text_of(NamedKey(held, name))) is not None
 }
 SEQUENCES.update({BACK_TAB: "S-tab", "\x1b[15~": "f5"})
+WITH_META = "M-"
 CONTROLS = {"\r": "enter", "\t": "tab", "\x1b": "escape", "\x7f": "bspace", " ": "space", "\0": "C-space"}
+
+
+def names_of_key(key: Key) -> list[str]:
+    """The names of a key as it was typed, of which the first that is bound counts: what is held with it is told by some terminals, and
+    others send the same for several."""
+    told = [named(NamedKey(key.extended.named_held(), key.extended.name()))] if key.extended else []
+    return list(dict.fromkeys(filter(None, [*told, name_of_key(key)])))
 
 
 def typed_name(name: str) -> str:
@@ -130,11 +138,14 @@ def typed_name(name: str) -> str:
 
 
 def name_of_key(key: Key) -> str:
-    """The name of a key as it was typed; nothing of one that has none here."""
+    """The name of a key as most terminals tell it; nothing of one that has none here."""
     if key.name in TYPED_NAMES:
         return TYPED_NAMES[key.name]
     if key.name in CONTROLS:
         return CONTROLS[key.name]
+    if key.name.startswith(WITH_META) and len(key.name) > len(WITH_META):
+        rest = name_of_key(Key(key.name[len(WITH_META) :], key.text[1:]))
+        return f"C-M-{rest[2:]}" if rest.startswith("C-") else f"M-{rest}" if rest else ""
     if len(key.name) == 1:
         return key.name if key.name.isprintable() else f"C-{chr(ord(key.name) | 0x40).lower()}" if key.name < " " else ""
     return key.name if key.name.startswith("C-") else SEQUENCES.get(key.text, "")

@@ -6,14 +6,17 @@ import re
 from collections import namedtuple
 
 from roam_live.colours import ANSWER, BEGINS, COLOUR, begun_at
+from roam_live.extended_keys import ANSWERED, META, ExtendedKey, answered, extended_key
+from roam_live.extended_keys import BEGIN as BEGINS_ANSWER
 from roam_live.mouse import BEGIN, MOUSE
 
 
-class Key(namedtuple("Key", "name text")):
-    """A key: its name, which of a character is itself, and the text that the terminal sent for it."""
+class Key(namedtuple("Key", "name text extended", defaults=(None,))):
+    """A key: its name, which of a character is itself, the text that terminals send for it, and what this one told of what is held."""
 
     name: str
     text: str
+    extended: ExtendedKey | None
 
 
 # The keys that have an act of their own: what a pane's program is sent for them hangs on its modes.
@@ -86,9 +89,9 @@ class Keys:
         return [Key("text", before)] * bool(before) + [Key("pasted", PASTED)] * bool(ends), rest
 
     def waits(self) -> bool:
-        """Whether an escape waits for more that may not come; of a report of the mouse all does, and of an answer that tells a colour,
-        however long that takes."""
-        return self.rest != "" and not self.is_pasting and not self.rest.startswith((BEGIN, *BEGINS))
+        """Whether an escape waits for more that may not come; of a report of the mouse all does, and of an answer of the terminal, however
+        long that takes."""
+        return self.rest != "" and not self.is_pasting and not self.rest.startswith((BEGIN, BEGINS_ANSWER, *BEGINS))
 
     def ended(self) -> list[Key]:
         """The keys of what waits, where no more came in time."""
@@ -98,7 +101,17 @@ class Keys:
 
 def keys_in(text: str) -> list[Key]:
     """The keys of a text, and reports of the mouse and answers of the terminal among them; a sequence that isn't known has the name of none."""
-    return [Key(name_of(found[0]), found[0]) for found in WHOLE.finditer(text)]
+    return [key_of(found[0]) for found in WHOLE.finditer(text)]
+
+
+def key_of(text: str) -> Key:
+    """The key of a character or a sequence: one that tells what is held is the key that other terminals send for it."""
+    extended = extended_key(text) if text.endswith(("~", "u")) else None
+    if not extended:
+        return Key(name_of(text), text)
+    plain = extended.plain()
+    name = name_of(plain)
+    return Key(f"M-{name}", f"\x1b{plain}", extended) if extended.held & META else Key(name, plain, extended)
 
 
 def name_of(text: str) -> str:
@@ -107,6 +120,8 @@ def name_of(text: str) -> str:
         return MOUSE
     if text.startswith(BEGINS):
         return COLOUR
+    if text.startswith(BEGINS_ANSWER) and answered(text) is not None:
+        return ANSWERED
     return SPELLINGS.get(text, text if len(text) == 1 else "unknown")
 
 

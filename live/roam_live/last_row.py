@@ -10,6 +10,10 @@ BEFORE, BEHIND, BETWEEN = "< ", " >", " "
 # Where the pane in focus fills the terminal.
 ZOOMED = "Z"
 
+# Where keys go to all panes of the window.
+SYNCHRONIZED = "S"
+ALL_PANES = "keys go to all panes of this window"
+
 # No text has more characters to a column than this: what has none of its own stands on the one before.
 MOST_LETTERS = 4
 

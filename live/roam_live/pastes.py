@@ -2,7 +2,7 @@
 from __future__ import annotations
 
 from collections import deque
-from collections.abc import Callable
+from collections.abc import Callable, Sequence
 
 from roam_live.keys import pasted_acts
 from roam_live.loops import Loop
@@ -24,6 +24,11 @@ ENDS = 5.0
 # So many seconds a keeper has for taking a text; so many acts wait behind one at most before no more is read.
 HANDING = 60.0
 MOST_BEHIND = 1 << 16
+
+# Why what is pasted isn't typed in each of several panes.
+ALONE = "pasted in the pane in focus alone: {}"
+NO_TEXTS = "what keeps the shells takes no texts"
+NO_ROOM = f"for all panes it has more than {MOST_BYTES >> 20} MB"
 
 # The act of C-c, by which a person drops what waits.
 INTERRUPT = "char 3"
@@ -49,11 +54,19 @@ class Behind:
 
 
 class Paste:
-    """A paste for which a mark is typed, once the keeper of the shells holds it: a text, or a buffer of the keeper's by its number."""
+    """A paste for which a mark is typed, once the keeper of the shells holds it: a text, or a buffer of the keeper's by its number. It may
+    be for another pane than that in focus."""
 
-    def __init__(self, text: str, is_bracketed: bool, buffer: int | None = None) -> None:
+    def __init__(self, text: str, is_bracketed: bool, buffer: int | None = None, focuses: tuple[int, int] | None = None) -> None:
         self.name, self.text, self.is_bracketed, self.buffer = random_name(), text, is_bracketed, buffer
+        # The pane that gets the focus for it, and the one that gets it back.
+        self.focuses = focuses
         self.is_held = False
+
+    def line(self) -> str:
+        """The line that types its mark, which nothing joins."""
+        there, *back = [f"focus {pane}" for pane in self.focuses or ()] or [""]
+        return " ; ".join(filter(None, ["paste", there, *mark_acts(self.name), *back]))
 
 
 class Pastes:
@@ -68,6 +81,8 @@ class Pastes:
         self.size = 0
         self.why = ""
         self.waiting: deque[Behind | Paste] = deque()
+        # The panes in which what is pasted is typed, of which the first is in focus; none where that has it alone.
+        self.spreads: Callable[[], list[int]] = list
         if shells:
             shells.answers = self.answered
 
@@ -110,6 +125,9 @@ class Pastes:
     def paste(self, text: str) -> None:
         """Types a text as acts where it is short, and else hands it over; that too where it isn't known here whether the program wants
         brackets, as of another machine's."""
+        panes = self.spreads()
+        if panes and self.is_spread(text, panes):
+            return
         is_bracketed = self.panes.wants_brackets()
         is_short = len(text) <= SHORT and self.panes.knows_modes()
         if is_short or not self.shells or not self.shells.takes_texts():
@@ -122,15 +140,32 @@ class Pastes:
         self.shells.give(paste.name, data)
         self.hand(paste)
 
+    def is_spread(self, text: str, panes: list[int]) -> bool:
+        """Hands a text over for each of these panes, by a mark of its own there, and tells whether it does: else why not is told."""
+        data = text.encode("utf-8", "replace")
+        if not self.shells or not self.shells.takes_texts():
+            self.tells(ALONE.format(NO_TEXTS))
+            return False
+        if len(data) * len(panes) > MOST_BYTES or not self.shells.has_room(len(data) * len(panes)):
+            self.tells(ALONE.format(NO_ROOM))
+            return False
+        for pane in panes:
+            paste = Paste(text, False, focuses=(pane, panes[0]) if pane != panes[0] else None)
+            self.shells.give(paste.name, data)
+            self.hand(paste)
+        return True
+
     def paste_buffer(self, number: int) -> None:
         """Has a buffer of the keeper's be pasted."""
         why = self.refuses()
         if why or not self.shells:
             self.tells(why or NOT_TAKEN)
             return
-        paste = Paste("", False, number)
-        self.shells.give_buffer(paste.name, number)
-        self.hand(paste)
+        panes = self.spreads() or [0]
+        for pane in panes:
+            paste = Paste("", False, number, (pane, panes[0]) if pane != panes[0] else None)
+            self.shells.give_buffer(paste.name, number)
+            self.hand(paste)
 
     def hand(self, paste: Paste) -> None:
         """Waits until a paste is held."""
@@ -148,6 +183,9 @@ class Pastes:
             return
         if word == HELD:
             paste.is_held = True
+        elif word == UNTOLD and paste.focuses:
+            self.waiting.remove(paste)
+            self.tells(ALONE.format(NO_TEXTS))
         elif word == UNTOLD and paste.buffer is None:
             place = self.waiting.index(paste)
             self.waiting[place] = Behind(tuple(pasted_acts(paste.text, paste.is_bracketed)), True)
@@ -171,10 +209,21 @@ class Pastes:
 
     def type(self, *acts: str, is_pasted: bool = False) -> None:
         """Types acts, behind the pastes that wait; a C-c drops these."""
-        if self.waiting and INTERRUPT in acts and not is_pasted:
+        if not is_pasted:
+            self.drop_by(acts)
+        self.put(Behind(acts, is_pasted))
+
+    def type_lines(self, lines: list[list[str]]) -> None:
+        """Types keys in lines of their own, behind the pastes that wait; a C-c drops these."""
+        for acts in lines:
+            self.drop_by(acts)
+            self.type_together(*acts)
+
+    def drop_by(self, acts: Sequence[str]) -> None:
+        """Drops the pastes that wait where a C-c is among acts."""
+        if self.waiting and INTERRUPT in acts:
             for paste in [one for one in self.waiting if isinstance(one, Paste)]:
                 self.fail(paste, DROPPED)
-        self.put(Behind(acts, is_pasted))
 
     def type_together(self, *acts: str) -> None:
         """Types acts in a line of their own, behind the pastes that wait."""
@@ -194,8 +243,7 @@ class Pastes:
             if isinstance(first, Behind):
                 first.type_at(self.link)
             elif first.is_held:
-                # A line of its own, which nothing joins.
-                self.link.say(" ; ".join(["paste", *mark_acts(first.name)]))
+                self.link.say(first.line())
             else:
                 return
             self.waiting.popleft()

@@ -289,7 +289,8 @@ OPTIONS: dict[str, Callable[[str], Value]] = {
     "prefix": prefix, "mouse": switch, "history-limit": number_to(MOST_ROWS), "status": switch, "status-left": text,
     "status-right": text, "status-interval": number_to(86400), "set-clipboard": one_of(*CLIPBOARD),
     "window-size": one_of("largest", "latest"), "mode-keys": one_of("vi", "emacs"), "default-command": text,
-    "escape-time": number_to(10000), "guess": one_of(*GUESSING),
+    "escape-time": number_to(10000), "guess": one_of(*GUESSING), "synchronize-panes": switch,
+    "extended-keys": one_of("on", "always", "off"),
 }
-SWITCHES = {"mouse", "status"}
+SWITCHES = {"mouse", "status", "synchronize-panes"}
 TEXTS = {"status-left", "status-right", "default-command"}

@@ -7,6 +7,7 @@ import re
 
 from roam_live.asked_line import AskedLine
 from roam_live.colours import COLOUR
+from roam_live.extended_keys import ANSWERED
 from roam_live.loops import Loop
 from roam_live.mouse import MOUSE
 from roam_live.program import Fault, reason
@@ -339,7 +340,7 @@ class WindowWishes:
         """Has keys wait for a window that is being opened; once a person was told that it takes long C-c waits no longer. What the terminal
         tells itself doesn't wait."""
         for place, key in enumerate(keys):
-            if key.name == COLOUR:
+            if key.name in (COLOUR, ANSWERED):
                 self.front.commands.reported(key)
             elif key.name == INTERRUPT and self.is_late:
                 self.end_opening(NOT_AWAITED)

@@ -6,6 +6,7 @@ from collections import deque
 from unittest import mock
 
 from aids import Case
+from roam_live import choices
 from roam_live.bindings import BINDINGS, BORDERS, HELP, WISHES, Typing
 from roam_live.command_runner import CommandLine, CommandRunner
 from roam_live.command_table import DEFAULT_KEYS, BadCommand, asked_by, completed
@@ -123,11 +124,25 @@ class Line(Case):
         line.edit("\t")
         self.assertEqual((line.text, line.line()), ("next; rename", ":next; rename"))
 
+    def test_synchronized(self):
+        """Whether keys go to all panes is switched in the window, where it is another than it is; no other window has it then."""
+        for was_on, line, is_switched in ((False, "setw synchronize-panes on", True), (True, "setw synchronize-panes on", False),
+                                          (True, "setw synchronize-panes off", True), (True, "set -w synchronize-panes", True),
+                                          (False, "setw synchronize-panes", True), (True, "setw -u synchronize-panes", True),
+                                          (False, "synchronize-panes", True)):
+            self.commands.reset_mock()
+            self.commands.synchronizing.is_on.return_value = was_on
+            self.runner.typed(line)
+            self.assertEqual([one.args[0] for one in self.commands.grant.call_args_list], ["synchronize"] * is_switched, line)
+            self.assertNotIn("synchronize-panes", choices.BY_FILE)
+        self.runner.typed("setw synchronize-panes perhaps")
+        self.commands.display.tell.assert_called_with("synchronize-panes is 'perhaps', and may be on or off", 4.0)
+
     def test_done(self):
         """Commands are done in order, up to one that can't be."""
         self.runner.typed("splitw -h; send-keys 'a b' ; nosuch; killp")
         self.assertEqual([one.args[0] for one in self.commands.grant.call_args_list], ["split right"])
-        self.assertEqual([one.args for one in self.commands.act.call_args_list], [("char 61", "char 20", "char 62")])
+        self.assertEqual([one.args for one in self.commands.type_key.call_args_list], [(["char 61", "char 20", "char 62"],)])
         self.commands.display.tell.assert_called_with("nosuch is no command of roam", 4.0)
         self.assertEqual(list(self.runner.lines), ["splitw -h; send-keys 'a b' ; nosuch; killp"])
         for wrong in ("splitw 'x", "bind { killp }"):

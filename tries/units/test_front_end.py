@@ -9,6 +9,7 @@ from unittest import mock
 from aids import Case, StillLoop, closed, read_now, record
 from roam_live import display, front_end, links, mouse, pastes, terminal, visits
 from roam_live.colours import ASKED
+from roam_live.extended_keys import QUERY, WANTED, given_back
 from roam_live.front_end import FrontEnd
 from roam_live.program import Fault, begun
 from roam_live.places import Places, Rect
@@ -133,7 +134,7 @@ class Loop(Fronts):
         self.assertEqual(read_now(start), b"told\nguess adaptive\npart 23 80\nview -500\n")
         self.paints(text="hello")
         shown = self.shown()
-        self.assertTrue(shown.startswith(terminal.ENTERED) and b"hello" in shown)
+        self.assertTrue(shown.startswith(QUERY + WANTED + terminal.ENTERED) and b"hello" in shown)
         self.assertNotIn(b"painted before", shown)
         self.assertNotIn(b"\x1bc", shown)
 
@@ -344,7 +345,7 @@ class Loop(Fronts):
         self.assertFalse(os.get_blocking(outer.end))
         self.shown()
         outer.enter_again()
-        self.assertEqual(outer.waiting, terminal.ENTERED)
+        self.assertEqual(outer.waiting, WANTED + terminal.ENTERED)
         self.assertFalse(termios.tcgetattr(self.slave)[3] & termios.ICANON)
 
     def test_lost(self):
@@ -594,7 +595,7 @@ class Mouse(Fronts):
             way()
             with mock.patch.object(self.front.display.outer, "enter"), mock.patch.object(self.front, "connect"), suppress(ValueError):
                 self.front.run()
-            self.assertIn(mouse.OFF + terminal.LEFT, self.shown())
+            self.assertIn(mouse.OFF + given_back(0) + terminal.LEFT, self.shown())
 
     def test_own(self):
         """Where roam has the mouse itself the terminal is asked as soon as the panes are known."""
@@ -612,8 +613,8 @@ class Mouse(Fronts):
             os.write(self.wakes, bytes([signal.SIGTSTP]))
             self.turn(1)
         shown = self.shown()
-        self.assertIn(mouse.OFF + terminal.LEFT, shown)
-        self.assertLess(shown.index(mouse.OFF + terminal.LEFT), shown.index(terminal.ENTERED + mouse.ASKED["drags"]))
+        self.assertIn(mouse.OFF + given_back(0) + terminal.LEFT, shown)
+        self.assertLess(shown.index(given_back(0) + terminal.LEFT), shown.index(terminal.ENTERED + mouse.ASKED["drags"]))
         os.write(self.wakes, bytes([signal.SIGCONT]))
         self.turn(1)
         self.assertIn(terminal.ENTERED + mouse.ASKED["drags"], self.shown())
@@ -685,7 +686,7 @@ class Clipboard(Fronts):
         with mock.patch.object(terminal, "restore"), mock.patch("os.set_blocking"), mock.patch.object(display, "write") as writes:
             writes.side_effect = lambda end, waiting: (written.append(bytes(waiting)), waiting.clear())
             outer.leave("[detached]")
-        self.assertEqual(shown + written[0], b"painted" + clip + terminal.LEFT + b"[detached]\r\n")
+        self.assertEqual(shown + written[0], b"painted" + clip + given_back(0) + terminal.LEFT + b"[detached]\r\n")
 
 
 class Wishes(Case):

@@ -3,7 +3,7 @@ import unittest
 from unittest import mock
 
 from roam_live.asides import GivenAside
-from roam_live.keys import Keys, acts_of_bytes
+from roam_live.keys import Key, Keys, acts_of_bytes
 from roam_live.mouse import ASKED, MOUSE, OFF, MouseReport, is_wanted, report_of, sent, tracking_of
 
 REPORTS = {
@@ -66,14 +66,14 @@ class Among(unittest.TestCase):
     def test_cut(self):
         """Wherever a stream is cut its reports are taken out, and its keys are what they are without; nothing of a report waits in vain."""
         stream = b"a\x1b[<0;5;7Mb\x1b[A\x1b[<64;80;24M\x1b[<35;500;200m\xc3\xa9"
-        wanted = [("a", "a"), (MOUSE, "\x1b[<0;5;7M"), ("b", "b"), ("up", "\x1b[A"), (MOUSE, "\x1b[<64;80;24M"),
-                  (MOUSE, "\x1b[<35;500;200m"), ("\u00e9", "\u00e9")]
+        wanted = [Key("a", "a"), Key(MOUSE, "\x1b[<0;5;7M"), Key("b", "b"), Key("up", "\x1b[A"), Key(MOUSE, "\x1b[<64;80;24M"),
+                  Key(MOUSE, "\x1b[<35;500;200m"), Key("\u00e9", "\u00e9")]
         for cut in range(len(stream) + 1):
             keys = Keys()
             found = [key for piece in (stream[:cut], stream[cut:]) for key in keys.fed(piece)]
-            self.assertEqual(([tuple(key) for key in found], keys.waits()), (wanted, False), cut)
+            self.assertEqual((found, keys.waits()), (wanted, False), cut)
         keys = Keys()
-        self.assertEqual([tuple(key) for byte in stream for key in keys.fed(bytes([byte]))], wanted)
+        self.assertEqual([key for byte in stream for key in keys.fed(bytes([byte]))], wanted)
 
     def test_waits(self):
         """What has begun as a report goes on as long as that takes, where an escape is a key soon; another key ends it."""

@@ -72,6 +72,38 @@ class Handed(Case):
         """The line that types a mark."""
         return " ; ".join(["paste", *mark_acts(f"{number:016x}")])
 
+    def spread_line(self, number, pane):
+        """The line that types a mark in another pane than the third."""
+        return " ; ".join(["paste", f"focus {pane}", *mark_acts(f"{number:016x}"), "focus 3"])
+
+    def test_spread(self):
+        """What is pasted in several panes is handed over for each, and each has a mark of its own; a C-c drops what waits of it."""
+        self.pastes.spreads = lambda: [3, 1, 2]
+        self.paste("ab")
+        self.assertEqual(self.shells.gave, {f"{number:016x}": b"ab" for number in (1, 2, 3)})
+        self.tell(2, "held")
+        self.assertEqual(self.link.lines, [])
+        self.tell(1, "held")
+        self.tell(3, "held")
+        self.assertEqual(self.link.lines, [self.mark(1), self.spread_line(2, 1), self.spread_line(3, 2)])
+        self.paste("ab")
+        self.pastes.type_lines([["char 61", "focus 3"], ["char 3", "focus 3"]])
+        self.assertEqual(self.link.lines[3:], ["char 61 ; focus 3", "char 3 ; focus 3"])
+        self.assertEqual(self.said, [DROPPED] * 3)
+
+    def test_unspread(self):
+        """Where what keeps the shells takes no texts, or not so many, the pane in focus has it alone, which is told."""
+        self.pastes.spreads = lambda: [3, 1]
+        for takes, room, why in ((False, None, pastes.NO_TEXTS), (True, 3, pastes.NO_ROOM)):
+            self.shells.takes, self.shells.room = takes, room
+            self.paste("ab")
+            self.assertEqual((self.link.lines.pop(), self.said.pop()), ("paste ; char 61 ; char 62", pastes.ALONE.format(why)))
+        self.shells.takes, self.shells.room = True, None
+        self.paste("ab")
+        self.tell(2, UNTOLD)
+        self.tell(1, UNTOLD)
+        self.assertEqual((self.link.lines, self.said), (["paste ; char 61 ; char 62"], [pastes.ALONE.format(pastes.NO_TEXTS)]))
+
     def test_short(self):
         """Up to 40 characters go as acts, between brackets where the program wants them; one more is handed over."""
         self.paste("a\r\nb\x1b\tc")

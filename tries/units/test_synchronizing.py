@@ -1,0 +1,156 @@
+"""Keys that go to all panes of a window: what is typed, in which lines, and what isn't."""
+import random
+import unittest
+
+from lived import Attached, Lived
+from roam_live import synchronizing
+from roam_live.synchronizing import AGAIN, FOCUS_WAIT, MOST_ACTS, lines_of
+
+
+def typed_in(lines, focus):
+    """What each pane is typed by lines of acts, and the focus behind each of them."""
+    found, behind = {}, []
+    for line in lines:
+        for act in line:
+            word, _, rest = act.partition(" ")
+            if word == "focus":
+                focus = int(rest)
+            else:
+                found.setdefault(focus, []).append(act)
+        behind.append(focus)
+    return found, set(behind)
+
+
+class Lines(unittest.TestCase):
+    """The lines of acts."""
+
+    def test_lines(self):
+        """Each pane has all keys in their order, the focus is back behind each line, and no line has more acts than may be."""
+        chance = random.Random(5)
+        for count in range(2, 10):
+            for _ in range(8):
+                panes = chance.sample(range(1, 10), count)
+                keys = [[f"char {chance.randint(97, 122):x}"] * chance.choice((1, 1, 1, 6, 16)) for _ in range(chance.randint(1, 12))]
+                lines = lines_of(panes, [lambda pane, key=key: key for key in keys])
+                found, behind = typed_in(lines, panes[0])
+                self.assertEqual(found, {pane: [act for key in keys for act in key] for pane in panes})
+                self.assertEqual(behind, {panes[0]})
+                self.assertLessEqual(max(map(len, lines)), MOST_ACTS)
+
+    def test_one_line(self):
+        """A key goes to nine panes in one line, and several to two."""
+        for panes, count, lines in ((range(1, 10), 1, 1), (range(1, 10), 6, 1), (range(1, 10), 7, 2), ((2, 1), 31, 1), ((2, 1), 32, 2)):
+            self.assertEqual(len(lines_of(list(panes), [lambda pane: ["char 61"]] * count)), lines, (panes, count))
+
+
+class Person(Attached):
+    """A person whose keys go to all panes."""
+
+    def begin(self, panes=3, **more):
+        """A person at a session of so many panes, where the last is in focus."""
+        session = Lived()
+        for place in range(panes - 1):
+            session.do("split right" if place % 2 else "split down")
+        self.attach(session, **more)
+        self.heard.clear()
+        self.commands = self.person.commands
+        self.commands.link.guess = self.guessed.append
+        self.commands.synchronizing.guesses = lambda: "adaptive"
+
+    def setUp(self):
+        super().setUp()
+        self.guessed = []
+
+    def switch(self):
+        """Switches it."""
+        self.commands.grant("synchronize", None)
+
+    def test_switched(self):
+        """Keys go to all panes while it is on, which the last row tells, and nothing is guessed; then to the one in focus."""
+        self.begin()
+        self.switch()
+        self.assertEqual((self.commands.display.told, self.commands.display.panes_label()),
+                         ("keys go to all panes of this window", " 1  2 [3] S"))
+        self.types(b"ab\x1b[A")
+        self.assertEqual(self.heard, ["char 61 ; char 62 ; key up ; focus 1 ; char 61 ; char 62 ; key up ; focus 2 ; char 61 ; char 62 ; "
+                                      "key up ; focus 3"])
+        self.switch()
+        self.types(b"c")
+        self.assertEqual((self.heard[1:], self.guessed, self.commands.display.panes_label()), (["char 63"], ["never", "adaptive"], " 1  2 [3]"))
+
+    def test_commands(self):
+        """What isn't a key goes where it always does: the prefix moves the focus, and the keys behind wait until that is told."""
+        self.begin(2)
+        self.switch()
+        self.commands.fed(b"\x02ox")
+        self.assertEqual(self.person.said(), ["next"])
+        self.assertEqual(self.commands.synchronizing.keys[0](1), ["char 78"])
+        self.session.do("next")
+        self.person.tell(self.session.places())
+        self.assertEqual(self.person.said(), ["char 78 ; focus 2 ; char 78 ; focus 1"])
+        self.commands.fed(b"\x02oy")
+        self.now += FOCUS_WAIT
+        self.person.loop.turn()
+        self.assertEqual(self.person.said(), ["next", "char 79"])
+        self.commands.fed(b"z\x02o")
+        self.assertEqual(self.person.said()[-1:], ["next"])
+
+    def test_together(self):
+        """While much is on its way keys wait, and go together then."""
+        self.begin(2)
+        self.switch()
+        self.commands.link.has_taken = False
+        for letter in (b"a", b"b"):
+            self.commands.fed(letter)
+        self.assertEqual(self.person.said(), [])
+        self.commands.link.has_taken = True
+        self.now += AGAIN
+        self.person.loop.turn()
+        self.assertEqual(self.person.said(), ["char 61 ; char 62 ; focus 1 ; char 61 ; char 62 ; focus 2"])
+
+    def test_awaited(self):
+        """In a window whose panes aren't told yet keys wait until they are."""
+        self.begin(2)
+        self.switch()
+        panes, told = self.person.panes, self.session.places()
+        panes.awaited, panes.place.told = True, None
+        self.commands.fed(b"x")
+        self.assertEqual((self.person.said(), self.commands.is_full()), ([], False))
+        self.patch_of(synchronizing, "MOST_KEYS", 1)
+        self.assertTrue(self.commands.is_full())
+        self.person.tell(told)
+        self.assertEqual((self.person.said(), self.commands.is_full()), (["char 78 ; focus 1 ; char 78 ; focus 2"], False))
+
+    def test_alone(self):
+        """One pane has what is typed as ever, and so has one that is zoomed; who only watches types nothing."""
+        self.begin(1)
+        self.switch()
+        self.types(b"a")
+        self.assertEqual(self.heard, ["char 61"])
+        self.begin(2)
+        self.switch()
+        self.types(b"\x02z")
+        self.heard.clear()
+        self.types(b"a")
+        self.assertEqual((self.heard, self.commands.display.panes_label()[-3:]), (["char 61"], " ZS"))
+        self.types(b"\x02zb")
+        self.assertIn("char 62 ; focus 1 ; char 62 ; focus 2", self.heard)
+        self.begin(2, watches=True)
+        self.switch()
+        self.assertFalse(self.commands.synchronizing.is_on())
+
+    def test_windows(self):
+        """What was switched is a window's, and known where its person comes back."""
+        self.begin(2)
+        switched = {}
+        for number, is_on in ((1, False), (2, False)):
+            self.commands.synchronizing.remember(switched, number, lambda: "adaptive")
+            self.assertEqual(self.commands.synchronizing.is_on(), is_on)
+        self.switch()
+        for number, is_on in ((1, False), (2, True)):
+            self.commands.synchronizing.remember(switched, number, lambda: "adaptive")
+            self.assertEqual(self.commands.synchronizing.is_on(), is_on)
+
+
+if __name__ == "__main__":
+    unittest.main()
