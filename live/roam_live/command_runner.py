@@ -40,8 +40,8 @@ if TYPE_CHECKING:
         def go_by_settings(self, otherwise: str = "") -> None:
             """Goes by the settings as they are now."""
 
-# So many seconds a line stands that a command tells; so many lines that were typed are kept, each so long; and so many programs run at once,
-# of which so much is heard.
+# So many seconds a line stands that a command tells; so many lines that were typed are kept, each so long; and so many programs run at
+# once, of which so much is heard.
 SAID = 4.0
 MOST_LINES, LONGEST_LINE = 100, 1000
 MOST_RUNS, MOST_HEARD = 8, 1 << 16
@@ -133,8 +133,9 @@ class CommandRunner:
     def do(self, asked: CommandWish) -> None:
         """Does what a command asks for."""
         commands = self.front.commands
-        does: dict[str, Callable[[str], object]] = {"tell": self.tell_text, "run": self.run_shell, "window name": self.name_window, "command line": self.ask,
-                "prefix": self.type_prefix, "settings": self.read_settings}
+        does: dict[str, Callable[[str], object]] = {
+            "tell": self.tell_text, "run": self.run_shell, "window name": self.name_window, "command line": self.ask,
+            "prefix": self.type_prefix, "settings": self.read_settings}
         if asked.acts:
             commands.type_key(asked.acts)
             commands.synchronizing.settle()

@@ -24,7 +24,7 @@ class BadCommand(Exception):
 
 
 class CommandWish(namedtuple("CommandWish", "acts wish text words", defaults=((),))):
-    """What a command asks for: acts that are typed, or a wish of the front end's, and a text that belongs to it; and the command's words."""
+    """What a command asks for: acts that are typed, or a wish of the front end's, and a text that belongs to it; and its words."""
 
     acts: list[str]
     wish: str
@@ -122,7 +122,8 @@ def keys_sent(flags: Flags) -> CommandWish:
     """Reads keys by their names, or texts, which are typed."""
     words = flags.words[:MOST_WORDS]
     is_named = not flags.has("l")
-    return CommandWish([act for word in words for act in is_named and acts_named(word) or acts_of(Key("text", word[:LONGEST_TEXT]))], "", "")
+    acts = [is_named and acts_named(word) or acts_of(Key("text", word[:LONGEST_TEXT])) for word in words]
+    return CommandWish([act for some in acts for act in some], "", "")
 
 
 def texted(word: str, is_needed: bool = True) -> Callable[[Flags], CommandWish]:
@@ -151,8 +152,9 @@ TABLE = (
     NamedCommand(("last-pane", "lastp"), "", wish("last"), "puts the pane in focus that was before"),
     NamedCommand(("display-panes", "displayp"), "b", wish("panes"), "has a digit be a pane's"),
     NamedCommand(("resize-pane", "resizep"), "LRUDZ", sized, "zooms the pane, or moves one of its borders"),
-    NamedCommand(("select-layout", "selectl", "next-layout", "nextl"), "Enop", lambda flags: CommandWish([], "even", ""), "gives even shares"),
-    NamedCommand(("copy-mode",), "ues", by_flag({"u": "copy page", "s": "copy search"}, "copy"), "enters copy mode, a page back, or with a search"),
+    NamedCommand(("select-layout", "selectl", "next-layout", "nextl"), "Enop", by_flag({}, "even"), "gives even shares"),
+    NamedCommand(("copy-mode",), "ues", by_flag({"u": "copy page", "s": "copy search"}, "copy"),
+                 "enters copy mode, a page back, or with a search"),
     NamedCommand(("paste-buffer", "pasteb"), "p", wish("paste"), "pastes what was copied last"),
     NamedCommand(("choose-buffer",), "Z", wish("choose"), "chooses what is pasted"),
     NamedCommand(("detach-client", "detach"), "a", by_flag({"a": "leave others"}, "detach"), "detaches this terminal, or all others"),

@@ -103,7 +103,8 @@ class Commands:
         # another size itself.
         self.given: terminal.Size | None = None
         self.showed_all = False
-        # The size that this window had as it was left, where all of it was shown here then: one that nobody changed since follows the terminal.
+        # The size that this window had as it was left, where all of it was shown here then: one that nobody changed since follows the
+        # terminal.
         self.left_size = NO_SIZE
         self.copying, self.choosing = Copying(self, loop), Choosing(self)
         self.zooming, self.border_keys, self.foci = Zooming(self, loop), BorderKeys(self, loop), Foci(panes)

@@ -100,7 +100,8 @@ class Keys:
 
 
 def keys_in(text: str) -> list[Key]:
-    """The keys of a text, and reports of the mouse and answers of the terminal among them; a sequence that isn't known has the name of none."""
+    """The keys of a text, and reports of the mouse and answers of the terminal among them; a sequence that isn't known has the name of
+    none."""
     return [key_of(found[0]) for found in WHOLE.finditer(text)]
 
 

@@ -4,10 +4,12 @@ from __future__ import annotations
 # What tmux calls what `mux` has by another name.
 TMUX_WORDS = {
     "a": "attach", "at": "attach", "att": "attach", "attach-session": "attach", "capture-pane": "capture", "capturep": "capture",
-    "det": "detach", "detach-client": "detach", "has-session": "ls", "kill-server": "kill", "kill-session": "kill", "list-buffers": "buffer",
+    "det": "detach", "detach-client": "detach", "has-session": "ls", "kill-server": "kill", "kill-session": "kill",
+    "list-buffers": "buffer",
     "kill-pane": "kill", "kill-window": "kill", "killp": "kill", "killw": "kill", "list-clients": "clients", "list-commands": "help",
     "list-keys": "help", "list-sessions": "ls", "lsb": "buffer", "lsc": "clients", "lscm": "help", "lsk": "help", "lsw": "list-windows",
-    "neww": "new-window", "renamew": "rename-window", "select-window": "attach", "selectw": "attach", "new-session": "new", "paste-buffer": "buffer", "pasteb": "buffer", "pipe-pane": "log", "pipep": "log",
+    "neww": "new-window", "renamew": "rename-window", "select-window": "attach", "selectw": "attach", "new-session": "new",
+    "paste-buffer": "buffer", "pasteb": "buffer", "pipe-pane": "log", "pipep": "log",
     "send-keys": "send", "set-buffer": "buffer", "setb": "buffer", "show-buffer": "buffer", "show-environment": "env",
     "showb": "buffer", "showenv": "env", "start-server": "new",
 }

@@ -86,7 +86,8 @@ def undone(found: FileSettings) -> list[str]:
 
 
 def summary(found: FileSettings | None) -> str:
-    """What is told at a terminal of a file that was read: what it has told there itself, or how much of it isn't done; nothing where all is."""
+    """What is told at a terminal of a file that was read: what it has told there itself, or how much of it isn't done; nothing where all
+    is."""
     lines = undone(found) if found else []
     said = found.messages[-1:] if found else []
     wrong = lines[:1] if len(lines) < 2 else [f"{len(lines)} lines of {NAME} aren't done here, which `{PRINTS}` prints"]

@@ -1,4 +1,5 @@
-"""What one person is asked in the last row, above all that is told there: a question, which the next key answers, or a line that is typed."""
+"""What one person is asked in the last row, above all that is told there: a question, which the next key answers, or a line that is
+typed."""
 from __future__ import annotations
 
 from collections.abc import Callable

@@ -699,7 +699,8 @@ class NearSession(FolderSession):
         there = self.windows()
         named = [window for window in there if window.number == number or number is None and window.id() == self.id()]
         if not named and number is not None:
-            why = f"has no window {number}" if there[0].number else f"has one window here, as an earlier roam's there, and no window {number}"
+            one = "has one window here, as an earlier roam's there, and no window"
+            why = f"has no window {number}" if there[0].number else f"{one} {number}"
             raise Fault(f"session {self.name} {why}")
         return (named or there)[0]
 

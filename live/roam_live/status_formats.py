@@ -34,8 +34,8 @@ HEXADECIMAL = re.compile(r"#([0-9a-fA-F]{2})([0-9a-fA-F]{2})([0-9a-fA-F]{2})")
 NUMBERED = re.compile(r"colou?r([0-9]{1,3})")
 
 class Format(namedtuple("Format", "pieces wrong step")):
-    """A format that is read: what stands in it, as a kind and a word each, what of it isn't known, and by how many seconds the clock goes on
-    before it changes; 0 where no clock is in it."""
+    """A format that is read: what stands in it, as a kind and a word each, what of it isn't known, and by how many seconds the clock goes
+    on before it changes; 0 where no clock is in it."""
 
     pieces: tuple[tuple[str, str], ...]
     wrong: tuple[str, ...]
@@ -125,8 +125,8 @@ def filled(read: Format, values: dict[str, str], now: float) -> list[Styled]:
 
 
 def changes_in(read: Format, now: float, interval: float) -> float | None:
-    """In how many seconds a format is to be looked at again, by the clock in it and the seconds that are to be between two looks; None where
-    no clock is in it, or no look is wanted."""
+    """In how many seconds a format is to be looked at again, by the clock in it and the seconds that are to be between two looks; None
+    where no clock is in it, or no look is wanted."""
     if not read.step or not interval:
         return None
     return max(read.step - now % read.step, interval if read.step < interval else 0.0)

@@ -1,5 +1,5 @@
-"""A person's visit to a window: the front end's connections to its sockets, and what keys mean there. One that was left goes on until all is
-taken that was typed in it."""
+"""A person's visit to a window: the front end's connections to its sockets, and what keys mean there. One that was left goes on until all
+is taken that was typed in it."""
 from __future__ import annotations
 
 import os

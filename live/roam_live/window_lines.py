@@ -84,7 +84,8 @@ class WindowLines:
         if line == WINDOWS:
             peer.asks_windows = True
             told = [self.line(number) for number in sorted(self.table.named())]
-            socket.send(peer, [*told, f"{WINDOWS} {len(told)}", *(f"{RUNS} {number} {name}" for number, name in self.table.in_front().items())])
+            runs = [f"{RUNS} {number} {name}" for number, name in self.table.in_front().items()]
+            socket.send(peer, [*told, f"{WINDOWS} {len(told)}", *runs])
         elif opens:
             self.open(socket, peer, (int(opens[1]), int(opens[2])))
         elif peer.watches():

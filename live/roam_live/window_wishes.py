@@ -53,8 +53,8 @@ if TYPE_CHECKING:
 # What is told to who had a window opened.
 OPENED = re.compile(r"opened (?:(?P<window>[1-9]\d?)|none (?P<why>.{1,200}))", re.ASCII)
 
-# So many seconds a window has until it is opened, so often it is looked whether it is there, and after so many a person is told that it takes
-# long: what is typed meanwhile is for it, so many keys and characters at most.
+# So many seconds a window has until it is opened, so often it is looked whether it is there, and after so many a person is told that it
+# takes long: what is typed meanwhile is for it, so many keys and characters at most.
 OPENS = 3.0
 COMES = 0.02
 TAKES_LONG = 0.5

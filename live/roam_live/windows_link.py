@@ -1,5 +1,5 @@
-"""What is told of the windows of a session at a front end's connection to the keeper of shells: which there are, their names, what runs there,
-and where something happened."""
+"""What is told of the windows of a session at a front end's connection to the keeper of shells: which there are, their names, what runs
+there, and where something happened."""
 from __future__ import annotations
 
 import re
@@ -85,8 +85,8 @@ class ToldWindows:
 
 
 class WindowsLink(Following):
-    """A front end's connection to the keeper of shells about windows, beside the one that tells of the terminal: at any window's socket. One
-    who doesn't know the word is an earlier roam's, and isn't asked again."""
+    """A front end's connection to the keeper of shells about windows, beside the one that tells of the terminal: at any window's socket.
+    One who doesn't know the word is an earlier roam's, and isn't asked again."""
 
     again = "follow windows"
 
