@@ -34,8 +34,8 @@ if TYPE_CHECKING:
         def number(self) -> int:
             """That window's number, 0 where the session has no windows."""
 
-        def read_settings(self) -> None:
-            """Goes by the settings file as it is now."""
+        def read_settings(self, path: str = "") -> None:
+            """Goes by the settings file as it is now, or by one that is named too."""
 
         def go_by_settings(self, otherwise: str = "") -> None:
             """Goes by the settings as they are now."""
@@ -185,8 +185,8 @@ class CommandRunner:
         self.front.commands.synchronizing.settle()
 
     def read_settings(self, text: str) -> None:
-        """Reads the settings file anew."""
-        self.front.read_settings()
+        """Reads the settings file anew, or a file that is named too."""
+        self.front.read_settings(text)
 
     def name_window(self, text: str) -> None:
         """Gives the window a name, or asks for one."""

@@ -171,9 +171,12 @@ class FrontEnd:
 
     # ---- settings
 
-    def read_settings(self) -> None:
-        """Goes by the settings file as it is now."""
-        OWN.read()
+    def read_settings(self, path: str = "") -> None:
+        """Goes by the settings file as it is now, or by one that is named too."""
+        if path:
+            OWN.add(path)
+        else:
+            OWN.read()
         self.go_by_settings(READ)
         self.run_file()
 

@@ -3,7 +3,7 @@ from __future__ import annotations
 
 import os
 
-from roam_live.choices import choose_by_file, text_of
+from roam_live.choices import BY_FILE, choose_by_file, text_of
 
 TYPE_CHECKING = False
 if TYPE_CHECKING:
@@ -32,6 +32,12 @@ def read_settings() -> FileSettings | None:
     from roam_live.settings import FileSettings
 
     found = FileSettings(commands=BY_NAME)
+    take(found, path)
+    return found
+
+
+def take(found: FileSettings, path: str) -> None:
+    """Has settings go by a file too, and this process by them; a key isn't bound to what can't be done."""
     found.read(path)
     for (table, key), binding in list(found.bindings.items()):
         why = next(filter(None, map(refused, binding.commands)), "") if binding else ""
@@ -39,7 +45,6 @@ def read_settings() -> FileSettings | None:
             found.tell(path, 0, f"{key} isn't bound: {why}")
             del found.bindings[table, key]
     choose_by_file(found.values)
-    return found
 
 
 def refused(words: list[str]) -> str:
@@ -62,6 +67,17 @@ class OwnSettings:
     def read(self) -> None:
         """Reads it, and goes by it."""
         self.found = read_settings()
+
+    def add(self, path: str) -> None:
+        """Reads another file, and goes by it too."""
+        from roam_live.command_table import BY_NAME
+        from roam_live.settings import FileSettings
+
+        found = FileSettings(commands=BY_NAME)
+        found.values.update(BY_FILE)
+        found.bindings.update(self.found.bindings if self.found else {})
+        take(found, os.path.expanduser(path))
+        self.found = found
 
     def line(self) -> str:
         """What is told of it at a terminal."""

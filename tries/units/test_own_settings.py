@@ -82,6 +82,17 @@ class Own(Case):
         self.read("display 'good morning'\n")
         self.assertEqual(OWN.line(), "good morning")
 
+    def test_added(self):
+        """Another file is gone by too, and nothing of the first is lost that it doesn't say."""
+        self.read("set -g prefix C-a\nset -g mouse on\nbind x kill-pane\n")
+        other = self.folder / "other.conf"
+        other.write_text("set -g mouse off\nbind y next-window\nfoo\n")
+        OWN.add(str(other))
+        self.assertEqual((choices.chosen_prefix(), choices.wants_mouse(), OWN.line()), ("C-a", False, "other.conf:3: foo isn't there in roam"))
+        self.assertEqual(sorted(OWN.found.bindings), [("prefix", "x"), ("prefix", "y")])
+        OWN.add(str(self.folder / "none"))
+        self.assertEqual(OWN.line(), "none: can't be read: No such file or directory")
+
     def test_refused(self):
         """A file that another may write is told of, and nothing of it done; nor is a value that can't be."""
         self.file.write_text("set -g prefix C-a\n")
