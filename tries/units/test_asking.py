@@ -7,6 +7,7 @@ import signal
 import socket
 import subprocess
 import sys
+import time
 import threading
 import unittest
 from unittest import mock
@@ -170,6 +171,10 @@ class Parted(Case):
         self.addCleanup(os.kill, process, signal.SIGKILL)
         self.assertEqual((process, process == first.pid), (session, False))
         self.assertEqual(sorted(os.listdir(f"/proc/{first.pid}/fd"))[:3], ["0", "1", "2"])
+        # The other may tell who it is before the first has closed what it doesn't hold.
+        end = time.monotonic() + 10
+        while len(os.listdir(f"/proc/{first.pid}/fd")) != 4 and time.monotonic() < end:
+            time.sleep(0.01)
         self.assertEqual(len(os.listdir(f"/proc/{first.pid}/fd")), 4)
         self.assertIsNone(first.poll())
         first.stdin.write(b"x")
