@@ -7,6 +7,7 @@ import pathlib
 import socket
 import subprocess
 import tempfile
+import time
 import unittest
 from unittest import mock
 
@@ -58,6 +59,10 @@ class Folder(unittest.TestCase):
         process = subprocess.Popen(["sleep", "60"], env=environment)
         self.addCleanup(process.wait)
         self.addCleanup(process.kill)
+        # It is known as what it became once the system tells its words.
+        end = time.monotonic() + 10
+        while pathlib.Path(f"/proc/{process.pid}/cmdline").read_bytes() != b"sleep\x0060\x00" and time.monotonic() < end:
+            time.sleep(0.005)
         return process
 
 
