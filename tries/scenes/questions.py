@@ -2,9 +2,11 @@
 import socket
 import time
 
-from tried import SESSION, Outer, check, comes, scene, terminals_of, tool
+from tried import SESSION, Outer, check, comes, connected, scene, terminals_of, tool
+from roam_live.captures import asked_screen
 from roam_live.colours import ASKED
 from roam_live.questions import ASKS, NAMED
+from roam_live.told import screen_of
 
 # A program that writes what its words spell to its terminal, and notes what comes until the answer to DA1 has, or for three seconds.
 ASKER = """\
@@ -16,6 +18,16 @@ while not noted.endswith(b"c") and select.select([0], [], [], max(0, until - tim
     noted += os.read(0, 4096)
 open(sys.argv[2], "wb").write(noted)
 termios.tcsetattr(0, termios.TCSAFLUSH, before)
+"""
+
+# A program that fills a screen with one letter after another, each time as one frame of 1,600 bytes.
+FILLER = """\
+import os, time
+for turn in range(120):
+    rows = "".join(f"\\033[{row};1H{'xyz'[turn % 3] * 70}" for row in range(1, 21))
+    os.write(1, f"\\033[?2026h{rows}\\033[?2026l".encode())
+    time.sleep(0.03)
+os.write(1, b"\\033[22;1Hdo" b"ne\\r\\n")
 """
 
 # What the terminals of panes answer to DA1 begins so.
@@ -100,3 +112,24 @@ def frames(folder):
                     encoding="utf-8")
     outer.type(f"clear; sh {many}\r".encode())
     check("of many frames the last stays", outer.shows("199") and outer.shows("all"), outer.rows)
+
+
+def letters_shown():
+    """The letters that fill rows of the session's screen now."""
+    rows = screen_of(asked_screen(connected(SESSION), "look")).text()
+    return {row[0] for row in rows if row[:70] in ("x" * 70, "y" * 70, "z" * 70)}
+
+
+@scene
+def large_frames(folder):
+    """A frame that the server takes in several turns is shown whole or not at all."""
+    outer = Outer(tool("mux", SESSION))
+    outer.shows("$ ")
+    script = folder / "filler"
+    script.write_text(FILLER, encoding="utf-8")
+    outer.type(f"clear; python3 {script}\r".encode())
+    seen = []
+    comes(lambda: seen.append(letters_shown()) or any("done" in row for row in outer.rows()), 60)
+    shown = [letters for letters in seen if letters]
+    check("frames are seen", len(shown) > 5, seen)
+    check("each whole", all(len(letters) == 1 for letters in shown), shown)

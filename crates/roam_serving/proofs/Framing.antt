@@ -1,8 +1,9 @@
 -- Where frames begin and end, however the bytes are looked at; and what is left of them once some were handed on.
-use Rattle.std.proofs.Common.{◌≡◌, ◌<◌, ◌≤◌, ◌+◌, ℕ, zero, suc, Bool, true, false, List, [], ◌∷◌, ◌++◌, length, take, drop, Option, None, Some, inl, inr, length-append, refl, sym, ap, ◌∙◌, arith, if◌then◌else◌}
-use Rattle.std.specs.Prelude.{◌==◌, ◌&&◌, IfSome, slice_index, ◌⊎◌}
+use Rattle.std.proofs.Common.{◌≡◌, ◌<◌, ◌≤◌, ◌+◌, ℕ, zero, suc, Bool, true, false, List, [], ◌∷◌, ◌++◌, length, take, drop, Option, None, Some, length-append, refl, sym, ap, ◌∙◌, arith, if◌then◌else◌}
+use Rattle.std.specs.Prelude.{◌==◌, ◌&&◌, IfSome, nat_lt, slice_index}
 use Rattle.std.proofs.lemmas.List.{append-nil, drop-drop}
 use Rattle.std.proofs.Math.Seq.{drop-append_seam}
+use Rattle.std.proofs.lemmas.Bool.{lt-ltb}
 use Rattle.memchr.specs.Find.{is_byte}
 use Rattle.roam_serving.specs.Frames.{HasNoEscape, HasNoMark, frame_after, frame_with, free_before, opened_at, opens, sets_frame}
 
@@ -18,7 +19,7 @@ no-set last b (c ∷ d ∷ f ∷ g ∷ h ∷ i ∷ []) e = refl
 no-set last b (c ∷ d ∷ f ∷ g ∷ h ∷ i ∷ j ∷ rest) e =
     ap (λ t. t && (c == 0x5B && (d == 0x3F && (f == 0x32 && (g == 0x30 && (h == 0x32 && (i == 0x36 && j == last))))))) e
 
-no-change : (frame : Option ℕ) (at b : ℕ) (rest : List ℕ) → (b == 0x1B) ≡ false → frame_with frame at (b ∷ rest) ≡ frame
+pub no-change : (frame : Option ℕ) (at b : ℕ) (rest : List ℕ) → (b == 0x1B) ≡ false → frame_with frame at (b ∷ rest) ≡ frame
 no-change frame at b rest e =
     ap (λ t. if t then None else if opens (b ∷ rest) then opened_at frame at else frame) (no-set 0x6C b rest e)
     ∙ ap (λ t. if t then opened_at frame at else frame) (no-set 0x68 b rest e)
@@ -83,15 +84,25 @@ pub none-later : (frame : Option ℕ) (ready later : List ℕ) → IfSome frame 
 none-later None ready later h free = none-left later (omega (arith, free, length-append ready later))
 none-later (Some begin) ready later h free = h.1
 
--- where a frame begins behind what was appended, all of it or nothing
+-- where a frame begins behind what was appended, once all of it was
 pub framed : (frame result : Option ℕ) (from : ℕ) (old new chunk rest : List ℕ) → from ≡ length old → new ++ rest ≡ old ++ chunk
-    → (rest ≡ [] → result ≡ frame_after frame from (drop from new)) → ((rest ≡ [] → ⊥) → result ≡ None)
-    → (result ≡ frame_after frame (length old) chunk) ⊎ (result ≡ None)
-framed frame result from old new chunk [] at all is none =
-    let same : new ≡ old ++ chunk = sym (append-nil new) ∙ all in
-    inl (is refl ∙ ap (λ k. frame_after frame k (drop k new)) at ∙ ap (λ l. frame_after frame (length old) (drop (length old) l)) same
-    ∙ ap (frame_after frame (length old)) (drop-append_seam old chunk))
-framed frame result from old new chunk (x ∷ rest) at all is none = inr (none (λ e. cc))
+    → (rest ≡ [] → result ≡ frame_after frame from (drop from new)) → rest ≡ [] → result ≡ frame_after frame (length old) chunk
+framed frame result from old new chunk rest at all is none =
+    let same : new ≡ old ++ chunk = sym (append-nil new) ∙ ap (λ l. new ++ l) (sym none) ∙ all in
+    is none ∙ ap (λ k. frame_after frame k (drop k new)) at ∙ ap (λ l. frame_after frame (length old) (drop (length old) l)) same
+    ∙ ap (frame_after frame (length old)) (drop-append_seam old chunk)
+
+-- whether anything stands later
+true-not-false : true ≡ false → ⊥
+true-not-false e = cc
+
+pub not-short : (later : List ℕ) → nat_lt 0 (length later) ≡ false → later ≡ []
+not-short [] none = refl
+not-short (x ∷ later) none = absurd (true-not-false (sym (lt-ltb 0 (length (x ∷ later)) (omega arith)) ∙ none))
+
+pub is-short : (later : List ℕ) → nat_lt 0 (length later) ≡ true → later ≡ [] → ⊥
+is-short [] some none = true-not-false (sym some)
+is-short (x ∷ later) some none = cc
 
 pub first-none : (xs ys : List ℕ) → xs ++ ys ≡ [] → xs ≡ []
 first-none [] ys e = refl
@@ -103,7 +114,7 @@ and-false : (t : Bool) → t && false ≡ false
 and-false true = refl
 and-false false = refl
 
-unmarked : (last : ℕ) (xs : List ℕ) → HasNoMark xs → sets_frame last xs ≡ false
+pub unmarked : (last : ℕ) (xs : List ℕ) → HasNoMark xs → sets_frame last xs ≡ false
 unmarked last [] h = refl
 unmarked last (a ∷ []) h = refl
 unmarked last (a ∷ b ∷ []) h = refl

@@ -3,6 +3,7 @@ mod Asked
 mod Bound
 mod Bringing
 mod Clipped
+mod Cutting
 mod Framing
 mod Inquired
 mod News

@@ -1,5 +1,5 @@
 -- Frames, which are held together on the way to a pane's terminal (synchronized output, the private mode 2026).
-use Rattle.std.specs.Prelude.{ℕ, ◌≡◌, ◌⊎◌, ◌+◌, ◌-◌, ◌++◌, ◌==◌, ◌&&◌, ◌||◌, Bool, false, List, [], ◌∷◌, length, nat_le, Option, None, Some, if◌then◌else◌}
+use Rattle.std.specs.Prelude.{ℕ, ◌≡◌, ◌+◌, ◌-◌, ◌++◌, ◌==◌, ◌&&◌, ◌||◌, Bool, true, false, List, [], ◌∷◌, length, nat_le, Option, None, Some, if◌then◌else◌}
 use Rattle.roam_serving.specs.Moments.{after, is_time}
 
 -- a frame is held for so many milliseconds at most
@@ -46,14 +46,17 @@ abbrev pub frame_after : Option ℕ → ℕ → List ℕ → Option ℕ
 frame_after frame at [] = frame
 frame_after frame at (b ∷ bytes) = frame_after (frame_with frame at (b ∷ bytes)) (at + 1) bytes
 
--- what went through and isn't handed on yet; the place where the frame begins that is open at its end, which waits, and since when
+-- what went through and isn't handed on yet; the place where the frame begins that is open at its end, which waits, and since when; whether
+-- one is open behind what was handed on; and whether memory was wanting for what stands at its end
 pub record FramesView : Type 0 where
   pub ready : List ℕ
   pub frame : Option ℕ
   pub since : ℕ
+  pub within : Bool
+  pub short : Bool
 
 abbrev pub no_frames : FramesView
-no_frames = record { ready = []; frame = None; since = 0 }
+no_frames = record { ready = []; frame = None; since = 0; within = false; short = false }
 
 -- how many bytes may be handed on
 abbrev pub free_before : Option ℕ → List ℕ → ℕ
@@ -87,8 +90,11 @@ abbrev pub frame_left : Option ℕ → ℕ → Option ℕ
 frame_left None count = None
 frame_left (Some begin) count = Some (begin - count)
 
--- What went through stands behind the rest; where a frame is open then it is held from where it begins, unless memory is wanting.
+-- What went through stands behind the rest; where a frame is open then it is held from where it begins, and none is where memory is
+-- wanting.
 pub record Takes (old new : FramesView) (chunk : List ℕ) (now : ℕ) : Type 0 where
   pub ready : new.ready ≡ old.ready ++ chunk
-  pub frame : (new.frame ≡ frame_after old.frame (length old.ready) chunk) ⊎ (new.frame ≡ None)
+  pub frame : new.short ≡ false → new.frame ≡ frame_after old.frame (length old.ready) chunk
+  pub none : new.short ≡ true → new.frame ≡ None
   pub since : new.since ≡ since_after new.frame (length old.ready) old.since now
+  pub within : new.within ≡ old.within

@@ -11,6 +11,7 @@ pub mod Inflows
 pub mod Moments
 pub mod Panes
 pub mod Peers
+pub mod Pieces
 pub mod Programs
 pub mod Rests
 pub mod Runs

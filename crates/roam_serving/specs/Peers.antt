@@ -1,10 +1,10 @@
 -- The peers of a pane's socket: the programs that come to it.
-use Rattle.std.specs.Prelude.{ℕ, ◌≡◌, ◌≢◌, ◌+◌, ◌-◌, ◌≤◌, ◌⊎◌, Bool, true, false, List, [], ◌∷◌, length, slice_get, Option, Some, None, IsSome, IfSome, is_some, Result, Ok, Err}
+use Rattle.std.specs.Prelude.{ℕ, ◌≡◌, ◌≢◌, ◌+◌, ◌-◌, ◌≤◌, ◌⊎◌, ◌||◌, Bool, true, false, List, [], ◌∷◌, length, slice_get, Option, Some, None, IsSome, IfSome, is_some, Result, Ok, Err}
 use Rattle.std.specs.declared.io.Error.{Error}
 use Rattle.roam_faults.specs.Streams.{IsForNow}
 use Rattle.mio.specs.declared.net.uds.stream.UnixStream.{UnixStream}
 use Rattle.roam_serving.specs.Inflows.{Brings, IsFreshInflow}
-use Rattle.roam_serving.specs.Sieves.{IsFree, waits_until}
+use Rattle.roam_serving.specs.Sieves.{IsFree, frame_goes_on, waits_until}
 use Rattle.roam_serving.specs.Moments.{sooner}
 use Rattle.roam_serving.specs.declared.peers.Making.{Making}
 use Rattle.roam_serving.specs.declared.inflows.Inflow.{Inflow}
@@ -76,3 +76,8 @@ pub record Changes (Goes : Pane → Pane → Type 0) (pane : ℕ) (old new : Lis
 abbrev pub frames_until : List Pane → Option ℕ
 frames_until [] = None
 frames_until (pane ∷ panes) = sooner (waits_until pane.inflow.sieve) (frames_until panes)
+
+-- the rest of a frame is to go on to the terminal of one of these panes
+abbrev pub any_goes_on : List Pane → Bool
+any_goes_on [] = false
+any_goes_on (pane ∷ panes) = frame_goes_on pane.inflow.sieve || any_goes_on panes

@@ -1,7 +1,8 @@
 -- A filter on the way of what comes of a pane's program.
-use Rattle.std.specs.Prelude.{ℕ, ◌≡◌, ◌++◌, List, [], take, Option, Some, None}
+use Rattle.std.specs.Prelude.{ℕ, ◌≡◌, ◌++◌, Bool, false, List, [], take, Option, Some, None}
 use Rattle.roam_meant.specs.Meant.{held_part, meant_part}
 use Rattle.roam_serving.specs.Frames.{FramesView, Takes, held_until, no_frames}
+use Rattle.roam_serving.specs.Pieces.{goes_on}
 
 -- a filter on that way: what it holds back, what waits before it for want of memory, and what went through and isn't handed on yet, where
 -- frames are held together
@@ -46,6 +47,11 @@ TakesMore (Some s) = s.unread ≡ []
 abbrev pub waits_until : Option SieveView → Option ℕ
 waits_until None = None
 waits_until (Some s) = held_until s.frames.frame s.frames.since
+
+-- the rest of a frame is to go on there
+abbrev pub frame_goes_on : Option SieveView → Bool
+frame_goes_on None = false
+frame_goes_on (Some s) = goes_on s.frames
 
 -- the bytes at the front of a buffer that an answer counts
 abbrev pub bytes_given : Option ℕ → List ℕ → List ℕ

@@ -1,7 +1,9 @@
 //! Frames, which are held together on the way to a pane's terminal.
-ghost use Rattle.std.specs.Prelude.{◌≡◌, ◌≤◌, ◌<◌, ◌⊎◌, ◌-◌, ◌++◌, ◌↔◌, [], List, ℕ, true, false, length, take, drop, None, IfSome, IsTrue};
+ghost use Rattle.std.specs.Prelude.{◌≡◌, ◌≤◌, ◌<◌, ◌⊎◌, ◌-◌, ◌++◌, ◌↔◌, [], List, ℕ, true, false, length, take, drop, is_some, None, IfSome, IsTrue};
 ghost use Rattle.roam_serving.specs.Frames.{HasNoEscape, HasNoMark, Takes, closes, frame_after, frame_at, frame_left, frame_with, free, free_before, held_until, is_over, no_frames, opens, since_after};
+ghost use Rattle.roam_serving.specs.Pieces.{goes_on, left_open, piece_of};
 
+use crate::pieces::{left_open, piece_before};
 use crate::tellings::{after, is_time};
 use memchr::memchr;
 use std::alloc::Global;
@@ -31,15 +33,23 @@ pub(crate) struct Frames {
     // Where the frame begins that is open.
     frame: Option<usize>,
     since: u64,
+    // Whether one is open behind what was handed on.
+    within: bool,
 }
 
 impl Model for Frames {
-    ghost use Rattle.std.specs.Prelude.{◌≡◌, ◌≤◌, ◌++◌, [], length, IfSome};
+    ghost use Rattle.std.specs.Prelude.{◌≡◌, ◌≤◌, ◌++◌, [], length, nat_lt, IfSome};
     ghost use Rattle.roam_serving.specs.Frames.{FramesView};
 
     ghost Value = { FramesView };
 
-    ghost view = { λ f. record { ready = f.ready.items ++ f.later.items; frame = f.frame; since = f.since } };
+    ghost view = { λ f. record {
+      ready = f.ready.items ++ f.later.items;
+      frame = f.frame;
+      since = f.since;
+      within = f.within;
+      short = nat_lt 0 (length f.later.items);
+    } };
 
     ghost invariant = { λ f. IfSome f.frame (λ begin. (begin ≤ length f.ready.items) × (f.later.items ≡ [])) };
 }
@@ -62,7 +72,7 @@ fn closes(bytes: &[u8]) -> bool
     )
 }
 
-fn frame_with(frame: Option<usize>, at: usize, bytes: &[u8]) -> Option<usize>
+pub(crate) fn frame_with(frame: Option<usize>, at: usize, bytes: &[u8]) -> Option<usize>
     ensures frame { result ≡ frame_with frame at bytes.now }
     ensures within { IfSome frame (λ begin. begin ≤ at) → IfSome result (λ begin. begin ≤ at) }
 {
@@ -76,7 +86,7 @@ fn frame_with(frame: Option<usize>, at: usize, bytes: &[u8]) -> Option<usize>
 }
 
 // How many bytes come before the next ESC: with none of them a frame begins or ends.
-fn still_run(bytes: &[u8]) -> usize
+pub(crate) fn still_run(bytes: &[u8]) -> usize
     ensures within { result ≤ length bytes.now }
     ensures still { HasNoEscape (take result bytes.now) }
 {
@@ -128,7 +138,7 @@ fn append(alloc: Global, ready: &mut Vec<u8>, chunk: Vec<u8>) -> Vec<u8>
 }
 
 // Whether no question mark is among some bytes: no frame begins there, and none ends.
-fn has_no_mark(bytes: &[u8]) -> bool
+pub(crate) fn has_no_mark(bytes: &[u8]) -> bool
     ensures none { result ≡ true → HasNoMark bytes.now }
 {
     match memchr(MARK, bytes) {
@@ -207,6 +217,7 @@ impl Frames {
             later: Vec::new(alloc),
             frame: None,
             since: 0,
+            within: false,
         }
     }
 
@@ -271,21 +282,40 @@ impl Frames {
         self.since = since_after(self.frame, from, self.since, now);
     }
 
-    /// Hands on what may be, as much as there is room for.
+    /// Whether the rest of a frame is to go on, the beginning of which did.
+    pub(crate) fn goes_on(&self) -> bool
+        ensures goes { result ≡ goes_on self.now }
+    {
+        self.within && !self.is_still()
+    }
+
+    /// Hands on what may be, as much as there is room for; where that would end within a frame, only up to where its beginning was told.
     pub(crate) fn hand_on(&mut self, buf: &mut [u8]) -> usize
         ensures within { result ≤ length buf.new }
         ensures free { result ≤ free self.old }
         ensures some { 0 < free self.old → 0 < length buf.old → 0 < result }
         ensures bytes { take result buf.new ≡ take result self.old.ready }
-        ensures rest { self.new ≡ record self.old { ready = drop result self.old.ready; frame = frame_left self.old.frame result } }
+        ensures rest { self.new ≡ record self.old {
+          ready = drop result self.old.ready;
+          frame = frame_left self.old.frame result;
+          within = self.new.within;
+          short = self.new.short;
+        } }
+        // Where there was memory for all that stands there.
+        ensures piece { self.old.short ≡ false → result ≡ piece_of self.old (length buf.old) }
+        ensures open { self.old.short ≡ false → self.new.within ≡ is_some (left_open self.old (length buf.old)) }
+        ensures short { self.old.short ≡ false → self.new.short ≡ false }
     {
         bring_up(&mut self.ready, &mut self.later);
-        let count = first_free(self.frame, &self.ready).min(buf.len());
+        let most = first_free(self.frame, &self.ready).min(buf.len());
+        let frame = left_open(self.within, &self.ready, most);
+        let count = piece_before(self.within, frame, most);
         buf.split_at_mut(count)
             .0
             .copy_from_slice(self.ready.as_slice().split_at(count).0);
         drop(self.ready.drain(..count));
         self.frame = frame_left(self.frame, count);
+        self.within = frame.is_some();
         count
     }
 }

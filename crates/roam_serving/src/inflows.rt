@@ -3,7 +3,7 @@ ghost use Rattle.std.specs.Prelude.{◌≡◌, ◌≤◌, ◌++◌, ℕ, List, [
 ghost use Rattle.roam_serving.specs.Asides.{title_codes};
 ghost use Rattle.roam_serving.specs.Clips.{clip_codes};
 ghost use Rattle.roam_serving.specs.Inflows.{Carries, IsFreshInflow};
-ghost use Rattle.roam_serving.specs.Sieves.{Goes, IsFree, TakesMore, bytes_given, waits_until};
+ghost use Rattle.roam_serving.specs.Sieves.{Goes, IsFree, TakesMore, bytes_given, frame_goes_on, waits_until};
 
 use crate::sieves::Sieve;
 use roam_beside::{Beside, Question};
@@ -143,6 +143,16 @@ impl Inflow {
         match &self.sieve {
             None => None,
             Some(sieve) => sieve.held_until(),
+        }
+    }
+
+    /// Whether the rest of a frame is to go on, the beginning of which did.
+    pub(crate) fn goes_on(&self) -> bool
+        ensures goes { result ≡ frame_goes_on self.now.sieve }
+    {
+        match &self.sieve {
+            None => false,
+            Some(sieve) => sieve.goes_on(),
         }
     }
 

@@ -11,6 +11,7 @@ mod frames;
 mod inflows;
 mod panes;
 mod peers;
+mod pieces;
 mod programs;
 mod questioning;
 mod refused;

@@ -6,7 +6,7 @@ ghost use Rattle.roam_serving.specs.Asides.{AreBeside, pane_beside, shown_bells,
 ghost use Rattle.roam_serving.specs.Asks.{AreAsks, last_of, pane_asks};
 ghost use Rattle.roam_serving.specs.Clips.{AreClips, clip_of, pane_clips};
 ghost use Rattle.roam_serving.specs.Inflows.{IsFreshInflow};
-ghost use Rattle.roam_serving.specs.Peers.{Changes, Lives, Asks, Hears, frames_until, has_peer, inflow_in};
+ghost use Rattle.roam_serving.specs.Peers.{Changes, Lives, Asks, Hears, any_goes_on, frames_until, has_peer, inflow_in};
 ghost use Rattle.roam_serving.specs.Sieves.{bytes_given};
 
 use crate::inflows::Inflow;
@@ -147,6 +147,16 @@ fn frames_until(all: &[Pane]) -> Option<u64>
 {
     let (first, others) = all.split_first()?;
     sooner(first.inflow.waits_until(), frames_until(others))
+}
+
+// Whether the rest of a frame is to go on to the terminal of one of these panes.
+fn any_goes_on(all: &[Pane]) -> bool
+    ensures any { result ≡ any_goes_on all.now }
+{
+    match all.split_first() {
+        None => false,
+        Some((first, others)) => first.inflow.goes_on() || any_goes_on(others),
+    }
 }
 
 /// The sockets `p1` to `p9` of a folder, each of the pane of that number.
@@ -357,6 +367,13 @@ impl Panes {
         ensures until { result ≡ frames_until self.now.all.items }
     {
         frames_until(&self.all)
+    }
+
+    /// Whether the rest of a frame is to go on to the terminal of a pane.
+    pub(crate) fn any_goes_on(&self) -> bool
+        ensures any { result ≡ any_goes_on self.now.all.items }
+    {
+        any_goes_on(&self.all)
     }
 
     /// Whether a peer came to a pane that is there.

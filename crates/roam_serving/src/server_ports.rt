@@ -1,5 +1,5 @@
 //! The ports of a server over sockets. What they carried isn't told.
-ghost use Rattle.std.specs.Prelude.{◌≡◌, ◌≢◌, ◌⊎◌, ◌<◌, ◌≤◌, ◌-◌, [], ℕ, List, slice_get, true, false, not, length, map, string_bytes, is_some, nat_lt, None, Some, IfOk, IfSome, IfErr};
+ghost use Rattle.std.specs.Prelude.{◌≡◌, ◌≢◌, ◌⊎◌, ◌<◌, ◌≤◌, ◌-◌, [], ℕ, List, Option, slice_get, true, false, not, length, map, string_bytes, is_some, nat_lt, None, Some, IfOk, IfSome, IfErr};
 ghost use Rattle.std.specs.List.{All};
 ghost use Rattle.std.specs.Option.{option_map};
 ghost use Rattle.roam_sockets.specs.Addresses.{number_of};
@@ -14,18 +14,18 @@ ghost use Rattle.roam_serving.specs.Following.{AreAllTold, HaveCome, most_taken,
 ghost use Rattle.roam_serving.specs.Rests.{Flushes, SendsBy, is_paced};
 ghost use Rattle.roam_serving.specs.declared.closing.Closer.{Closer as CloserOf};
 ghost use Rattle.roam_serving.specs.Tellings.{AreToldBeside};
-ghost use Rattle.roam_serving.specs.Moments.{sooner};
+ghost use Rattle.roam_serving.specs.Moments.{sooner, standing};
 ghost use Rattle.roam_serving.specs.Questioning.{AreToldAsks};
 ghost use Rattle.roam_serving.specs.Panes.{IsPortOf, clients_path, paths_of};
 ghost use Rattle.roam_serving.specs.Inflows.{IsFreshInflow};
-ghost use Rattle.roam_serving.specs.Peers.{Asks, Changes, Hears, IsStill, Lives, frames_until};
+ghost use Rattle.roam_serving.specs.Peers.{Asks, Changes, Hears, IsStill, Lives, any_goes_on, frames_until};
 ghost use Rattle.roam_serving.specs.Sieves.{bytes_given};
 
 use crate::clipping::ClipTimes;
 use crate::closing::{Closer, OWN};
 use crate::following::Followers;
 use crate::panes::Panes;
-use crate::tellings::{AsideTimes, sooner};
+use crate::tellings::{AsideTimes, sooner, standing};
 use mio::net::UnixStream;
 use roam_cells::Fault;
 use roam_faults::RunFault;
@@ -37,7 +37,7 @@ use roam_turns::Ports;
 use std::alloc::Global;
 use std::fs::Files;
 use std::net::Net;
-use std::time::Clock;
+use std::time::{Clock, Instant};
 
 /// It is looked so often whether somebody waits at the sockets, where no wait told.
 const LOOKS: u64 = 20;
@@ -450,12 +450,17 @@ fn some_bytes(count: Option<usize>) -> Option<usize>
 }
 
 impl<R: Clock + Drop> Ports for ServerPorts<R> {
+    // It stands still while a frame goes on, the beginning of which was handed on: so no number is made within one (docs/DECISIONS.md, 220).
     fn now(&mut self) -> u64
-        ensures set { (moment : ℕ) → self.old.moments ≡ Moments.Set moment → result ≡ moment }
+        ensures set { (moment : ℕ) → self.old.moments ≡ Moments.Set moment
+            → result ≡ standing (any_goes_on self.old.panes.all.items) self.old.moment moment }
+        ensures real { (clock : R) (start : Option Instant) (last : ℕ) → self.new.moments ≡ Moments.Real clock start last
+            → result ≡ standing (any_goes_on self.old.panes.all.items) self.old.moment last }
         ensures moment { self.new.moment ≡ result }
         ensures panes { self.new.panes ≡ self.old.panes }
     {
-        self.moment = self.moments.now();
+        let now = self.moments.now();
+        self.moment = standing(self.panes.any_goes_on(), self.moment, now);
         self.moment
     }
 

@@ -1,6 +1,7 @@
 //! A filter on the way of what comes of a pane's program.
 ghost use Rattle.std.specs.Prelude.{◌≡◌, ◌⊎◌, ◌≤◌, ◌++◌, ℕ, List, [], true, false, length, take, Some};
 ghost use Rattle.roam_serving.specs.Frames.{free, held_until};
+ghost use Rattle.roam_serving.specs.Pieces.{goes_on};
 ghost use Rattle.roam_serving.specs.Sieves.{Goes, IsFree, IsSifted, empty_sieve};
 
 use crate::frames::Frames;
@@ -67,6 +68,13 @@ impl Sieve {
         ensures until { result ≡ held_until self.now.frames.frame self.now.frames.since }
     {
         self.frames.held_until()
+    }
+
+    // Whether the rest of a frame is to be handed on, the beginning of which was.
+    pub(crate) fn goes_on(&self) -> bool
+        ensures goes { result ≡ goes_on self.now.frames }
+    {
+        self.frames.goes_on()
     }
 
     // A piece came, and waits before the filter.

@@ -2,7 +2,7 @@
 ghost use Rattle.std.specs.Prelude.{◌≡◌, None};
 ghost use Rattle.roam_pane_list.specs.Besides.{nothing_beside};
 ghost use Rattle.roam_serving.specs.Tellings.{has_rung, rang_in, times_told};
-ghost use Rattle.roam_serving.specs.Moments.{after, is_time, sooner};
+ghost use Rattle.roam_serving.specs.Moments.{after, is_time, sooner, standing};
 
 use roam_acts::limits::PANES_END;
 use roam_pane_list::{BesideList, BesidePane, in_life};
@@ -12,6 +12,9 @@ const TELLING: u64 = 20;
 
 /// How many milliseconds lie between bells at least.
 const RINGING: u64 = 1000;
+
+/// A moment stands still for so many milliseconds at most, while a frame goes on.
+const LONGEST_STAND: u64 = 50;
 
 /// What was told last of what stands beside the panes' terminals, and when, and when it is to be looked again.
 #[derive(Drop)]
@@ -30,6 +33,18 @@ pub(crate) fn is_time(last: Option<u64>, now: u64, pace: u64) -> bool
     match last {
         None => true,
         Some(last) => now.saturating_sub(last) >= pace,
+    }
+}
+
+/// What the moment is where a clock tells this one and it was that one before: that one while a frame goes on, so that no tick makes a
+/// number within it, but not for long.
+pub(crate) fn standing(goes_on: bool, before: u64, now: u64) -> u64
+    ensures standing { result ≡ standing goes_on before now }
+{
+    if goes_on && now.saturating_sub(before) < LONGEST_STAND {
+        before
+    } else {
+        now
     }
 }
 

@@ -4,7 +4,8 @@
 //! its number: `lives N` or `goes`, `gives TEXT` or `gives nothing`, `takes TEXT` or `takes nothing of TEXT`; with `told`, panes 1 and 2,
 //! each with its life, its first row and its rows or `none`, of which a program that follows them is told (pane 2 is in focus where it is
 //! there), and how many client starts edit and watch, where that is known; with `beside` and a moment, at which what stands beside the
-//! panes' terminals is told; with `clips` and a moment, at which texts for the clipboard are, or with `asks` and one, at which questions are.
+//! panes' terminals is told; with `clips` and a moment, at which texts for the clipboard are, or with `asks` and one, at which questions are;
+//! with `moment N is M`: where a clock tells N, the moment is M.
 //! `files are removed` by the ports. `start asks ACT, ACT` or `is quiet`: a datagram of the server's own start comes, with these acts, or
 //! none.
 use crate::acts::has;
@@ -166,6 +167,18 @@ fn are_asks(ports: &mut ServerPorts<&HostRuntime>, words: &str) -> bool {
     is_moment
 }
 
+// Whether it is one moment where a clock tells another.
+fn is_moment(ports: &mut ServerPorts<&HostRuntime>, words: &str) -> bool {
+    let (told, is) = words.split_once(" is ").unwrap_or((words, ""));
+    match (told.parse::<u64>(), is.parse::<u64>()) {
+        (Ok(told), Ok(moment)) => {
+            ports.set_moment(told);
+            ports.now() == moment
+        }
+        _ => false,
+    }
+}
+
 fn is_start(alloc: Global, ports: &mut ServerPorts<&HostRuntime>, words: &str) -> bool {
     match words.strip_prefix("asks ") {
         Some(acts) => asks(alloc, ports, acts),
@@ -200,6 +213,7 @@ fn is_done(
         "beside" => Ok(is_beside(ports, words)),
         "clips" => Ok(are_clips(ports, words)),
         "asks" => Ok(are_asks(ports, words)),
+        "moment" => Ok(is_moment(ports, words)),
         "files" => are_files(rt, ports, words),
         "start" => Ok(is_start(rt.alloc(), ports, words)),
         _ => programs.does(rt, who, words),
@@ -284,7 +298,8 @@ fn first_wrong_of<'a>(rt: &HostRuntime, stories: &'a str) -> Result<Option<&'a s
 /// and in its order; of another life of the pane what is asked in it.
 ///
 /// Frames, where bytes go as they are meant: one is held together until it ends, or for 150 ms; what comes before it isn't held, nor what
-/// comes behind one that was held for so long; one that begins within another is no other; of another life of the pane none is left.
+/// comes behind one that was held for so long; one that begins within another is no other. Of one for which there is no room at once its
+/// beginning goes alone, and the moment stands still until its end goes, 50 ms at most. Of another life of the pane none is left.
 ///
 /// Programs follow and close. Two are told each what is new for it; a line that asks for no close, for one of a pane that is gone, or of
 /// the last pane; of two closes the second waits until a turn was taken with the first, and a pane that is still there then may be closed
@@ -603,10 +618,27 @@ asks 149
 first writes \u{1b}[?2026hg
 pane 1 gives nothing
 asks 150
-pane 1 gives \u{1b}[?2026hf\u{1b}[?2026
-pane 1 gives hg
+pane 1 gives \u{1b}[?2026h
+moment 151 is 150
+pane 1 gives f\u{1b}[?2026hg
+moment 152 is 152
 first writes h
 pane 1 gives h
+first writes \u{1b}[?2026li
+pane 1 gives \u{1b}[?2026li
+first writes \u{1b}[?2026habcdefgh
+pane 1 gives nothing
+first writes ijklmnopqrstuvwx
+pane 1 gives nothing
+first writes \u{1b}[?2026ly
+pane 1 gives \u{1b}[?2026h
+moment 200 is 152
+pane 1 gives abcdefghijklmnop
+moment 202 is 202
+moment 203 is 202
+pane 1 gives qrstuvwx\u{1b}[?2026l
+moment 204 is 204
+pane 1 gives y
 first writes \u{1b}[?2026hi
 pane 1 gives nothing
 pane 1 lives 2
