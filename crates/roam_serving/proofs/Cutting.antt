@@ -41,12 +41,14 @@ pub run-upto : (count : ℕ) (frame : Option ℕ) (at run : ℕ) (bytes : List �
     → frame_upto (count - at) frame at (drop at bytes) ≡ frame_upto (count - (at + run)) frame (at + run) (drop (at + run) bytes)
 run-upto count frame at run bytes few long still =
     let left : count - at - run ≡ count - (at + run) = omega arith in
-    passed-upto run (count - at) frame at (drop at bytes) (omega (arith, few)) long (still-in run (count - at) (drop at bytes) (omega (arith, few)) still)
+    passed-upto run (count - at) frame at (drop at bytes) (omega (arith, few)) long
+    (still-in run (count - at) (drop at bytes) (omega (arith, few)) still)
     ∙ ap (frame_upto (count - at - run) frame (at + run)) (drop-drop run at bytes)
     ∙ ap (λ n. frame_upto n frame (at + run) (drop (at + run) bytes)) left
 
 pub step-upto : (count : ℕ) (frame : Option ℕ) (at : ℕ) (bytes : List ℕ) → at < count → 0 < length (drop at bytes)
-    → frame_upto (count - at) frame at (drop at bytes) ≡ frame_upto (count - (at + 1)) (frame_with frame at (drop at bytes)) (at + 1) (drop (at + 1) bytes)
+    → frame_upto (count - at) frame at (drop at bytes)
+    ≡ frame_upto (count - (at + 1)) (frame_with frame at (drop at bytes)) (at + 1) (drop (at + 1) bytes)
 step-upto count frame at bytes less some =
     let left : count - at - 1 ≡ count - (at + 1) = omega arith in
     one-upto (count - at) frame at (drop at bytes) (omega (arith, less)) some

@@ -35,7 +35,8 @@ passed-over (suc n) frame at (b ∷ xs) few still =
     ∙ passed-over n frame (at + 1) xs (omega (arith, few)) still.1
     ∙ ap (λ k. frame_after frame k (drop n xs)) next
 
-one-more : (frame : Option ℕ) (at : ℕ) (xs : List ℕ) → 0 < length xs → frame_after frame at xs ≡ frame_after (frame_with frame at xs) (at + 1) (drop 1 xs)
+one-more : (frame : Option ℕ) (at : ℕ) (xs : List ℕ) → 0 < length xs
+    → frame_after frame at xs ≡ frame_after (frame_with frame at xs) (at + 1) (drop 1 xs)
 one-more frame at [] some = absurd (omega (arith, some))
 one-more frame at (b ∷ xs) some = refl
 

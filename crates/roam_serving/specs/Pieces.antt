@@ -1,4 +1,4 @@
--- Where what goes on to a pane's terminal is cut, so that no screen need be made within a frame (synchronized output, the private mode 2026).
+-- Where what goes on to a pane's terminal is cut, so that no screen need be made within a frame (synchronized output, private mode 2026).
 use Rattle.std.specs.Prelude.{ℕ, zero, suc, ◌+◌, ◌==◌, ◌&&◌, Bool, true, false, List, [], ◌∷◌, min, nat_lt, Option, None, Some, if◌then◌else◌}
 use Rattle.roam_serving.specs.Frames.{FramesView, frame_with, free}
 

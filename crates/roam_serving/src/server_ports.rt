@@ -322,7 +322,8 @@ impl<R: Clock + Drop> ServerPorts<R> {
     }
 
     /// Writes what waits for client starts, takes those that come, and waits until something comes or is due at a moment, what stands
-    /// beside the panes' terminals is to be told, or a frame isn't held any more, where nothing came since the last call and no datagram of its own start waits.
+    /// beside the panes' terminals is to be told, or a frame isn't held any more, where nothing came since the last call and no datagram of
+    /// its own start waits.
     pub fn rest(&mut self, due: Option<u64>)
         ensures quiet { self.new.waits.quiet ≡ true }
         // A wait leaves nothing of what waits for a client start whose stream would take more.
@@ -450,7 +451,7 @@ fn some_bytes(count: Option<usize>) -> Option<usize>
 }
 
 impl<R: Clock + Drop> Ports for ServerPorts<R> {
-    // It stands still while a frame goes on, the beginning of which was handed on: so no number is made within one (docs/DECISIONS.md, 220).
+    // It stands still while a frame goes on, the beginning of which was handed on: no number is made within one (docs/DECISIONS.md, 220).
     fn now(&mut self) -> u64
         ensures set { (moment : ℕ) → self.old.moments ≡ Moments.Set moment
             → result ≡ standing (any_goes_on self.old.panes.all.items) self.old.moment moment }

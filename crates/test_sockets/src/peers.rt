@@ -4,8 +4,8 @@
 //! its number: `lives N` or `goes`, `gives TEXT` or `gives nothing`, `takes TEXT` or `takes nothing of TEXT`; with `told`, panes 1 and 2,
 //! each with its life, its first row and its rows or `none`, of which a program that follows them is told (pane 2 is in focus where it is
 //! there), and how many client starts edit and watch, where that is known; with `beside` and a moment, at which what stands beside the
-//! panes' terminals is told; with `clips` and a moment, at which texts for the clipboard are, or with `asks` and one, at which questions are;
-//! with `moment N is M`: where a clock tells N, the moment is M.
+//! panes' terminals is told; with `clips` and a moment, at which texts for the clipboard are, or with `asks` and one, at which questions
+//! are; with `moment N is M`: where a clock tells N, the moment is M.
 //! `files are removed` by the ports. `start asks ACT, ACT` or `is quiet`: a datagram of the server's own start comes, with these acts, or
 //! none.
 use crate::acts::has;
