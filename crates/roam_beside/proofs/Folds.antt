@@ -1,9 +1,10 @@
 -- What functions do one after the other: whether a frame is open, and what is asked.
 use Rattle.std.proofs.Common.{◌≡◌, Bool, List, [], ◌∷◌, ◌++◌, refl, ap, sym, ◌∙◌, append_assoc}
-use Rattle.std.specs.List.{fold}
+use Rattle.std.specs.List.{flat_map, fold}
 use Rattle.roam_text.specs.declared.functions.Function.{Function}
 use Rattle.roam_beside.specs.declared.settings.Settings.{Settings}
 use Rattle.roam_beside.specs.Settings.{heard}
+use Rattle.roam_beside.specs.Utterances.{uttered_by}
 use Rattle.roam_beside.specs.Questions.{asked_by, asked_in, frame_after}
 
 pub frame-more : (fs more : List Function) (f : Bool) → fold frame_after f (fs ++ more) ≡ fold frame_after (fold frame_after f fs) more
@@ -18,11 +19,12 @@ asked-more (x ∷ fs) more s f =
     ∙ sym (append_assoc (asked_by s f x) (asked_in (heard s x) (frame_after f x) fs)
     (asked_in (fold heard (heard s x) fs) (fold frame_after (frame_after f x) fs) more))
 
--- functions that set and ask nothing
+-- functions that set, ask and utter nothing
 pub record ArePlain (fs : List Function) : Type 0 where
   pub sets : (s : Settings) → fold heard s fs ≡ s
   pub frame : (f : Bool) → fold frame_after f fs ≡ f
   pub asked : (s : Settings) (f : Bool) → asked_in s f fs ≡ []
+  pub utters : flat_map uttered_by fs ≡ []
 
 pub plain-asked : (fs more : List Function) (s : Settings) (f : Bool) → ArePlain fs → asked_in s f (fs ++ more) ≡ asked_in s f more
 plain-asked fs more s f p =

@@ -1,36 +1,53 @@
--- What is kept stays that of the control strings for which there was memory.
-use Rattle.std.proofs.Common.{◌≡◌, ◌≤◌, ℕ, true, cond, List, [], ◌∷◌, ◌++◌, length, Some, refl, sym, ap, ◌∙◌, arith, subst}
+-- What is kept stays that of the control strings for which there was memory, and of each reset.
+use Rattle.std.proofs.Common.{◌≡◌, ◌≤◌, ℕ, true, cond, List, [], ◌∷◌, ◌++◌, map, length, Option, None, Some, refl, sym, ap, ◌∙◌, arith, subst}
 use Rattle.std.specs.Prelude.{nat_le}
 use Rattle.std.specs.List.{fold}
 use Rattle.std.proofs.lemmas.Bool.Decides.{nat_tests}
+use Rattle.std.proofs.lemmas.List.{append-nil}
 use Rattle.roam_text.specs.declared.strings.StringKind.TheVariants.{SystemCommand}
 use Rattle.roam_text.specs.declared.strings.StringEnd.{StringEnd}
-use Rattle.roam_text.specs.declared.strings.StringStep.TheVariants.{Ended}
-use Rattle.roam_text.specs.Strings.{ControlString, Strings, after_step, ended_so, no_strings}
+use Rattle.roam_text.specs.Strings.{ControlString, OpenString, Strings, ended_so}
 use Rattle.roam_beside.specs.declared.keeping.Collecting.{Collecting}
 use Rattle.roam_beside.specs.declared.keeping.Collecting.TheVariants.{Nothing, Text, Lost}
 use Rattle.roam_beside.specs.declared.keeping.Told.{Told}
 use Rattle.roam_beside.specs.declared.keeping.Told.TheVariants.{Nothing as NothingTold, Title, Clip}
-use Rattle.roam_beside.specs.Texts.{Said, IsPartOf, nothing_left, kept_one, left_out, clip_in, longest_text, nothing_said, said_by, title_in, with_clip, with_either, with_text, with_title}
+use Rattle.roam_beside.specs.Texts.{Said, clip_in, longest_text, nothing_said, title_in, with_clip, with_either, with_text, with_title}
+use Rattle.roam_beside.specs.Utterances.{Utterance, Says, TakesBack, IsPartOf, nothing_left, kept_one, left_out, after_utterance, without_title}
 use Rattle.roam_beside.specs.Keeping.{TextsView, Ends, IsCommand, Keeps, Tells, with_told}
 
-part-and : (kept all : List ControlString) (s : ControlString) → IsPartOf kept all → IsPartOf (kept ++ s ∷ []) (all ++ s ∷ [])
-part-and kept all s nothing_left = kept_one s [] [] nothing_left
-part-and kept all s (kept_one t k a p) = kept_one t (k ++ s ∷ []) (a ++ s ∷ []) (part-and k a s p)
-part-and kept all s (left_out t k a p) = left_out t (k ++ s ∷ []) (a ++ s ∷ []) (part-and k a s p)
+part-and : (kept all : List Utterance) (u : Utterance) → IsPartOf kept all → IsPartOf (kept ++ u ∷ []) (all ++ u ∷ [])
+part-and kept all u nothing_left = kept_one u [] [] nothing_left
+part-and kept all u (kept_one t k a p) = kept_one t (k ++ u ∷ []) (a ++ u ∷ []) (part-and k a u p)
+part-and kept all u (left_out t k a p) = left_out t (k ++ u ∷ []) (a ++ u ∷ []) (part-and k a u p)
 
-all-left-out : (more : List ControlString) → IsPartOf [] more
+all-left-out : (more : List ControlString) → IsPartOf [] (map Says more)
 all-left-out [] = nothing_left
-all-left-out (s ∷ more) = left_out s [] more (all-left-out more)
+all-left-out (s ∷ more) = left_out s [] (map Says more) (all-left-out more)
 
-part-more : (kept all more : List ControlString) → IsPartOf kept all → IsPartOf kept (all ++ more)
+part-more : (kept all : List Utterance) (more : List ControlString) → IsPartOf kept all → IsPartOf kept (all ++ map Says more)
 part-more kept all more nothing_left = all-left-out more
-part-more kept all more (kept_one t k a p) = kept_one t k (a ++ more) (part-more k a more p)
-part-more kept all more (left_out t k a p) = left_out t k (a ++ more) (part-more k a more p)
+part-more kept all more (kept_one t k a p) = kept_one t k (a ++ map Says more) (part-more k a more p)
+part-more kept all more (left_out t k a p) = left_out t k (a ++ map Says more) (part-more k a more p)
 
-said-more : (kept : List ControlString) (s : ControlString) (from : Said) → fold said_by from (kept ++ s ∷ []) ≡ said_by (fold said_by from kept) s
-said-more [] s from = refl
-said-more (t ∷ kept) s from = said-more kept s (said_by from t)
+pub said-more : (kept : List Utterance) (u : Utterance) (from : Said)
+    → fold after_utterance from (kept ++ u ∷ []) ≡ after_utterance (fold after_utterance from kept) u
+said-more [] u from = refl
+said-more (t ∷ kept) u from = said-more kept u (after_utterance from t)
+
+-- where no string ended nothing more is uttered
+pub keeps-same : (v : TextsView) (uttered : List Utterance) (begun : Option OpenString) → Keeps v uttered begun
+    → Keeps v (uttered ++ []) begun
+keeps-same v uttered begun k = subst (λ l. Keeps v l begun) (sym (append-nil uttered)) k
+
+-- a reset takes the title back
+pub keeps-reset : (v : TextsView) (uttered : List Utterance) (begun : Option OpenString) → Keeps v uttered begun
+    → Keeps (record v { said = without_title v.said }) (uttered ++ TakesBack ∷ []) begun
+keeps-reset v uttered begun k = record {
+  kept = k.kept ++ TakesBack ∷ [];
+  part = part-and k.kept uttered TakesBack k.part;
+  said = ap without_title k.said ∙ sym (said-more k.kept TakesBack nothing_said);
+  open_text = k.open_text;
+}
 
 le-yes : (a b : ℕ) → a ≤ b → nat_le a b ≡ true
 le-yes a b h = grind (arith, nat_tests)
@@ -39,36 +56,36 @@ text-says : (text : List ℕ) (s : Said) → length text ≤ longest_text → wi
 text-says text s few = ap (λ b. cond b (with_either (title_in text) (clip_in text) s) s) (le-yes (length text) longest_text few)
 
 -- what was told is what the string says, or it is left out
-module _ (all : Strings) (text : List ℕ) (e : StringEnd) (begun : IsCommand all.begun text) where
+module _ (uttered : List Utterance) (all : Strings) (text : List ℕ) (e : StringEnd) (begun : IsCommand all.begun text) where
   abbrev string : ControlString
   string = record { kind = SystemCommand; text = text; ending = e }
 
-  ended-is : (after_step (Ended e) all).ended ≡ all.ended ++ string ∷ []
-  ended-is = ap (λ o. all.ended ++ ended_so e o) begun
+  abbrev later : List Utterance
+  later = uttered ++ map Says (ended_so e all.begun)
 
-  closed : TextsView → Said → TextsView
-  closed v said = record { said = said; collecting = Nothing; text = [] }
+  later-is : later ≡ uttered ++ Says string ∷ []
+  later-is = ap (λ o. uttered ++ map Says (ended_so e o)) begun
 
-  keeps-out : (v : TextsView) → Keeps v all → Keeps (record { said = v.said; collecting = Nothing; text = [] }) (after_step (Ended e) all)
+  keeps-out : (v : TextsView) → Keeps v uttered all.begun → Keeps (record { said = v.said; collecting = Nothing; text = [] }) later None
   keeps-out v k = record {
     kept = k.kept;
-    part = part-more k.kept all.ended (ended_so e all.begun) k.part;
+    part = part-more k.kept uttered (ended_so e all.begun) k.part;
     said = k.said;
     open_text = tt;
   }
 
-  keeps-in : (v : TextsView) → Keeps v all → length text ≤ longest_text → (said : Said)
+  keeps-in : (v : TextsView) → Keeps v uttered all.begun → length text ≤ longest_text → (said : Said)
       → said ≡ with_either (title_in text) (clip_in text) v.said
-      → Keeps (record { said = said; collecting = Nothing; text = [] }) (after_step (Ended e) all)
+      → Keeps (record { said = said; collecting = Nothing; text = [] }) later None
   keeps-in v k few said is = record {
-    kept = k.kept ++ string ∷ [];
-    part = subst (IsPartOf (k.kept ++ string ∷ [])) (sym ended-is) (part-and k.kept all.ended string k.part);
-    said = is ∙ sym (text-says text v.said few) ∙ ap (with_text text) k.said ∙ sym (said-more k.kept string nothing_said);
+    kept = k.kept ++ Says string ∷ [];
+    part = subst (IsPartOf (k.kept ++ Says string ∷ [])) (sym later-is) (part-and k.kept uttered (Says string) k.part);
+    said = is ∙ sym (text-says text v.said few) ∙ ap (with_text text) k.said ∙ sym (said-more k.kept (Says string) nothing_said);
     open_text = tt;
   }
 
-  keeps-told : (v : TextsView) (told : Told) → Keeps v all → length text ≤ longest_text → Tells told Text text
-      → Keeps (record { said = with_told told v.said; collecting = Nothing; text = [] }) (after_step (Ended e) all)
+  keeps-told : (v : TextsView) (told : Told) → Keeps v uttered all.begun → length text ≤ longest_text → Tells told Text text
+      → Keeps (record { said = with_told told v.said; collecting = Nothing; text = [] }) later None
   keeps-told v NothingTold k few tells = keeps-out v k
   keeps-told v (Title title) k few tells = keeps-in v k few (with_title (Some title.items) v.said)
       (sym (ap (λ o. with_either o (clip_in text) v.said) tells.1))
@@ -81,34 +98,34 @@ quiet-told NothingTold collecting text s tells never = refl
 quiet-told (Title title) collecting text s tells never = absurd (never tells.0)
 quiet-told (Clip clip) collecting text s tells never = absurd (never tells.0)
 
-module _ (all : Strings) (e : StringEnd) where
-  abbrev after : TextsView → TextsView
-  after v = record { said = v.said; collecting = Nothing; text = [] }
+module _ (uttered : List Utterance) (all : Strings) (e : StringEnd) where
+  abbrev ended : List Utterance
+  ended = uttered ++ map Says (ended_so e all.begun)
 
-  keeps-unsaid : (v : TextsView) → Keeps v all → Keeps (after v) (after_step (Ended e) all)
+  keeps-unsaid : (v : TextsView) → Keeps v uttered all.begun → Keeps (record { said = v.said; collecting = Nothing; text = [] }) ended None
   keeps-unsaid v k = record {
     kept = k.kept;
-    part = part-more k.kept all.ended (ended_so e all.begun) k.part;
+    part = part-more k.kept uttered (ended_so e all.begun) k.part;
     said = k.said;
     open_text = tt;
   }
 
   ends-in : (said : Said) (collecting : Collecting) (text : List ℕ) (told : Told) → Tells told collecting text
-      → Keeps (record { said = said; collecting = collecting; text = text }) all
-      → Keeps (record { said = with_told told said; collecting = Nothing; text = [] }) (after_step (Ended e) all)
+      → Keeps (record { said = said; collecting = collecting; text = text }) uttered all.begun
+      → Keeps (record { said = with_told told said; collecting = Nothing; text = [] }) ended None
   ends-in said Text text told tells k =
-      keeps-told all text e k.open_text.0 (record { said = said; collecting = Text; text = text }) told k k.open_text.1 tells
+      keeps-told uttered all text e k.open_text.0 (record { said = said; collecting = Text; text = text }) told k k.open_text.1 tells
   ends-in said Nothing text told tells k =
-      subst (λ s. Keeps (record { said = s; collecting = Nothing; text = [] }) (after_step (Ended e) all))
+      subst (λ s. Keeps (record { said = s; collecting = Nothing; text = [] }) ended None)
       (sym (quiet-told told Nothing text said tells (λ h. cc))) (keeps-unsaid (record { said = said; collecting = Nothing; text = text }) k)
   ends-in said Lost text told tells k =
-      subst (λ s. Keeps (record { said = s; collecting = Nothing; text = [] }) (after_step (Ended e) all))
+      subst (λ s. Keeps (record { said = s; collecting = Nothing; text = [] }) ended None)
       (sym (quiet-told told Lost text said tells (λ h. cc))) (keeps-unsaid (record { said = said; collecting = Lost; text = text }) k)
 
-  pub ends-keep : (old new : TextsView) → Ends old new → Keeps old all → Keeps new (after_step (Ended e) all)
+  pub ends-keep : (old new : TextsView) → Ends old new → Keeps old uttered all.begun → Keeps new ended None
   ends-keep old new ends k =
-      subst (λ v. Keeps v (after_step (Ended e) all)) (sym ends.is) (ends-in old.said old.collecting old.text ends.told ends.tells k)
+      subst (λ v. Keeps v ended None) (sym ends.is) (ends-in old.said old.collecting old.text ends.told ends.tells k)
 
 -- nothing was read
-pub keeps-nothing : (text : List ℕ) → Keeps (record { said = nothing_said; collecting = Nothing; text = text }) no_strings
+pub keeps-nothing : (text : List ℕ) → Keeps (record { said = nothing_said; collecting = Nothing; text = text }) [] None
 keeps-nothing text = record { kept = []; part = nothing_left; said = refl; open_text = tt }

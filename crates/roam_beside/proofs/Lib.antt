@@ -1,10 +1,13 @@
 mod Lists
 mod Folds
+mod Ordered
 mod Gained
 mod Base64
 mod KeepingSteps
+mod Counts
 mod Silences
 mod Sequences
 mod Runs
 mod Standing
 mod Resets
+mod TakenBack

@@ -3,6 +3,7 @@ use Rattle.std.proofs.Common.{◌≡◌, ◌<◌, ◌≤◌, ℕ, Bool, true, fa
 use Rattle.std.specs.Prelude.{◌==◌, ⊤}
 use Rattle.std.specs.List.{fold, flat_map}
 use Rattle.std.proofs.lemmas.Bool.Decides.{nat_tests}
+use Rattle.std.proofs.lemmas.List.Concat.{flat_map-append}
 use Rattle.roam_text.specs.declared.kinds.Kind.{Kind}
 use Rattle.roam_text.specs.declared.kinds.Kind.TheVariants.{Digit, Colon, Separator, PrivateMarker, Intermediate, Upper, Lower, Delete, Graphic}
 use Rattle.roam_text.specs.declared.functions.Function.{Function}
@@ -17,6 +18,7 @@ use Rattle.roam_text.proofs.Fronts.{functions-step}
 use Rattle.roam_text.proofs.StringMoves.{strings-step}
 use Rattle.roam_beside.specs.declared.settings.Settings.{Settings}
 use Rattle.roam_beside.specs.Settings.{heard}
+use Rattle.roam_beside.specs.Utterances.{uttered_by}
 use Rattle.roam_beside.specs.Questions.{asked_in, frame_after}
 use Rattle.roam_beside.specs.Silence.{SaySame, SaysNothing, AreNumbers, IsPlainSequence, is_number, is_final}
 use Rattle.roam_beside.proofs.Folds.{ArePlain, frame-more, plain-asked}
@@ -189,12 +191,12 @@ plain-header (k ∷ ks) n = plain-inter (first_sixteen (map capped_value (digits
 
 plain-function : (mark : Option ℕ) (inter params : List ℕ) (last : ℕ) → mark ≡ None → inter ≡ []
     → ArePlain (control_sequence_function (Some (record { mark = mark; params = params; inter = inter })) last)
-plain-function None [] params last m i = record { sets = λ s. refl; frame = λ f. refl; asked = λ s f. refl }
+plain-function None [] params last m i = record { sets = λ s. refl; frame = λ f. refl; asked = λ s f. refl; utters = refl }
 plain-function None (b ∷ inter) params last m i = cc
 plain-function (Some mark) inter params last m i = cc
 
 header-plain : (h : Option Header) (last : ℕ) → PlainHeader h → ArePlain (control_sequence_function h last)
-header-plain None last p = record { sets = λ s. refl; frame = λ f. refl; asked = λ s f. refl }
+header-plain None last p = record { sets = λ s. refl; frame = λ f. refl; asked = λ s f. refl; utters = refl }
 header-plain (Some h) last p = plain-function h.mark h.inter h.params last p.0 p.1
 
 fold-after : (fs more : List Function) (s : Settings) → fold heard s (fs ++ more) ≡ fold heard (fold heard s fs) more
@@ -254,6 +256,11 @@ module _ (body : List ℕ) (last : ℕ) (numbers : AreNumbers body) (final : is_
       → asked_in s f (functions (character 0x1B ∷ character 0x5B ∷ tail)) ≡ asked_in s f (functions rest)
   sequence-asks s f = ap (asked_in s f) functions-are ∙ plain-asked gives (functions rest) s f sequence.0
 
+  sequence-resets : flat_map uttered_by (functions (character 0x1B ∷ character 0x5B ∷ tail)) ≡ flat_map uttered_by (functions rest)
+  sequence-resets =
+      ap (flat_map uttered_by) functions-are ∙ flat_map-append uttered_by gives (functions rest)
+      ∙ ap (λ l. l ++ flat_map uttered_by (functions rest)) sequence.0.utters
+
   sequence-texts : strings (character 0x1B ∷ character 0x5B ∷ tail) ≡ strings rest
   sequence-texts = strings-step (character 0x1B) (character 0x5B ∷ tail) ∙ ap strings sequence.1
 
@@ -291,6 +298,8 @@ sequence-silent bytes q more =
           ∙ sequence-sets q.body q.last q.numbers q.final (map character x) s;
       texts = ap (λ l. strings (character 0x1B ∷ character 0x5B ∷ l)) signs
           ∙ sequence-texts q.body q.last q.numbers q.final (map character x);
+      resets = ap (λ l. flat_map uttered_by (functions (character 0x1B ∷ character 0x5B ∷ l))) signs
+          ∙ sequence-resets q.body q.last q.numbers q.final (map character x);
       frame = λ f. ap (λ l. fold frame_after f (functions (character 0x1B ∷ character 0x5B ∷ l))) signs
           ∙ sequence-frame q.body q.last q.numbers q.final (map character x) f;
       asked = λ s f. ap (λ l. asked_in s f (functions (character 0x1B ∷ character 0x5B ∷ l))) signs

@@ -1,7 +1,7 @@
 -- Bytes without ESC, BEL and C2 say nothing, and leave nothing unfinished that matters.
 use Rattle.std.proofs.Common.{◌≡◌, ◌<◌, ◌≤◌, ℕ, zero, suc, Bool, true, false, cond, nat_lt, List, [], ◌∷◌, ◌++◌, map, length, drop, refl, sym, ap, ◌∙◌, arith, append_assoc, length-append, ⊎_elim, inl, inr, subst}
 use Rattle.std.specs.Prelude.{◌==◌, ◌||◌, not, ⊤, slice_index, ◌⊎◌}
-use Rattle.std.specs.List.{fold}
+use Rattle.std.specs.List.{flat_map, fold}
 use Rattle.std.proofs.lemmas.List.{append-nil}
 use Rattle.std.proofs.lemmas.Bool.{cases_Bool, eqb-true}
 use Rattle.std.proofs.lemmas.Bool.Decides.{nat_tests}
@@ -21,18 +21,20 @@ use Rattle.roam_text.proofs.Fronts.{functions-step}
 use Rattle.roam_text.proofs.StringMoves.{strings-step}
 use Rattle.roam_beside.specs.declared.settings.Settings.{Settings}
 use Rattle.roam_beside.specs.Settings.{heard}
+use Rattle.roam_beside.specs.Utterances.{uttered_by}
 use Rattle.roam_beside.specs.Questions.{asked_in, frame_after}
 use Rattle.roam_beside.specs.Silence.{SaySame, SaysNothing, AreStill, is_still}
 
 -- ---- saying the same
 
 pub same-refl : (a : List ℕ) → SaySame a a
-same-refl a = record { settings = λ s. refl; texts = refl; frame = λ f. refl; asked = λ s f. refl }
+same-refl a = record { settings = λ s. refl; texts = refl; resets = refl; frame = λ f. refl; asked = λ s f. refl }
 
 pub same-sym : (a b : List ℕ) → SaySame a b → SaySame b a
 same-sym a b h = record {
   settings = λ s. sym (h.settings s);
   texts = sym h.texts;
+  resets = sym h.resets;
   frame = λ f. sym (h.frame f);
   asked = λ s f. sym (h.asked s f);
 }
@@ -41,6 +43,7 @@ pub same-trans : (a b c : List ℕ) → SaySame a b → SaySame b c → SaySame 
 same-trans a b c h k = record {
   settings = λ s. h.settings s ∙ k.settings s;
   texts = h.texts ∙ k.texts;
+  resets = h.resets ∙ k.resets;
   frame = λ f. h.frame f ∙ k.frame f;
   asked = λ s f. h.asked s f ∙ k.asked s f;
 }
@@ -50,6 +53,7 @@ same-trans a b c h k = record {
 pub record Quiet (k : Kind) (c : ℕ) : Type 0 where
   pub settings : (rest : List Sign) (s : Settings) → fold heard s (functions (Character k c ∷ rest)) ≡ fold heard s (functions rest)
   pub texts : (rest : List Sign) → strings (Character k c ∷ rest) ≡ strings rest
+  pub resets : (rest : List Sign) → flat_map uttered_by (functions (Character k c ∷ rest)) ≡ flat_map uttered_by (functions rest)
   pub frame : (rest : List Sign) (f : Bool)
       → fold frame_after f (functions (Character k c ∷ rest)) ≡ fold frame_after f (functions rest)
   pub asked : (rest : List Sign) (s : Settings) (f : Bool)
@@ -60,10 +64,12 @@ quiet-plain : (k : Kind) (c : ℕ) (gives : List Function)
     → ((s : Settings) (fs : List Function) → fold heard s (gives ++ fs) ≡ fold heard s fs)
     → ((f : Bool) (fs : List Function) → fold frame_after f (gives ++ fs) ≡ fold frame_after f fs)
     → ((s : Settings) (f : Bool) (fs : List Function) → asked_in s f (gives ++ fs) ≡ asked_in s f fs)
+    → ((fs : List Function) → flat_map uttered_by (gives ++ fs) ≡ flat_map uttered_by fs)
     → ((rest : List Sign) → strings (Character k c ∷ rest) ≡ strings rest) → Quiet k c
-quiet-plain k c gives step skip held asks texts = record {
+quiet-plain k c gives step skip held asks utters texts = record {
   settings = λ rest s. ap (fold heard s) (step rest) ∙ skip s (functions rest);
   texts = texts;
+  resets = λ rest. ap (flat_map uttered_by) (step rest) ∙ utters (functions rest);
   frame = λ rest f. ap (fold frame_after f) (step rest) ∙ held f (functions rest);
   asked = λ rest s f. ap (asked_in s f) (step rest) ∙ asks s f (functions rest);
 }
@@ -71,14 +77,14 @@ quiet-plain k c gives step skip held asks texts = record {
 -- a character that is printed
 quiet-print : (k : Kind) (c : ℕ) → ((rest : List Sign) → functions (Character k c ∷ rest) ≡ Print c ∷ functions rest)
     → ((rest : List Sign) → strings (Character k c ∷ rest) ≡ strings rest) → Quiet k c
-quiet-print k c step texts = quiet-plain k c (Print c ∷ []) step (λ s fs. refl) (λ f fs. refl) (λ s f fs. refl) texts
+quiet-print k c step texts = quiet-plain k c (Print c ∷ []) step (λ s fs. refl) (λ f fs. refl) (λ s f fs. refl) (λ fs. refl) texts
 
 -- a C0 control that is no bell
 quiet-c0 : (k : Kind) (c b : ℕ) → (b == 7) ≡ false → ((rest : List Sign) → functions (Character k c ∷ rest) ≡ C0 b ∷ functions rest)
     → ((rest : List Sign) → strings (Character k c ∷ rest) ≡ strings rest) → Quiet k c
 quiet-c0 k c b silent step texts = quiet-plain k c (C0 b ∷ []) step
     (λ s fs. ap (λ t. fold heard (cond t (heard s (C0 7)) s) fs) silent) (λ f fs. refl)
-    (λ s f fs. ap (λ t. asked_in (cond t (heard s (C0 7)) s) f fs) silent) texts
+    (λ s f fs. ap (λ t. asked_in (cond t (heard s (C0 7)) s) f fs) silent) (λ fs. refl) texts
 
 module _ (c : ℕ) where
   either : (t : Bool) (x y : Kind) → Quiet x c → Quiet y c → Quiet (cond t x y) c
@@ -94,7 +100,8 @@ module _ (c : ℕ) where
       (either (nat_lt c 0x40) (PrivateMarker c) _ (quiet-print (PrivateMarker c) c (functions-step (Character (PrivateMarker c) c)) (strings-step (Character (PrivateMarker c) c)))
       (either (nat_lt c 0x60) (Upper c) _ (quiet-print (Upper c) c (functions-step (Character (Upper c) c)) (strings-step (Character (Upper c) c)))
       (either (nat_lt c 0x7F) (Lower c) Delete (quiet-print (Lower c) c (functions-step (Character (Lower c) c)) (strings-step (Character (Lower c) c)))
-      (quiet-plain Delete c [] (functions-step (Character Delete c)) (λ s fs. refl) (λ f fs. refl) (λ s f fs. refl) (strings-step (Character Delete c)))))))))
+      (quiet-plain Delete c [] (functions-step (Character Delete c)) (λ s fs. refl) (λ f fs. refl) (λ s f fs. refl) (λ fs. refl)
+      (strings-step (Character Delete c)))))))))
 
   quiet-c0_kind : (c == 0x1B) ≡ false → (c == 7) ≡ false → Quiet (c0_kind c) c
   quiet-c0_kind escape bell =
@@ -134,6 +141,7 @@ quiet-front (c ∷ cs) rest q =
     record {
       settings = λ s. q.0.settings (map character (cs ++ rest)) s ∙ more.settings s;
       texts = q.0.texts (map character (cs ++ rest)) ∙ more.texts;
+      resets = q.0.resets (map character (cs ++ rest)) ∙ more.resets;
       frame = λ f. q.0.frame (map character (cs ++ rest)) f ∙ more.frame f;
       asked = λ s f. q.0.asked (map character (cs ++ rest)) s f ∙ more.asked s f;
     }
@@ -255,17 +263,23 @@ module _ (m : ℕ) (no_second : (a : ℕ) → second a m ≡ false) (no_more : c
   cut-decoded (a ∷ b ∷ c ∷ d ∷ t) few some = absurd (omega (arith, few))
 
 module _ (m : ℕ) (no_second : (a : ℕ) → second a m ≡ false) (no_more : continues m ≡ false) (cs rest : List ℕ) (settles : Settles (m ∷ []) cs rest) where
-  -- the unfinished character is U+FFFD, and what cut it is read anew
-  cut-same : (t : List ℕ) → is_unfinished t ≡ true → (more : List ℕ) → SaySame (settled_part (t ++ m ∷ more)) (settled_part (m ∷ more))
-  cut-same [] h more = same-refl (settled_part (m ∷ more))
-  cut-same (a ∷ t) h more =
+  -- the unfinished character is U+FFFD
+  pub cut-settles : (a : ℕ) (t : List ℕ) → is_unfinished (a ∷ t) ≡ true → Settles ((a ∷ t) ++ m ∷ []) (0xFFFD ∷ cs) rest
+  cut-settles a t h =
       let all = a ∷ t in
       let u = is_unfinished-true all h in
       let same = cut-decoded m no_second no_more all (unfinished-short all h) (omega arith) in
       let whole = u.size in
       let size_is : (decoded (all ++ m ∷ [])).size ≡ (decoded all).size = ap (λ (x : Decoded). x.size) same in
       let long = length-append all (m ∷ []) in
-      let cut = push-cut all m h (omega arith) (ap (λ (x : Decoded). x.char) same ∙ u.none) (omega (arith, whole, size_is, long)) cs rest settles in
+      push-cut all m h (omega arith) (ap (λ (x : Decoded). x.char) same ∙ u.none) (omega (arith, whole, size_is, long)) cs rest settles
+
+  -- and what cut it is read anew
+  cut-same : (t : List ℕ) → is_unfinished t ≡ true → (more : List ℕ) → SaySame (settled_part (t ++ m ∷ more)) (settled_part (m ∷ more))
+  cut-same [] h more = same-refl (settled_part (m ∷ more))
+  cut-same (a ∷ t) h more =
+      let all = a ∷ t in
+      let cut = cut-settles a t h in
       let one : settled_part (m ∷ more) ≡ cs ++ settled_part (rest ++ more) =
       settled-append (m ∷ []) more ∙ ap (λ l. l ++ settled_part (unfinished_part (m ∷ []) ++ more)) (sym settles.chars)
       ∙ ap (λ l. cs ++ settled_part (l ++ more)) (sym settles.pending) in
@@ -276,7 +290,7 @@ module _ (m : ℕ) (no_second : (a : ℕ) → second a m ≡ false) (no_more : c
       ∙ ap (λ l. 0xFFFD ∷ l) (sym one) in
       subst (λ l. SaySame l (settled_part (m ∷ more))) (sym both) (quiet-front (0xFFFD ∷ []) (settled_part (m ∷ more)) (replaced, tt))
 
-no-second-escape : (a : ℕ) → second a 0x1B ≡ false
+pub no-second-escape : (a : ℕ) → second a 0x1B ≡ false
 no-second-escape a = grind (arith, nat_tests)
 
 no-second-bell : (a : ℕ) → second a 0x07 ≡ false

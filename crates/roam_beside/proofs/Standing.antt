@@ -1,14 +1,17 @@
 -- What stands for bytes stands for them and those that come.
-use Rattle.std.proofs.Common.{◌≡◌, ◌<◌, ◌+◌, ◌-◌, ℕ, false, List, [], ◌∷◌, ◌++◌, map, length, take, drop, Option, refl, sym, ap, ◌∙◌, append_assoc, subst}
+use Rattle.std.proofs.Common.{◌≡◌, ◌<◌, ◌+◌, ◌-◌, ℕ, Bool, false, List, [], ◌∷◌, ◌++◌, map, length, take, drop, Option, refl, sym, ap, ◌∙◌, append_assoc, subst}
 use Rattle.std.specs.List.{flat_map, fold}
 use Rattle.std.specs.Option.{option_to_list}
 use Rattle.std.specs.Prelude.{slice_index}
 use Rattle.std.proofs.lemmas.List.{append-nil, map-append, take_more}
+use Rattle.std.proofs.lemmas.List.Concat.{flat_map-append}
 use Rattle.roam_text.specs.declared.functions.Function.{Function}
+use Rattle.roam_text.specs.declared.strings.StringStep.{StringStep}
+use Rattle.roam_text.specs.declared.strings.StringStep.TheVariants.{Nothing, Opened, Added, Ended, BrokenOff}
 use Rattle.roam_text.specs.declared.strings.StringSteps.{StringSteps}
 use Rattle.roam_text.specs.Log.{Item, Byte, character, signs, settled_part}
 use Rattle.roam_text.specs.Functions.{functions, functions_of}
-use Rattle.roam_text.specs.Strings.{Strings, strings, strings_by, strings_of, after_steps}
+use Rattle.roam_text.specs.Strings.{Strings, strings, strings_by, strings_of, after_step, after_steps}
 use Rattle.roam_text.specs.Stands.{Stands as ReaderStands}
 use Rattle.roam_text.specs.StringPhases.{Follows, NoStringOpen, behind_strings}
 use Rattle.roam_text.specs.Resting.{AtRest}
@@ -17,13 +20,14 @@ use Rattle.roam_text.proofs.Encoded.{signs-bytes}
 use Rattle.roam_beside.specs.declared.settings.Settings.{Settings}
 use Rattle.roam_beside.specs.Settings.{fresh_settings, heard, settings_of}
 use Rattle.roam_beside.specs.Silence.{SaysNothing}
-use Rattle.roam_beside.specs.Keeping.{Keeps}
+use Rattle.roam_beside.specs.Keeping.{Keeps, ended_by}
+use Rattle.roam_beside.specs.Utterances.{Utterance, Says, reset_if, resets_of, spoken_of, uttered_by, utterances_of}
 use Rattle.roam_beside.specs.Beside.{BesideView, ReadsAs, Stands}
 use Rattle.roam_beside.specs.declared.questions.Question.{Question}
 use Rattle.roam_beside.specs.Questions.{asked_by_string, asked_in, by_functions, by_strings, frame_after, frame_of, questions_of}
 use Rattle.roam_beside.specs.Asking.{Heads, Recalls}
 use Rattle.roam_beside.proofs.Folds.{asked-more, frame-more}
-use Rattle.roam_beside.proofs.Gained.{asked-behind, asked-by, asked-byte, none-asked}
+use Rattle.roam_beside.proofs.Gained.{asked-behind, asked-by, asked-byte, none-asked, none-uttered, uttered-by}
 
 abbrev log_of : List ℕ → List Item
 log_of bytes = map Byte bytes
@@ -34,6 +38,14 @@ fold-after (f ∷ fs) more s = fold-after fs more (heard s f)
 
 log-append : (xs ys : List ℕ) → log_of (xs ++ ys) ≡ log_of xs ++ log_of ys
 log-append xs ys = map-append Byte xs ys
+
+-- what a character did ends these strings
+step-gives : (step : StringStep) (all : Strings) → (after_step step all).ended ≡ all.ended ++ ended_by step all.begun
+step-gives Nothing all = sym (append-nil all.ended)
+step-gives (Opened kind) all = sym (append-nil all.ended)
+step-gives (Added c) all = sym (append-nil all.ended)
+step-gives (Ended ending) all = refl
+step-gives BrokenOff all = sym (append-nil all.ended)
 
 -- ---- bytes that are passed over
 
@@ -74,6 +86,15 @@ module _ (read : List ℕ) (rest : AtRest (log_of read)) (closed : NoStringOpen 
   passed-asked run more silent =
       asked-on (run ++ more) ∙ ap (λ l. by_functions read ++ l) ((silent more).asked (settings_of read) (frame_of read)) ∙ sym (asked-on more)
 
+  resets-on : (xs : List ℕ) → resets_of (read ++ xs) ≡ resets_of read ++ flat_map uttered_by (functions_on xs)
+  resets-on xs =
+      ap (λ l. flat_map uttered_by (functions l)) (signs-on xs)
+      ∙ ap (flat_map uttered_by) (rest.to_come (map character (settled_part xs)))
+      ∙ flat_map-append uttered_by (functions_of (log_of read)) (functions_on xs)
+
+  passed-resets : (run more : List ℕ) → SaysNothing run → resets_of (read ++ (run ++ more)) ≡ resets_of (read ++ more)
+  passed-resets run more silent = resets-on (run ++ more) ∙ ap (λ l. resets_of read ++ l) (silent more).resets ∙ sym (resets-on more)
+
   passed-settings : (run more : List ℕ) → SaysNothing run → settings_of (read ++ (run ++ more)) ≡ settings_of (read ++ more)
   passed-settings run more silent = settings-on (run ++ more) ∙ (silent more).settings (settings_of read) ∙ sym (settings-on more)
 
@@ -88,6 +109,9 @@ module _ (bytes read : List ℕ) (same : ReadsAs bytes read) where
 
   strings-now : strings_by (log_of bytes) ≡ strings_by (log_of read)
   strings-now = ap (λ l. strings_by (log_of l)) (sym (append-nil bytes)) ∙ (same []).strings ∙ ap (λ l. strings_by (log_of l)) (append-nil read)
+
+  resets-now : resets_of bytes ≡ resets_of read
+  resets-now = ap resets_of (sym (append-nil bytes)) ∙ (same []).resets ∙ ap resets_of (append-nil read)
 
   frame-now : frame_of bytes ≡ frame_of read
   frame-now = ap frame_of (sym (append-nil bytes)) ∙ (same []).frame ∙ ap frame_of (append-nil read)
@@ -106,12 +130,20 @@ module _ (b : BesideView) (bytes run : List ℕ) (silent : SaysNothing run) (sta
         ∙ passed-settings read rest closed run more silent;
     strings = ap (λ l. strings_by (log_of l)) (append_assoc bytes run more) ∙ (stands.same (run ++ more)).strings
         ∙ passed-strings read rest closed run more silent;
+    resets = ap resets_of (append_assoc bytes run more) ∙ (stands.same (run ++ more)).resets
+        ∙ passed-resets read rest closed run more silent;
     frame = ap frame_of (append_assoc bytes run more) ∙ (stands.same (run ++ more)).frame ∙ passed-frame read rest closed run more silent;
     asked = ap by_functions (append_assoc bytes run more) ∙ (stands.same (run ++ more)).asked ∙ passed-asked read rest closed run more silent;
   }
 
   strings-same : strings_by (log_of (bytes ++ run)) ≡ strings_by (log_of bytes)
   strings-same = strings-now (bytes ++ run) read reads-on ∙ sym (strings-now bytes read stands.same)
+
+  -- what is passed over utters nothing
+  utterances-same : utterances_of (bytes ++ run) ≡ utterances_of bytes
+  utterances-same =
+      none-uttered bytes run (resets-now (bytes ++ run) read reads-on ∙ sym (resets-now bytes read stands.same))
+      (ap (λ (s : Strings). map Says s.ended) strings-same)
 
   -- what is passed over asks nothing
   questions-same : questions_of (bytes ++ run) ≡ questions_of bytes
@@ -129,7 +161,8 @@ module _ (b : BesideView) (bytes run : List ℕ) (silent : SaysNothing run) (sta
     strings = stands.strings;
     same = reads-on;
     settings = stands.settings ∙ settings-now bytes read stands.same ∙ sym (settings-now (bytes ++ run) read reads-on);
-    texts = subst (Keeps b.texts) (sym strings-same) stands.texts;
+    texts = subst (λ l. Keeps b.texts l (strings_by (log_of (bytes ++ run))).begun) (sym utterances-same)
+        (subst (λ (s : Strings). Keeps b.texts (utterances_of bytes) s.begun) (sym strings-same) stands.texts);
     frame = stands.frame ∙ frame-now bytes read stands.same ∙ sym (frame-now (bytes ++ run) read reads-on);
     head = subst (λ (s : Strings). Heads b.head s.begun) (sym strings-same) stands.head;
     asked = subst (Recalls b.asked) (sym questions-same) stands.asked;
@@ -138,13 +171,16 @@ module _ (b : BesideView) (bytes run : List ℕ) (silent : SaysNothing run) (sta
 -- ---- a byte that is read
 
 module _ (old new : BesideView) (byte : ℕ) (bytes : List ℕ) (stands : Stands old bytes) (fs : List Function) (steps : StringSteps)
-    (question first later : Option Question)
+    (question first later : Option Question) (reset : Bool)
     (reader : (log : List Item) → ReaderStands old.reader log → ReaderStands new.reader (log ++ Byte byte ∷ []))
     (gained : (log : List Item) → ReaderStands old.reader log → functions_of (log ++ Byte byte ∷ []) ≡ functions_of log ++ fs)
     (follows : (log : List Item) → Follows old.strings log → Follows new.strings (log ++ Byte byte ∷ []))
     (stepped : (log : List Item) → Follows old.strings log → strings_by (log ++ Byte byte ∷ []) ≡ after_steps steps (strings_by log))
     (set : new.settings ≡ fold heard old.settings fs)
-    (kept : (all : Strings) → Keeps old.texts all → Keeps new.texts (after_steps steps all))
+    (resets : reset_if reset ≡ flat_map uttered_by fs)
+    (kept : (uttered : List Utterance) (all : Strings) → Keeps old.texts uttered all.begun
+    → Keeps new.texts (((uttered ++ reset_if reset) ++ map Says (ended_by steps.first all.begun))
+    ++ map Says (ended_by steps.later (after_step steps.first all).begun)) (after_steps steps all).begun)
     (framed : new.frame ≡ fold frame_after old.frame fs)
     (asks : option_to_list question ≡ asked_in old.settings old.frame fs)
     (heads : (all : Strings) → Heads old.head all.begun → Heads new.head (after_steps steps all).begun)
@@ -166,6 +202,7 @@ module _ (old new : BesideView) (byte : ℕ) (bytes : List ℕ) (stands : Stands
       record {
         settings = ap settings_of here ∙ same.settings ∙ sym (ap settings_of there);
         strings = ap (λ l. strings_by (log_of l)) here ∙ same.strings ∙ sym (ap (λ l. strings_by (log_of l)) there);
+        resets = ap resets_of here ∙ same.resets ∙ sym (ap resets_of there);
         frame = ap frame_of here ∙ same.frame ∙ sym (ap frame_of there);
         asked = ap by_functions here ∙ same.asked ∙ sym (ap by_functions there);
       }
@@ -206,6 +243,39 @@ module _ (old new : BesideView) (byte : ℕ) (bytes : List ℕ) (stands : Stands
       ∙ ap strings_by one ∙ stepped was stands.strings
       ∙ ap (after_steps steps) (sym (strings-now bytes stands.read stands.same))
 
+  resets-byte : resets_of after ≡ resets_of bytes ++ reset_if reset
+  resets-byte =
+      resets-now after (stands.read ++ byte ∷ []) reads-byte
+      ∙ ap (λ l. flat_map uttered_by (functions_of l)) one
+      ∙ ap (flat_map uttered_by) (gained was stands.reader)
+      ∙ flat_map-append uttered_by (functions_of was) fs
+      ∙ ap (λ l. l ++ flat_map uttered_by fs) (sym (resets-now bytes stands.read stands.same))
+      ∙ ap (λ l. resets_of bytes ++ l) (sym resets)
+
+  abbrev all : Strings
+  all = strings_by (log_of bytes)
+
+  abbrev first_said : List Utterance
+  first_said = map Says (ended_by steps.first all.begun)
+
+  abbrev later_said : List Utterance
+  later_said = map Says (ended_by steps.later (after_step steps.first all).begun)
+
+  spoken-byte : spoken_of after ≡ spoken_of bytes ++ (first_said ++ later_said)
+  spoken-byte =
+      ap (λ (s : Strings). map Says s.ended) strings-byte
+      ∙ ap (map Says) (step-gives steps.later (after_step steps.first all))
+      ∙ map-append Says (after_step steps.first all).ended (ended_by steps.later (after_step steps.first all).begun)
+      ∙ ap (λ l. map Says l ++ later_said) (step-gives steps.first all)
+      ∙ ap (λ l. l ++ later_said) (map-append Says all.ended (ended_by steps.first all.begun))
+      ∙ append_assoc (spoken_of bytes) first_said later_said
+
+  utterances-byte : utterances_of after ≡ ((utterances_of bytes ++ reset_if reset) ++ first_said) ++ later_said
+  utterances-byte =
+      uttered-by bytes byte (reset_if reset) (first_said ++ later_said) resets-byte spoken-byte
+      ∙ sym (append_assoc (utterances_of bytes) (reset_if reset) (first_said ++ later_said))
+      ∙ sym (append_assoc (utterances_of bytes ++ reset_if reset) first_said later_said)
+
   texts-byte : by_strings after ≡ by_strings bytes ++ (option_to_list first ++ option_to_list later)
   texts-byte =
       ap (λ (s : Strings). flat_map asked_by_string s.ended) strings-byte
@@ -228,7 +298,9 @@ module _ (old new : BesideView) (byte : ℕ) (bytes : List ℕ) (stands : Stands
     strings = subst (Follows new.strings) (sym one) (follows was stands.strings);
     same = reads-byte;
     settings = set ∙ ap (λ s. fold heard s fs) stands.settings ∙ sym settings-byte;
-    texts = subst (Keeps new.texts) (sym strings-byte) (kept (strings_by (log_of bytes)) stands.texts);
+    texts = subst (λ l. Keeps new.texts l (strings_by (log_of after)).begun) (sym utterances-byte)
+        (subst (λ (s : Strings). Keeps new.texts (((utterances_of bytes ++ reset_if reset) ++ first_said) ++ later_said) s.begun)
+        (sym strings-byte) (kept (utterances_of bytes) all stands.texts));
     frame = framed ∙ ap (λ f. fold frame_after f fs) stands.frame ∙ sym frame-byte;
     head = subst (λ (s : Strings). Heads new.head s.begun) (sym strings-byte) (heads (strings_by (log_of bytes)) stands.head);
     asked = subst (Recalls new.asked) (sym questions-byte) (recalls (questions_of bytes) stands.asked);

@@ -7,6 +7,7 @@ use Rattle.roam_text.specs.StringPhases.{StringView, Follows}
 use Rattle.roam_beside.specs.declared.settings.Settings.{Settings}
 use Rattle.roam_beside.specs.Settings.{settings_of}
 use Rattle.roam_beside.specs.Keeping.{TextsView, Keeps}
+use Rattle.roam_beside.specs.Utterances.{resets_of, utterances_of}
 use Rattle.roam_beside.specs.Questions.{by_functions, frame_of, questions_of}
 use Rattle.roam_beside.specs.Asking.{AskedView, HeadView, Heads, Recalls}
 
@@ -24,6 +25,7 @@ pub record BesideView : Type 0 where
 pub record ReadsSame (bytes read : List ℕ) : Type 0 where
   pub settings : settings_of bytes ≡ settings_of read
   pub strings : strings_by (map Byte bytes) ≡ strings_by (map Byte read)
+  pub resets : resets_of bytes ≡ resets_of read
   pub frame : frame_of bytes ≡ frame_of read
   pub asked : by_functions bytes ≡ by_functions read
 
@@ -31,14 +33,15 @@ abbrev pub ReadsAs : List ℕ → List ℕ → Type 0
 ReadsAs bytes read = (more : List ℕ) → ReadsSame (bytes ++ more) (read ++ more)
 
 -- it has read these bytes: what is set is what they set, what is said is what those control strings of theirs say for which there was
--- memory, what was asked is what they asked, all of it, and its readers were given bytes after which all that comes says and asks the same
+-- memory, less what their resets took back of it, what was asked is what they asked, all of it, and its readers were given bytes after
+-- which all that comes says and asks the same
 pub record Stands (beside : BesideView) (bytes : List ℕ) : Type 0 where
   pub read : List ℕ
   pub reader : ReaderStands beside.reader (map Byte read)
   pub strings : Follows beside.strings (map Byte read)
   pub same : ReadsAs bytes read
   pub settings : beside.settings ≡ settings_of bytes
-  pub texts : Keeps beside.texts (strings_by (map Byte bytes))
+  pub texts : Keeps beside.texts (utterances_of bytes) (strings_by (map Byte bytes)).begun
   pub frame : beside.frame ≡ frame_of bytes
   pub head : Heads beside.head (strings_by (map Byte bytes)).begun
   pub asked : Recalls beside.asked (questions_of bytes)

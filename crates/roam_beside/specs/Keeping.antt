@@ -1,13 +1,16 @@
--- What is kept of control strings: those for which there was memory.
+-- What is kept of what was uttered: the control strings for which there was memory, and each reset.
 use Rattle.std.specs.Prelude.{ℕ, ◌≡◌, ◌≢◌, ◌≤◌, ⊤, List, [], length, Option, None, Some}
 use Rattle.roam_text.specs.declared.strings.StringKind.{StringKind}
 use Rattle.roam_text.specs.declared.strings.StringKind.TheVariants.{SystemCommand}
-use Rattle.roam_text.specs.Strings.{ControlString, OpenString, Strings}
+use Rattle.roam_text.specs.declared.strings.StringStep.{StringStep}
+use Rattle.roam_text.specs.declared.strings.StringStep.TheVariants.{Ended}
+use Rattle.roam_text.specs.Strings.{ControlString, OpenString, ended_so}
 use Rattle.roam_beside.specs.declared.keeping.Collecting.{Collecting}
 use Rattle.roam_beside.specs.declared.keeping.Collecting.TheVariants.{Nothing, Text, Lost}
 use Rattle.roam_beside.specs.declared.keeping.Told.{Told}
 use Rattle.roam_beside.specs.declared.keeping.Told.TheVariants.{Nothing as NothingTold, Title, Clip}
-use Rattle.roam_beside.specs.Texts.{Said, IsPartOf, clip_in, longest_text, said_of, title_in, with_clip, with_title}
+use Rattle.roam_beside.specs.Texts.{Said, clip_in, longest_text, title_in, with_clip, with_title}
+use Rattle.roam_beside.specs.Utterances.{Utterance, IsPartOf, said_of}
 
 -- what was said, and what is collected of the control string that is open
 pub record TextsView : Type 0 where
@@ -30,12 +33,18 @@ Collects Nothing text begun = IsOther begun
 Collects Text text begun = IsCommand begun text × (length text ≤ longest_text)
 Collects Lost text begun = (whole : List ℕ) × IsCommand begun whole
 
--- what is said is that of the control strings that were kept, those for which there was memory
-pub record Keeps (v : TextsView) (all : Strings) : Type 0 where
-  pub kept : List ControlString
-  pub part : IsPartOf kept all.ended
+-- what is said is that of what was kept of what was uttered: the control strings for which there was memory, and each reset; and what is
+-- collected is the text of the string that is open
+pub record Keeps (v : TextsView) (uttered : List Utterance) (begun : Option OpenString) : Type 0 where
+  pub kept : List Utterance
+  pub part : IsPartOf kept uttered
   pub said : v.said ≡ said_of kept
-  pub open_text : Collects v.collecting v.text all.begun
+  pub open_text : Collects v.collecting v.text begun
+
+-- the control strings that a character ended, by what it did
+abbrev pub ended_by : StringStep → Option OpenString → List ControlString
+ended_by (Ended ending) begun = ended_so ending begun
+ended_by step begun = []
 
 -- the text of a string of this kind is collected
 abbrev pub collecting_of : StringKind → Collecting

@@ -1,5 +1,7 @@
 pub mod Settings
+pub mod InOrder
 pub mod Texts
+pub mod Utterances
 pub mod Keeping
 pub mod Questions
 pub mod Asking

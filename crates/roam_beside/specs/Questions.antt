@@ -1,6 +1,6 @@
 -- What a program asks of its terminal that its screen can't answer: colours, whether a mode is set, and the terminal's name (xterm's control
 -- sequences and operating system commands; DECRQM of the VT510).
-use Rattle.std.specs.Prelude.{ℕ, ◌==◌, ◌&&◌, Bool, true, false, cond, if◌then◌else◌, List, [], ◌∷◌, ◌++◌, length, drop, map, Option, None, Some}
+use Rattle.std.specs.Prelude.{ℕ, ◌==◌, ◌&&◌, Bool, true, false, cond, if◌then◌else◌, List, [], ◌∷◌, ◌++◌, map, Option, None, Some}
 use Rattle.std.specs.List.{flat_map, fold}
 use Rattle.std.specs.Option.{option_to_list}
 use Rattle.roam_text.specs.declared.functions.Function.{Function}
@@ -20,6 +20,7 @@ use Rattle.roam_beside.specs.declared.questions.Question.TheVariants.{Foreground
 use Rattle.roam_beside.specs.declared.questions.Query.{Query}
 use Rattle.roam_beside.specs.declared.questions.Query.TheVariants.{Nothing, Mode, Name}
 use Rattle.roam_beside.specs.Settings.{fresh_settings, heard, resets, wish_of}
+use Rattle.roam_beside.specs.InOrder.{in_order, later_in_order, next_in_order}
 
 -- ---- whether a frame is open: the private mode 2026 (synchronized output)
 
@@ -106,20 +107,14 @@ by_functions bytes = asked_in fresh_settings false (functions_of (map Byte bytes
 abbrev pub by_strings : List ℕ → List Question
 by_strings bytes = flat_map asked_by_string (strings_of (map Byte bytes))
 
--- what the longer of two lists has more
-abbrev pub behind : List Question → List Question → List Question
-behind before all = drop (length before) all
-
 -- what a byte asks that comes after some: it ends a control function, or a control string, or neither
 abbrev pub asked_next : List ℕ → ℕ → List Question
-asked_next before b =
-    behind (by_functions before) (by_functions (before ++ b ∷ [])) ++ behind (by_strings before) (by_strings (before ++ b ∷ []))
+asked_next before b = next_in_order by_functions by_strings before b
 
 -- what bytes ask that come after some, byte after byte
 abbrev pub asked_after : List ℕ → List ℕ → List Question
-asked_after before [] = []
-asked_after before (b ∷ more) = asked_next before b ++ asked_after (before ++ b ∷ []) more
+asked_after before more = later_in_order by_functions by_strings before more
 
 -- what the program asked that wrote these bytes
 abbrev pub questions_of : List ℕ → List Question
-questions_of bytes = asked_after [] bytes
+questions_of bytes = in_order by_functions by_strings bytes

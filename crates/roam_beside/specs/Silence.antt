@@ -1,22 +1,24 @@
 -- Bytes that say nothing beside the screen.
 use Rattle.std.specs.Prelude.{ℕ, ◌≡◌, ⊤, ◌&&◌, nat_le, nat_lt, Bool, true, not, List, [], ◌∷◌, ◌++◌, map}
-use Rattle.std.specs.List.{fold}
+use Rattle.std.specs.List.{flat_map, fold}
 use Rattle.memchr.specs.Find.{is_byte3}
 use Rattle.roam_text.specs.Log.{Sign, character, settled_part}
 use Rattle.roam_text.specs.Functions.{functions}
 use Rattle.roam_text.specs.Strings.{strings}
 use Rattle.roam_beside.specs.declared.settings.Settings.{Settings}
 use Rattle.roam_beside.specs.Settings.{heard}
+use Rattle.roam_beside.specs.Utterances.{uttered_by}
 use Rattle.roam_beside.specs.Questions.{asked_in, frame_after}
 
 -- the characters of some bytes that stand where no character, sequence or string is unfinished, with their kinds
 abbrev pub signs_from : List ℕ → List Sign
 signs_from bytes = map character (settled_part bytes)
 
--- two lists of characters set and ask the same, and have the same control strings
+-- two lists of characters set, take back and ask the same, and have the same control strings
 pub record SaySame (a b : List ℕ) : Type 0 where
   pub settings : (s : Settings) → fold heard s (functions (map character a)) ≡ fold heard s (functions (map character b))
   pub texts : strings (map character a) ≡ strings (map character b)
+  pub resets : flat_map uttered_by (functions (map character a)) ≡ flat_map uttered_by (functions (map character b))
   pub frame : (f : Bool) → fold frame_after f (functions (map character a)) ≡ fold frame_after f (functions (map character b))
   pub asked : (s : Settings) (f : Bool) → asked_in s f (functions (map character a)) ≡ asked_in s f (functions (map character b))
 

@@ -1,6 +1,6 @@
 -- What a program's control strings say beside its screen: the title, and the text for the clipboard (xterm's operating system commands).
 use Rattle.std.specs.Prelude.{ℕ, ◌==◌, ◌||◌, ◌&&◌, Bool, true, false, cond, nat_lt, nat_le, if◌then◌else◌, List, [], ◌∷◌, length, take, Option, None, Some, is_some}
-use Rattle.std.specs.List.{filter, fold}
+use Rattle.std.specs.List.{filter}
 use Rattle.base64.specs.Engines.{standard}
 use Rattle.base64.specs.GeneralPurpose.{decoded_of}
 use Rattle.ucd_category.specs.GeneralCategory.{general_category}
@@ -107,13 +107,3 @@ said_with kind text s = s
 -- the same, of a string whole
 abbrev pub said_by : Said → ControlString → Said
 said_by s string = said_with string.kind string.text s
-
--- what some control strings say
-abbrev pub said_of : List ControlString → Said
-said_of strings = fold said_by nothing_said strings
-
--- some of a list, in its order
-pub data IsPartOf : List ControlString → List ControlString → Type 0 where
-  nothing_left : IsPartOf [] []
-  kept_one : (s : ControlString) (kept all : List ControlString) → IsPartOf kept all → IsPartOf (s ∷ kept) (s ∷ all)
-  left_out : (s : ControlString) (kept all : List ControlString) → IsPartOf kept all → IsPartOf kept (s ∷ all)

@@ -1,17 +1,18 @@
 //! What stands beside a pane's terminal.
 ghost use Rattle.std.specs.Prelude.{◌≡◌, ◌≤◌, ◌++◌, ◌∷◌, [], List, ℕ, length, min, take, IsTrue};
-ghost use Rattle.std.specs.List.{fold};
+ghost use Rattle.std.specs.List.{flat_map, fold};
 ghost use Rattle.std.specs.Option.{option_map, option_to_list};
 ghost use Rattle.roam_text.specs.Dispatched.{functions_by};
 ghost use Rattle.roam_beside.specs.Settings.{fresh_settings, heard, most_counted, settings_of};
 ghost use Rattle.roam_beside.specs.Questions.{asked_in, frame_after, questions_of};
 ghost use Rattle.roam_beside.specs.Asking.{most_kept, newest};
 ghost use Rattle.roam_beside.specs.Texts.{nothing_said};
+ghost use Rattle.roam_beside.specs.Utterances.{IsCounted, reset_if, uttered_by};
 
 use crate::asking::{Asked, Head};
 use crate::keeping::Texts;
 use crate::questions::{Question, asked_by, frame_after};
-use crate::settings::{Settings, fresh_settings, heard};
+use crate::settings::{Settings, fresh_settings, heard, is_reset};
 use crate::silence::silent_run;
 use roam_text::{Dispatched, Reader, StringReader};
 use std::alloc::Global;
@@ -59,6 +60,19 @@ fn heard_by(settings: Settings, dispatched: Dispatched, reader: &Reader) -> Sett
             reader.parameters(),
             reader.intermediates(),
         ),
+    }
+}
+
+// Whether a byte completed RIS.
+fn is_reset_by(dispatched: Dispatched, reader: &Reader) -> bool
+    ensures reset { reset_if result
+        ≡ flat_map uttered_by (functions_by dispatched reader.now.parameters reader.now.intermediates) }
+{
+    match dispatched {
+        Dispatched::Nothing => false,
+        Dispatched::One(dispatch) | Dispatched::AfterReplacement(dispatch) => {
+            is_reset(dispatch, reader.intermediates())
+        }
     }
 }
 
@@ -128,14 +142,14 @@ impl Beside {
         self.settings
     }
 
-    /// The last title, if there was one: its first 200 printable characters (OSC 0 and 2).
+    /// The last title, if there was one and no RIS came after it: its first 200 printable characters (OSC 0 and 2).
     pub fn title(&self) -> Option<&[char]>
         ensures title { option_map (λ title. title.now) result ≡ self.now.texts.said.title }
     {
         self.texts.title()
     }
 
-    /// How many titles there were, up to 2^64 - 1.
+    /// How many titles there were, and how many RIS took back, up to 2^64 - 1.
     pub fn titles(&self) -> u64
         ensures titles { result ≡ self.now.texts.said.titles }
     {
@@ -175,11 +189,13 @@ impl Beside {
     // Reads one byte.
     fn read(&mut self, byte: u8)
         ensures stands { (bytes : List ℕ) → Stands self.old bytes → Stands self.new (bytes ++ byte ∷ []) }
+        ensures counted { IsCounted self.old.texts.said self.new.texts.said }
     {
         let dispatched = self.reader.dispatch(byte);
         let question = question_by(&self.settings, self.frame, dispatched, &self.reader);
         self.settings = heard_by(self.settings, dispatched, &self.reader);
         self.frame = frame_by(self.frame, dispatched, &self.reader);
+        self.texts.hear(is_reset_by(dispatched, &self.reader));
         let steps = self.strings.next(byte);
         self.texts.take(steps.first);
         self.texts.take(steps.later);
@@ -206,6 +222,7 @@ impl Beside {
     /// Reads a piece of what the program wrote, after the pieces before it.
     pub fn feed(&mut self, piece: &[u8])
         ensures stands { (bytes : List ℕ) → Stands self.old bytes → Stands self.new (bytes ++ piece.now) }
+        ensures counted { IsCounted self.old.texts.said self.new.texts.said }
     {
         let mut at = 0;
         while at < piece.len() {

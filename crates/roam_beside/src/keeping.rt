@@ -1,9 +1,10 @@
 //! The texts that a program's control strings say, and the text of the one that is open.
-ghost use Rattle.std.specs.Prelude.{◌≡◌, ◌≤◌, ◌≢◌, true, false, List, ℕ, [], ◌∷◌, ◌++◌, length, IfOk, IsTrue, None, Some};
+ghost use Rattle.std.specs.Prelude.{◌≡◌, ◌≤◌, ◌≢◌, true, false, List, ℕ, [], ◌∷◌, ◌++◌, length, map, IfOk, IsTrue, Option, None, Some};
 ghost use Rattle.std.specs.Option.{option_map};
-ghost use Rattle.roam_text.specs.Strings.{Strings, after_step, no_strings};
-ghost use Rattle.roam_beside.specs.Keeping.{Ends, Keeps, Tells, collecting_of, with_told};
+ghost use Rattle.roam_text.specs.Strings.{OpenString, Strings, after_step};
+ghost use Rattle.roam_beside.specs.Keeping.{Ends, Keeps, Tells, collecting_of, ended_by, with_told};
 ghost use Rattle.roam_beside.specs.Texts.{longest_text, nothing_said, with_clip, with_title};
+ghost use Rattle.roam_beside.specs.Utterances.{IsCounted, Utterance, Says, reset_if, without_title};
 
 use crate::texts::{LONGEST_TEXT, clip_in, title_in};
 use roam_text::{StringKind, StringStep};
@@ -117,7 +118,7 @@ impl Model for Texts {
 impl Texts {
     /// Nothing was said, and nothing is open.
     pub fn new(alloc: Global) -> Texts
-        ensures keeps { Keeps result no_strings }
+        ensures keeps { Keeps result [] None }
         ensures nothing { result.said ≡ nothing_said }
     {
         Texts {
@@ -131,14 +132,14 @@ impl Texts {
         }
     }
 
-    /// The last title, if there was one.
+    /// The last title, if there was one and it wasn't taken back.
     pub fn title(&self) -> Option<&[char]>
         ensures title { option_map (λ title. title.now) result ≡ self.now.said.title }
     {
         self.title.as_deref()
     }
 
-    /// How many titles there were.
+    /// How many titles there were, and how many were taken back.
     pub fn titles(&self) -> u64
         ensures titles { result ≡ self.now.said.titles }
     {
@@ -188,6 +189,7 @@ impl Texts {
 
     fn keep_title(&mut self, title: Vec<char>)
         ensures said { self.new ≡ record self.old { said = with_title (Some title.items) self.old.said } }
+        ensures counted { IsCounted self.old.said self.new.said }
     {
         self.title = Some(title);
         self.titles = self.titles.saturating_add(1);
@@ -195,6 +197,7 @@ impl Texts {
 
     fn keep_clip(&mut self, clip: Vec<u8>)
         ensures said { self.new ≡ record self.old { said = with_clip (Some clip.items) self.old.said } }
+        ensures counted { IsCounted self.old.said self.new.said }
     {
         self.clip = Some(clip);
         self.clips = self.clips.saturating_add(1);
@@ -203,6 +206,7 @@ impl Texts {
     // What was told is said.
     fn keep(&mut self, told: Told)
         ensures said { self.new ≡ record self.old { said = with_told told self.old.said } }
+        ensures counted { IsCounted self.old.said self.new.said }
     {
         match told {
             Told::Nothing => {}
@@ -211,18 +215,41 @@ impl Texts {
         }
     }
 
+    // There is no title any more, which counts where there was one.
+    fn take_title_back(&mut self)
+        ensures said { self.new ≡ record self.old { said = without_title self.old.said } }
+        ensures counted { IsCounted self.old.said self.new.said }
+    {
+        self.titles = self.titles.saturating_add(u64::from(self.title.is_some()));
+        self.title = None;
+    }
+
     // The one that is open counts.
     fn end(&mut self)
         ensures ends { Ends self.old self.new }
+        ensures counted { IsCounted self.old.said self.new.said }
     {
         let told = told_by(self.alloc, self.collecting, &self.text);
         self.close();
         self.keep(told);
     }
 
+    /// A control function was run, or none: RIS takes the title back.
+    pub fn hear(&mut self, is_reset: bool)
+        ensures keeps { (uttered : List Utterance) (begun : Option OpenString) → Keeps self.old uttered begun
+            → Keeps self.new (uttered ++ reset_if is_reset) begun }
+        ensures counted { IsCounted self.old.said self.new.said }
+    {
+        if is_reset {
+            self.take_title_back();
+        }
+    }
+
     /// A character did so to the control strings.
     pub fn take(&mut self, step: StringStep)
-        ensures keeps { (all : Strings) → Keeps self.old all → Keeps self.new (after_step step all) }
+        ensures keeps { (uttered : List Utterance) (all : Strings) → Keeps self.old uttered all.begun
+            → Keeps self.new (uttered ++ map Says (ended_by step all.begun)) (after_step step all).begun }
+        ensures counted { IsCounted self.old.said self.new.said }
     {
         match step {
             StringStep::Nothing => {}

@@ -1,21 +1,33 @@
 //! Laws of the definitions, each the contract of a function without a body.
-ghost use Rattle.std.specs.Prelude.{◌≡◌, ◌≤◌, ◌+◌, ℕ, List, [], ◌∷◌, ◌++◌, length, None};
+ghost use Rattle.std.specs.Prelude.{◌≡◌, ◌≤◌, ◌+◌, ℕ, List, [], ◌∷◌, ◌++◌, length, map, None};
+ghost use Rattle.std.specs.List.{flat_map};
+ghost use Rattle.roam_text.specs.Log.{Byte};
+ghost use Rattle.roam_text.specs.Strings.{strings_of};
 ghost use Rattle.roam_text.specs.declared.functions.Function.TheVariants.{Csi};
 ghost use Rattle.roam_beside.specs.declared.settings.Settings.{Settings};
 ghost use Rattle.roam_beside.specs.Settings.{heard, reset_settings, settings_of};
 ghost use Rattle.roam_beside.specs.Questions.{asked_after, by_functions, by_strings, questions_of};
+ghost use Rattle.roam_beside.specs.Texts.{Said};
+ghost use Rattle.roam_beside.specs.Utterances.{TakesBack, after_utterance, resets_of, spoken_of, string_in, uttered_after, uttered_by, utterances_of};
+ghost use Rattle.roam_beside.specs.Beside.{BesideView, Stands};
 ghost use Rattle.roam_beside.specs.Silence.{AreStill, SaysNothing};
 
 /// RIS, ESC 63, resets all that a program sets, whatever stands unfinished before it; the bells that rang are still told (ECMA-48,
-/// 8.3.105).
+/// 8.3.105). It is uttered after all that was uttered before it, and no title stands then; all else that was said stays.
 pub fn a_reset_resets()
     ensures reset { (bytes : List ℕ) → settings_of (bytes ++ 0x1B ∷ 0x63 ∷ []) ≡ reset_settings (settings_of bytes) }
+    ensures uttered { (bytes : List ℕ) → utterances_of (bytes ++ 0x1B ∷ 0x63 ∷ []) ≡ utterances_of bytes ++ TakesBack ∷ [] }
+    ensures title { (beside : BesideView) (bytes : List ℕ) → Stands beside (bytes ++ 0x1B ∷ 0x63 ∷ [])
+        → beside.texts.said.title ≡ None }
+    ensures stays { (s : Said) → record (after_utterance s TakesBack) { title = s.title; titles = s.titles } ≡ s }
 {}
 
-/// DECSTR, CSI ! p, leaves all that a program sets beside its screen.
+/// DECSTR, CSI ! p, leaves all that a program sets beside its screen, and takes nothing back.
 pub fn a_soft_reset_leaves_all()
     ensures soft { (s : Settings) (params : List ℕ)
         → heard s (Csi None (record { items = params }) (record { items = 0x21 ∷ [] }) 0x70) ≡ s }
+    ensures uttered { (params : List ℕ)
+        → uttered_by (Csi None (record { items = params }) (record { items = 0x21 ∷ [] }) 0x70) ≡ [] }
 {}
 
 /// Bytes without ESC, BEL and C2 say nothing, where nothing is unfinished before them, though a character be unfinished after them.
@@ -33,4 +45,12 @@ pub fn bells_only_grow()
 pub fn each_question_is_asked_once()
     ensures once { (bytes : List ℕ) → length (questions_of bytes) ≡ length (by_functions bytes) + length (by_strings bytes) }
     ensures front { (bytes more : List ℕ) → questions_of (bytes ++ more) ≡ questions_of bytes ++ asked_after bytes more }
+{}
+
+/// The control strings among what the bytes utter are those of the bytes, in their order, and beside them there is a reset for each RIS
+/// alone; what a front utters comes first.
+pub fn each_string_is_uttered_once()
+    ensures strings { (bytes : List ℕ) → flat_map string_in (utterances_of bytes) ≡ strings_of (map Byte bytes) }
+    ensures once { (bytes : List ℕ) → length (utterances_of bytes) ≡ length (resets_of bytes) + length (spoken_of bytes) }
+    ensures front { (bytes more : List ℕ) → utterances_of (bytes ++ more) ≡ utterances_of bytes ++ uttered_after bytes more }
 {}

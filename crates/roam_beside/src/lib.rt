@@ -8,8 +8,9 @@
 //!
 //! - Of the modes 1000, 1002 and 1003 the one that was set last counts, and a reset of any of them is one of all, as in xterm and tmux.
 //! - 47, 1047 and 1049 all show the alternate screen, as the terminal of this project has them.
-//! - RIS resets modes and shape. It takes back no bell that rang and no text that was told: they are what has happened, and their counts
-//!   only grow. DECSTR resets nothing of all this, as in tmux.
+//! - RIS resets modes and shape and takes back the title, which xterm and tmux keep: as at first, there is none. It takes back no bell that
+//!   rang, no text for the clipboard and no question: they are what has happened. Counts only grow, also that of titles, which counts one
+//!   that is taken back as another. DECSTR resets nothing of all this, as in tmux.
 //! - A title is that of OSC 0 or 2, a text for the clipboard that of OSC 52 for the selection `c` or for none; a question is nothing.
 #![tactic(auto)]
 

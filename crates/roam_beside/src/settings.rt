@@ -2,6 +2,7 @@
 ghost use Rattle.std.specs.Prelude.{◌≡◌, List, ℕ, [], ◌∷◌};
 ghost use Rattle.std.specs.List.{fold};
 ghost use Rattle.roam_text.specs.Dispatched.{function_of};
+ghost use Rattle.roam_beside.specs.Utterances.{is_reset};
 ghost use Rattle.roam_beside.specs.Settings.{counted, fresh_settings, granted, heard, keys_asked, keys_disabled, mode_set, reset_settings, shape_asked, wish_of, with_tracking};
 
 use roam_text::Dispatch;
@@ -199,6 +200,16 @@ fn ring(settings: Settings) -> Settings
     Settings {
         bells: settings.bells.saturating_add(1),
         ..settings
+    }
+}
+
+/// Whether a function is RIS, of which the reader lends the intermediate bytes.
+pub fn is_reset(dispatch: Dispatch, inter: &[u8]) -> bool
+    ensures reset { (params : List ℕ) → result ≡ is_reset (function_of dispatch params inter.now) }
+{
+    match dispatch {
+        Dispatch::Esc { last } => inter.is_empty() && last == b'c',
+        _ => false,
     }
 }
 

@@ -8,8 +8,8 @@ use Rattle.roam_beside.specs.declared.settings.Tracking.TheVariants.{Off, Button
 use Rattle.roam_pane_list.specs.Besides.{in_life, same_modes, with_bells, with_modes, with_shape, with_titles}
 use Rattle.roam_pane_list.specs.declared.beside_list.BesidePane.{BesidePane}
 
--- a line: the program of a pane, of a life, has these modes set; it asks for this shape of the cursor; it has said so many titles, of which
--- this line has the last; it has rung so many bells
+-- a line: the program of a pane, of a life, has these modes set; it asks for this shape of the cursor; it has said so many titles and taken
+-- so many back, and this line has the last, or none; it has rung so many bells
 pub data BesideLine : Type 0 where
   Modes : ℕ → ℕ → Settings → BesideLine
   Shape : ℕ → ℕ → ℕ → BesideLine

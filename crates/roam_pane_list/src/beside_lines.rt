@@ -203,8 +203,8 @@ fn push_said(
 
 /// Adds the lines that tell a follower what is new beside the terminal of a pane, whose last title is this, or nothing: `modes P LIFE
 /// WORDS` where other modes are set, `shape P LIFE N` where the cursor has another shape, `title P LIFE HEX` where another title was said,
-/// in UTF-8 and hexadecimal digits, and `bell P LIFE` where a bell rang. A life of which nothing was told is one whose program wrote
-/// nothing. Refuses want of memory.
+/// in UTF-8 and hexadecimal digits, or it was taken back, which is nothing, and `bell P LIFE` where a bell rang. A life of which nothing
+/// was told is one whose program wrote nothing. Refuses want of memory.
 pub fn push_beside(
     alloc: Global,
     text: &mut String,

@@ -4,14 +4,14 @@ ghost use Rattle.roam_pane_list.specs.Besides.{before_told, beside_at, in_life, 
 
 use roam_beside::{Settings, fresh_settings};
 
-/// What stands beside the terminal of a pane: what its program has set, how many bells it rang, and how many titles it said.
+/// What stands beside the terminal of a pane: what its program has set, how many bells it rang, and how many titles it said and took back.
 #[derive(Clone, Copy)]
 pub struct BesidePane {
     /// Which making of the pane's number it is, counted from 1.
     pub life: u64,
     /// What its program has set, and how many bells it rang.
     pub settings: Settings,
-    /// How many titles it said.
+    /// How many titles it said, and how many it took back.
     pub titles: u64,
 }
 

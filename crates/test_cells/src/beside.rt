@@ -6,7 +6,8 @@ use std::fmt::Write;
 
 /// Rows of a heading, bytes and what is said, with an empty line between them. A character of the bytes is the byte of its code, and `␊`
 /// LF. What is said is told where it isn't what it was at first: `buttons`, `drags` or `motion`, `sgr`, `focus`, `paste`, `other` for the
-/// other screen, `keys N`, `shape N`, `bells N`, `title N TEXT`, `clip N TEXT`, `asked N` and the last sixteen questions.
+/// other screen, `keys N`, `shape N`, `bells N`, `title N TEXT`, or `title N taken back` where none stands any more, `clip N TEXT`,
+/// `asked N` and the last sixteen questions.
 const ROWS: &str = "\
 nothing is said by text and renditions
 a\x1B[1;31mb\u{E2}\u{82}\u{AC}\x1B[2J\x1B[0m␊\x1B[6n\x1B[:m\x1B(0
@@ -60,13 +61,45 @@ bells, but not the one that ends a string
 \x07\x1B[\x07m\x1B]0;a\x07\x07
 bells 3 title 1 a
 
-RIS resets what is set, and nothing that was said
-\x1B[?1000;1049h\x1B[4 q\x07\x1B]2;a\x1B\\\x1Bc
-bells 1 title 1 a
+RIS resets what is set and takes the title back, which is counted, but no bell and no text for the clipboard
+\x1B[?1000;1049h\x1B[4 q\x07\x1B]2;a\x1B\\\x1B]52;c;aGk=\x07\x1Bc
+bells 1 title 2 taken back clip 1 aGk=
 
-DECSTR resets nothing of it
-\x1B[?2004h\x1B[2 q\x1B[!p
-paste shape 2
+RIS where no title stands is counted by nothing
+\x1Bc\x1B]2;a\x07\x1Bc\x1Bc
+title 2 taken back
+
+a title behind RIS
+\x1Bc\x1B]2;a\x07
+title 1 a
+
+a title, RIS and a title
+\x1B]2;a\x07b\x1Bc\x1B[1m\x1B]0;c\x1B\\
+title 3 c
+
+an empty title is one that RIS takes back
+\x1B]2;\x07\x1Bc
+title 2 taken back
+
+RIS with text round it
+\x1B]2;a\x07\u{E2}\u{82}\u{AC}b\x1Bcb\u{E2}\u{82}
+title 2 taken back
+
+RIS breaks off the title in which it comes, and takes back the one before it
+\x1B]2;a\x07\x1B]2;b\x1Bc\x07
+bells 1 title 2 taken back
+
+RIS behind a title that ST ends, and behind an unfinished character and sequence
+\x1B]2;a\x1B\\\x1Bc\x1B]2;b\u{C2}\u{9C}\u{E2}\u{82}\x1B[1\x1Bc
+title 4 taken back
+
+what is no RIS takes nothing back
+\x1B]2;a\x07\x1B(c\x1B[c\x1BC\u{C2}\u{83}c\x1B\x18c
+title 1 a
+
+DECSTR resets nothing of it, and keeps the title
+\x1B[?2004h\x1B[2 q\x1B]2;a\x07\x1B[!p
+paste shape 2 title 1 a
 
 titles of OSC 0 and 2, and none of OSC 1
 \x1B]0;a\x07\x1B]1;b\x07\x1B]2;c \u{C3}\u{A9}\x1B\\
@@ -183,6 +216,23 @@ fn push_questions(text: &mut String, beside: &Beside) -> Result<(), AllocError> 
     Ok(())
 }
 
+fn push_title(text: &mut String, beside: &Beside) -> Result<(), AllocError> {
+    push_number(text, "title", beside.titles())?;
+    match beside.title() {
+        Some(title) => {
+            for c in title {
+                text.push(*c)?;
+            }
+        }
+        None => text.push_str(if beside.titles() > 0 {
+            "taken back "
+        } else {
+            ""
+        })?,
+    }
+    Ok(())
+}
+
 // What is told of what stands beside.
 fn told(alloc: Global, beside: &Beside) -> Result<String, AllocError> {
     let mut text = String::new(alloc);
@@ -191,10 +241,7 @@ fn told(alloc: Global, beside: &Beside) -> Result<String, AllocError> {
     push_number(&mut text, "keys", u64::from(settings.other_keys))?;
     push_number(&mut text, "shape", u64::from(settings.shape))?;
     push_number(&mut text, "bells", settings.bells)?;
-    push_number(&mut text, "title", beside.titles())?;
-    for c in beside.title().unwrap_or(&[]) {
-        text.push(*c)?;
-    }
+    push_title(&mut text, beside)?;
     push_number(&mut text, "clip", beside.clips())?;
     for byte in beside.clip().unwrap_or(&[]) {
         text.push(char::from(*byte))?;

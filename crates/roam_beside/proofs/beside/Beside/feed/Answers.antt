@@ -1,5 +1,6 @@
 use Rattle.std.proofs.Common.{◌+◌, ◌++◌, take, arith, subst}
 use Rattle.roam_beside.specs.Beside.{Stands}
+use Rattle.roam_beside.proofs.Counts.{counted-on}
 use Rattle.roam_beside.proofs.Runs.{run-within}
 use Rattle.roam_beside.proofs.Standing.{run-bytes, byte-bytes}
 use Rattle.roam_beside.proofs.beside.Beside.feed.Goals as goal
@@ -16,6 +17,8 @@ loop-at-preserved-then-at-piece c =
           (c.read.ensures.stands (bytes ++ take (at + run) piece)
           (subst (Stands c.loop-at.self) (run-bytes bytes piece at run)
           (c.passed-at.ensures.stands (bytes ++ take at piece) (c.loop-at.invariant.1 bytes stands)))),
+      counted-on c.args.self.now.texts.said c.loop-at.self.texts.said c.read.new.self.texts.said c.loop-at.invariant.2
+          c.read.ensures.counted,
     )
 
 pub loop-at-preserved : goal.loop-at-preserved
@@ -27,4 +30,5 @@ loop-at-preserved c =
       λ bytes stands.
           subst (Stands c.loop-at.self) (run-bytes bytes piece at run)
           (c.passed-at.ensures.stands (bytes ++ take at piece) (c.loop-at.invariant.1 bytes stands)),
+      c.loop-at.invariant.2,
     )
