@@ -7,7 +7,7 @@ from unittest import mock
 from aids import Case, StillLoop, read_now
 from roam_live import pane_commands, window_processes, window_shells, windows
 from roam_live.program import Fault, begun
-from roam_live.window_lines import MOST_WINDOWS, name_in, name_word
+from roam_live.window_lines import ASKED_AGAIN, MOST_WINDOWS, name_in, name_word
 from roam_live.window_notes import note_ends, numbers_in
 from roam_live.window_processes import SERVER, TERMINALS, WindowProcesses
 from roam_live.windows import ENDING, ENDS, FULL, OPENS, OVER, THERE, Windows
@@ -355,6 +355,45 @@ class Told(Played):
         self.turns(2)
         self.comes_up(3)
         self.assertIn(3, self.windows.named())
+
+    def asks_again(self, size):
+        """What a front end is told that asks for a window of a size as its connection before was cut, and how many servers were spawned."""
+        one = self.asker(1, b"windows\n")
+        read_now(one)
+        told = self.said_by(one, b"open %d %d\n" % size)
+        one.close()
+        self.turns(2)
+        return told, sum(role == SERVER for _, role in self.spawned)
+
+    def test_asked_again(self):
+        """A front end whose connection is cut before it goes to a window that it asked for, told of it or not, asks again and is told of the
+        same: once, and for five seconds; not one who asks for another size, or elsewhere."""
+        self.opened()
+        self.patch_of(windows.Windows, "prepare")
+        self.assertEqual([self.asks_again((30, 90)) for _ in range(3)], [(b"", 2)] * 3)
+        self.comes_up(2)
+        self.assertEqual(self.asks_again((30, 90)), (b"opened 2\n", 2))
+        self.now += ASKED_AGAIN - 1
+        self.assertEqual(self.asks_again((30, 90)), (b"opened 2\n", 2))
+        self.assertEqual(self.asks_again((20, 90)), (b"", 3))
+        self.assertEqual(self.said_by(self.asker(2, b""), b"open 30 90\n"), b"")
+        self.assertEqual(sum(role == SERVER for _, role in self.spawned), 4)
+        self.asker(2, b"here a:/dev/pts/1 24 80 edits\n").close()
+        self.assertEqual(self.asks_again((30, 90)), (b"", 5))
+        self.comes_up(3)
+        self.now += ASKED_AGAIN
+        self.assertEqual(self.asks_again((20, 90)), (b"", 6))
+
+    def test_asked_once(self):
+        """A command that asks, and ends once it is told, has nobody told of its window; neither has one that can't be opened."""
+        self.opened()
+        self.patch_of(windows.Windows, "prepare")
+        self.assertEqual(self.said_by(self.asker(1, b""), b"open 30 90\n"), b"")
+        self.comes_up(2)
+        self.assertEqual(self.asks_again((30, 90)), (b"", 3))
+        self.now += OPENS
+        self.turns(2)
+        self.assertEqual(self.asks_again((30, 90)), (b"", 4))
 
     def test_clients(self):
         """Terminals are told of all windows, each with the window where it is; one is told to leave, or all others are."""
