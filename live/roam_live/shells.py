@@ -14,10 +14,11 @@ from roam_live.given import KEPT, LOST, GivenText, GivenTexts
 from roam_live.listeners import Listener
 from roam_live.loops import Loop
 from roam_live.presence import CLIENTS, LEAVE, LEAVE_OTHERS, WHO, Attended, Presence, presence_said
-from roam_live.program import Fault, read, reason, say, write
+from roam_live.program import Fault, SocketPeer, read, reason, say, write
 from roam_live.row_answers import RowAsker
 from roam_live.shells_peers import MOST_WAITING, Giving, ShellsPeer, client_line
 from roam_live.texts import cleaned, random_name
+from roam_live.unmet import Unmet
 from roam_live.zoom_notes import NotedZoom
 
 TYPE_CHECKING = False
@@ -39,6 +40,9 @@ UNREAD = 60.0
 
 # So many seconds rows aren't read of the filter for who writes them down and doesn't take them.
 LOG_WAIT = 1.0
+
+# So often it is looked again whether all are known who may be at the session, while somebody waits to be told of them.
+MEETS_AGAIN = 0.1
 
 # What one says that is to be told what runs in front in the panes.
 COMMANDS = "commands"
@@ -74,12 +78,16 @@ class CommonShells:
         self.brought = Brought()
         self.buffers = Buffers()
         self.colours = Colours()
-        self.attended = Attended()
+        self.attended, self.unmet = Attended(), Unmet(self.processes)
         self.lines: WindowLines | None = None
 
     def peers(self) -> list[ShellsPeer]:
         """All who are connected."""
         return [peer for one in self.sockets for peer in one.peers]
+
+    def processes(self) -> set[int]:
+        """The processes of the terminals that are there, at any window: of those of another machine that of the relay."""
+        return {peer.process for peer in self.peers() if peer.presence}
 
     def next_number(self) -> int:
         """The number of one who came: no other has it."""
@@ -173,7 +181,7 @@ class ShellsSocket:
 
     def take(self, end: socket.socket) -> None:
         """Takes one who came."""
-        peer = ShellsPeer(end, self.common.next_number())
+        peer = ShellsPeer(end, self.common.next_number(), SocketPeer.of(end).process)
         self.peers.append(peer)
         if self.rows:
             peer.asker = RowAsker(self.rows, lambda data: self.answer(peer, data), lambda line: self.send(peer, [line]),
@@ -338,13 +346,21 @@ class ShellsSocket:
     # ---- what goes
 
     def tell_news(self) -> None:
-        """Tells each who asked what is new of the others, all that came at once together."""
+        """Tells each who asked what is new of the others, all that came at once together; who asked just now, once it is known who they are."""
         if not self.is_new:
             return
         self.is_new = False
+        asked = [peer for peer in self.peers if peer.asks]
+        if any(peer.told is None for peer in asked) and self.common.unmet.are_awaited():
+            asked = [peer for peer in asked if peer.told is not None]
+            self.loop.later(f"others of {self.window}", MEETS_AGAIN, self.look_again)
         there = {peer.number: peer.presence for peer in self.peers if peer.presence}
-        for peer in [peer for peer in self.peers if peer.asks]:
+        for peer in asked:
             self.send(peer, peer.news({number: one for number, one in there.items() if number != peer.number}, self.zoom.line()))
+
+    def look_again(self) -> None:
+        """Looks again whether it is known who is there."""
+        self.is_new = True
 
     def tell_rows(self) -> float | None:
         """Goes on with what was asked of rows, and tells when that is due again."""
@@ -419,6 +435,7 @@ class ShellsSocket:
         if self.listener:
             self.listener.close()
             self.listener = None
+        self.loop.drop(f"others of {self.window}")
         self.loop.end_each(self.tell_news)
         self.loop.end_each(self.tell_rows)
         if self in self.common.sockets:

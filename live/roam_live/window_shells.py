@@ -181,6 +181,7 @@ class Shells:
         self.server = asked.server or self.following.server or None
         self.server_began = begun(self.server) if self.server else None
         self.bells = BellSource(asked.dir, self.loop)
+        common.shells.unmet.folder = asked.common
         self.socket = ShellsSocket(asked.dir, self.loop, self.look_at_fronts, common.shells, asked.window)
         # What runs in front in panes, as far as that was looked up.
         self.in_front: dict[int, str] = {}

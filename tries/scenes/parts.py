@@ -89,8 +89,6 @@ def two_sizes(folder):
     guesses = {"ROAM_GUESS": "always"}
     first = Outer(tool("mux", "other"), (24, 80), guesses)
     first.shows("$ ")
-    # Who comes before the keeper knows of the first is alone, and has the session its own size.
-    comes(lambda: listed()[-2:] == ["1", "terminal"])
     second = Outer(tool("mux", "attach", "other"), (50, 200), guesses)
     second.shows("$ ")
     check("the second shows all of a smaller session", are_right([first, second]), (first.rows(), second.rows()))
