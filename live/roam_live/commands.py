@@ -68,7 +68,7 @@ LEAVES_IN = 2.0
 OTHERS_STAY = "the others can't be detached: what keeps the shells doesn't answer, or is an earlier roam's"
 
 # What waits in the loop for a window, and is nothing in another.
-OF_WINDOW = ("fit", "others", "size", "given", "motion", "border", "untold", "even", "zoom", "zoom left", "synchronize")
+OF_WINDOW = ("fit", "others", "size", "given", "motion", "border", "untold", "even", "zoom", "zoom left", "zoom comes", "synchronize")
 
 # What is told where the session gets this terminal's size since somebody types here.
 LATEST_TOLD = "sized to this terminal (window-size latest): what is wider was cut"
@@ -631,6 +631,8 @@ class Commands:
         if "others" in self.loop.due:
             self.loop.drop("others")
             self.fit()
+        if self.zooming.waits:
+            self.zooming.told()
         self.mend()
 
     def follow(self, size: terminal.Size, own: terminal.Size) -> None:

@@ -19,12 +19,13 @@ from roam_live.row_answers import RowAsker
 from roam_live.shells_peers import MOST_WAITING, Giving, ShellsPeer, client_line
 from roam_live.texts import cleaned, random_name
 from roam_live.unmet import Unmet
-from roam_live.zoom_notes import NotedZoom
+from roam_live.zoom_notes import LEFT, NotedZoom
 
 TYPE_CHECKING = False
 if TYPE_CHECKING:
     from roam_live.row_keeping import RowKeeper
     from roam_live.row_pieces import PaneRows
+    from roam_live.terminal import Size
     from roam_live.window_lines import WindowLines
 
 # So many are connected at most to the socket of a window, front ends of this machine and of others; and to those of all windows.
@@ -245,6 +246,16 @@ class ShellsSocket:
         elif peer.watches() or not (self.common.brought.take(line) or self.common.colours.take(line)):
             self.send(peer, [BAD_LINE])
 
+    # ---- the zoom
+
+    def sized(self, size: Size | None) -> None:
+        """Takes note of the size that the window has; None where it isn't known."""
+        self.is_new = self.zoom.sized(size) or self.is_new
+
+    def end_zoom(self) -> None:
+        """Notes no zoom any more whose maker has left, where the window hasn't a size of it."""
+        self.is_new = self.zoom.end_left() or self.is_new
+
     # ---- who is there
 
     def comes(self, peer: ShellsPeer, presence: Presence) -> None:
@@ -426,7 +437,10 @@ class ShellsSocket:
             self.peers.remove(peer)
             if peer.presence:
                 self.common.attended.leaves(peer.presence.name, self.loop.clock())
-            self.is_new = self.zoom.leave(peer.number) or self.is_new or peer.presence is not None
+            if self.zoom.leave(peer.number):
+                self.is_new = True
+                self.loop.later(f"zoom left in {self.window}", LEFT, self.end_zoom)
+            self.is_new = self.is_new or peer.presence is not None
 
     def close(self) -> None:
         """Closes the socket, and removes it."""
@@ -435,7 +449,8 @@ class ShellsSocket:
         if self.listener:
             self.listener.close()
             self.listener = None
-        self.loop.drop(f"others of {self.window}")
+        for moment in ("others of", "zoom left in"):
+            self.loop.drop(f"{moment} {self.window}")
         self.loop.end_each(self.tell_news)
         self.loop.end_each(self.tell_rows)
         if self in self.common.sockets:

@@ -327,6 +327,9 @@ class Shells:
             self.aside, self.is_new = ToldPanes(), False
         for line in lines:
             self.told(line)
+        places = self.aside.places() if any(line[:1].isdigit() for line in lines) else None
+        if places and places.is_covered():
+            self.socket.sized(places.size())
 
     def follow_now(self) -> None:
         """Takes what came from D/panes so far."""
@@ -336,6 +339,7 @@ class Shells:
     def lost(self) -> None:
         """Goes on without D/panes, which is connected to again; where the server's process has ended the session has."""
         self.untold, self.is_new = set(self.panes), True
+        self.socket.sized(None)
         self.goes_on()
 
     def has_server(self) -> bool:

@@ -171,6 +171,20 @@ class Opened(Played):
         self.turns()
         self.assertEqual(sizes.call_args[0][1:], (30, 100))
 
+    def test_seen_size(self):
+        """The keeper knows a window's size by its panes, while it follows them."""
+        self.opened()
+        zoom = self.windows.windows[1].shells.socket.zoom
+        self.assertEqual(zoom.size, (24, 80))
+        for text, size in ((b"1 1 1 23 60 4\n", (24, 60)), (b"1 1 1 23 40 4\n2 1 42 23 40 5\n", (24, 81)), (b"2 1 42 23 41 5\n", (24, 82)),
+                           (b"1 1 1 20 40 4\n", (24, 82)), (b"2 1 42 20 41 5\n", (21, 82)), (b"2 gone\n", (21, 40))):
+            self.servers[1].send(text)
+            self.turns(2)
+            self.assertEqual(zoom.size, size, text)
+        self.servers[1].close()
+        self.turns(2)
+        self.assertIsNone(zoom.size)
+
     def test_untold_size(self):
         """A size that isn't had goes by what is told."""
         self.opened()
