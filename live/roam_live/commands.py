@@ -594,8 +594,8 @@ class Commands:
             self.showed_all = self.given is not None or shows_all
 
     def has_others(self) -> bool | None:
-        """Whether somebody else types, as the keeper of the shells tells it; else by the notes in the session's folder. None where that isn't
-        known: in the folder of another machine's session not all are noted."""
+        """Whether somebody else types, as the keeper of the shells tells it; else by the notes in the session's folder. None where that
+        isn't known: in the folder of another machine's session not all are noted."""
         told = self.shells.has_others() if self.shells else None
         if told is None and not has_others(self.session.common):
             return None if self.session.served == "relay" else False

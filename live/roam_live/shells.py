@@ -357,7 +357,8 @@ class ShellsSocket:
     # ---- what goes
 
     def tell_news(self) -> None:
-        """Tells each who asked what is new of the others, all that came at once together; who asked just now, once it is known who they are."""
+        """Tells each who asked what is new of the others, all that came at once together; who asked just now, once it is known who they
+        are."""
         if not self.is_new:
             return
         self.is_new = False

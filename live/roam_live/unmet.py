@@ -1,5 +1,5 @@
-"""Front ends that are noted in a session's folder, and haven't told the keeper of its shells where they are: one that began just before may be
-about to connect, and nobody is alone as long as that isn't known."""
+"""Front ends that are noted in a session's folder, and haven't told the keeper of its shells where they are: one that began just before may
+be about to connect, and nobody is alone as long as that isn't known."""
 from __future__ import annotations
 
 import os

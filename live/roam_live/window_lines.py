@@ -125,8 +125,8 @@ class WindowLines:
             socket.send(peer, [f"{GONE} {number}"])
 
     def open(self, socket: ShellsSocket, peer: ShellsPeer, size: Size) -> None:
-        """Has a window opened, and answers once it is there, or can't be. A front end whose connection was cut asks again, and is told of the
-        same."""
+        """Has a window opened, and answers once it is there, or can't be. A front end whose connection was cut asks again, and is told of
+        the same."""
         refusal = WATCHES if peer.watches() else TOO_MANY if peer.opening >= MOST_OPENING else ""
         if refusal:
             socket.send(peer, [f"{OPENED} none {refusal}"])

@@ -100,8 +100,8 @@ class WindowWishes:
         # Whether a window is being opened, and that takes so long that a person was told; and what is typed for it.
         self.is_opening = self.is_late = False
         self.held: list[Key] = []
-        # What opens one, while it isn't answered; and where it wasn't said yet, since the keeper isn't connected: it may be soon, as where it
-        # was launched just before.
+        # What opens one, while it isn't answered; and where it wasn't said yet, since the keeper isn't connected: it may be soon, as where
+        # it was launched just before.
         self.opens = self.unsaid = ""
         self.link = WindowsLink(self.path, loop, self.take, self.told.begin, self.lose)
 
@@ -164,8 +164,8 @@ class WindowWishes:
         self.show()
 
     def lose(self) -> None:
-        """Goes on with what was told: the windows are told anew once the connection is there again. Of another machine's session that is cut
-        as often as its relay goes another way: a window is asked for again then, which is the same there."""
+        """Goes on with what was told: the windows are told anew once the connection is there again. Of another machine's session that is
+        cut as often as its relay goes another way: a window is asked for again then, which is the same there."""
         if self.is_opening and self.front.session.served == "relay":
             self.unsaid = self.opens
         elif self.is_opening and not self.unsaid:

@@ -51,8 +51,8 @@ def zoomed_in(words: list[str]) -> tuple[int, ZoomNote | None] | None:
 
 
 class NotedZoom:
-    """The zoom that was told of last, and who told of it: it stays noted once he has left, until somebody tells that it is over, or the session
-    has another size."""
+    """The zoom that was told of last, and who told of it: it stays noted once he has left, until somebody tells that it is over, or the
+    session has another size."""
 
     def __init__(self) -> None:
         self.maker = 0

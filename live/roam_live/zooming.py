@@ -53,7 +53,8 @@ class Zooming:
         # What was told of the panes when the last size was asked for, while it may come; and where they were when the pane was shown.
         self.awaited: Places | None = None
         self.rects: dict[int, Rect] = {}
-        # Whether this terminal showed all of the session; the zoom of another that was looked after, and one that the session was seen without.
+        # Whether this terminal showed all of the session; the zoom of another that was looked after, and one without whose sizes the
+        # session was seen since.
         self.showed_all = False
         self.mended: ZoomNote | None = None
         self.unseen: ZoomNote | None = None
@@ -269,8 +270,8 @@ class Zooming:
 
     def mend(self, is_late: bool = False) -> bool:
         """Gives the session its size back where a front end made it larger that has left, and tells whether it does: what that typed last
-        may not be taken yet. Where the session had another size meanwhile a zoom of somebody else may be what it has: that is told by another
-        way than the panes, maybe a moment later."""
+        may not be taken yet. Where the session had another size meanwhile it may have that of somebody else's zoom: of that the keeper
+        tells, maybe a moment after the panes are told."""
         note, size = self.left_by(), self.commands.given or self.commands.session_size()
         if not note or size == (0, 0):
             return False

@@ -380,8 +380,8 @@ class Told(Played):
         return told, sum(role == SERVER for _, role in self.spawned)
 
     def test_asked_again(self):
-        """A front end whose connection is cut before it goes to a window that it asked for, told of it or not, asks again and is told of the
-        same: once, and for five seconds; not one who asks for another size, or elsewhere."""
+        """A front end whose connection is cut before it goes to a window that it asked for, told of it or not, asks again and is told of
+        the same, for five seconds; not one who asks for another size, or elsewhere."""
         self.opened()
         self.patch_of(windows.Windows, "prepare")
         self.assertEqual([self.asks_again((30, 90)) for _ in range(3)], [(b"", 2)] * 3)
