@@ -127,6 +127,7 @@ def small_and_back(folder):
     outer.shows("$ ")
     outer.type(b"clear; for i in 1 2 3 4 5 6 7 8 9; do printf '%080d %s\\n' $i ri''ght-$i; done; printf '%99s\\344\\270\\255\\n'\r")
     outer.shows("right-9")
+    outer.stands(11, 0, "$")
     before = outer.rows()
     outer.type(b"\x02d")
     outer.ends()
