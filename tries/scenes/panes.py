@@ -375,6 +375,7 @@ def smaller(folder):
     check("a session that is launched has its terminal's size", comes(lambda: listed()[1:4] == ["24", "by", "100"]), listed)
     outer.type(b"clear; for i in 1 2 3 4 5 6 7 8 9; do printf '%060d %s\\n' $i ri''ght-$i; done\r")
     outer.shows("right-9")
+    outer.stands(9, 0, "$")
     before = outer.rows()
     small = Outer(tool("mux", "attach", "other"), size=(12, 40))
     check("a smaller one shows the part with the cursor, and is told the key", small.status("[1]", end=FITS) and small.shows("$ "),
