@@ -631,3 +631,14 @@ class Noted(Case):
             pass
         self.assertEqual((processes.state()[SERVER], os.getsid(process)), ([process, begun(process)], process))
         self.assertTrue(processes.runs(SERVER))
+
+    def test_ended_at_once(self):
+        """One that is told to end before it runs its words does, and the keeper isn't told of that by its own signals."""
+        reader, writer = self.pipe()
+        before = signal.signal(signal.SIGTERM, lambda number, frame: None), signal.set_wakeup_fd(writer, warn_on_full_buffer=False)
+        self.addCleanup(lambda: (signal.set_wakeup_fd(before[1]), signal.signal(signal.SIGTERM, before[0])))
+        processes = WindowProcesses(str(self.made_folder()), 4)
+        self.patch_of(processes, "become", lambda role, words: (signal.pause(), os._exit(0)))
+        process = processes.spawn(SERVER, [])
+        os.kill(process, signal.SIGTERM)
+        self.assertEqual((os.waitpid(process, 0)[1], read_now(reader)), (signal.SIGTERM, b""))
