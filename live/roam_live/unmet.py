@@ -30,5 +30,5 @@ class Unmet:
     def are_awaited(self) -> bool:
         """Whether one of them may tell soon where it is."""
         now = self.clock()
-        unmet = noted_editors(self.folder) - self.met() if self.folder else ()
+        unmet = noted_editors(self.folder) - self.met()
         return any(now < max(begun(process) or 0, self.since) + MEETS * TICKS for process in unmet)
