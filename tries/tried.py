@@ -240,6 +240,12 @@ class Outer:
         """Whether the last row comes to begin with a text, and to end in another. What is painted above it may come before or after that."""
         return comes(lambda: self.rows()[-1].startswith(text) and self.rows()[-1].endswith(end), seconds)
 
+    def settled(self, row):
+        """The rows that are shown once a shell's prompt stands at a row, from 0, and the last one tells that the shell is in front."""
+        self.stands(row, 0, "$")
+        comes(lambda: self.rows()[-1].rstrip().endswith(":sh*"))
+        return self.rows()
+
     def resize(self, rows, cols):
         """Gives the terminal another size, as a person does."""
         self.emulation().resize(rows, cols)

@@ -68,7 +68,7 @@ LEAVES_IN = 2.0
 OTHERS_STAY = "the others can't be detached: what keeps the shells doesn't answer, or is an earlier roam's"
 
 # What waits in the loop for a window, and is nothing in another.
-OF_WINDOW = ("fit", "others", "size", "given", "motion", "border", "untold", "even", "zoom", "zoom left", "synchronize")
+OF_WINDOW = ("fit", "others", "size", "given", "motion", "border", "untold", "even", "zoom", "zoom left", "zoom comes", "synchronize")
 
 # What is told where the session gets this terminal's size since somebody types here.
 LATEST_TOLD = "sized to this terminal (window-size latest): what is wider was cut"
@@ -593,18 +593,17 @@ class Commands:
             shows_all = self.zooming.showed_all if self.zooming.is_on() else self.display.shows_all()
             self.showed_all = self.given is not None or shows_all
 
-    def has_others(self) -> bool:
-        """Whether somebody else types, as the keeper of the shells tells it; else by the notes in the session's folder."""
+    def has_others(self) -> bool | None:
+        """Whether somebody else types, as the keeper of the shells tells it; else by the notes in the session's folder. None where that
+        isn't known: in the folder of another machine's session not all are noted."""
         told = self.shells.has_others() if self.shells else None
-        return has_others(self.session.common) if told is None else told
+        if told is None and not has_others(self.session.common):
+            return None if self.session.served == "relay" else False
+        return told is None or told
 
     def is_alone(self) -> bool:
-        """Whether it is known that nobody else types: where no keeper tells it, it isn't known of another machine's session, nor without a
-        folder."""
-        told = self.shells.has_others() if self.shells else None
-        if told is None:
-            return self.session.common is not None and self.session.served == "server" and not has_others(self.session.common)
-        return not told
+        """Whether it is known that nobody else types: without a folder it never is."""
+        return self.session.common is not None and self.has_others() is False
 
     def fit(self) -> None:
         """Fits the session to this terminal, as far as that may be: a new session goes by each size. Who else is there has to be known for
@@ -632,6 +631,8 @@ class Commands:
         if "others" in self.loop.due:
             self.loop.drop("others")
             self.fit()
+        if self.zooming.waits:
+            self.zooming.told()
         self.mend()
 
     def follow(self, size: terminal.Size, own: terminal.Size) -> None:
@@ -644,9 +645,9 @@ class Commands:
 
     def follows(self, size: terminal.Size, own: terminal.Size, showed_all: bool) -> bool:
         """Whether the session follows this terminal: it grows where nobody else types, and a lone one that showed all of it is followed to
-        any size. Nothing else makes one smaller, but the end of a zoom."""
+        any size. Nothing else makes one smaller, but the end of a zoom; and who may not be alone changes nothing."""
         is_smaller = own[0] < size[0] or own[1] < size[1]
-        return showed_all and self.is_alone() if is_smaller else not self.has_others()
+        return showed_all and self.is_alone() if is_smaller else self.has_others() is False
 
     # ---- panes
 

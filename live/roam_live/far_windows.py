@@ -9,8 +9,10 @@ from collections.abc import Callable
 
 from roam_live.following import Following
 from roam_live.loops import Loop
+from roam_live.presence import number_in
 from roam_live.program import connected_now, is_id
-from roam_live.relayed import WINDOWS
+from roam_live.relayed import WINDOWS as LEADS
+from roam_live.window_lines import GONE, MOST_WINDOWS, WINDOW, WINDOWS
 
 TYPE_CHECKING = False
 if TYPE_CHECKING:
@@ -34,7 +36,7 @@ def leads_of(number: int) -> str:
 
 def windows_text(windows: list[tuple[int, str]]) -> bytes:
     """What tells the windows that there are."""
-    return WINDOWS + " ".join(f"{number} {name}" for number, name in windows).encode()
+    return LEADS + " ".join(f"{number} {name}" for number, name in windows).encode()
 
 
 def windows_in(text: bytes) -> dict[int, str]:
@@ -53,6 +55,9 @@ class FarWindows:
         # Whether the near end takes windows, and what it was told.
         self.is_used = False
         self.told = b""
+        # Those that the keeper names, once it has named all: the server of one that is gone may not have ended yet.
+        self.named: set[int] = set()
+        self.is_whole = False
         self.following: Following | None = None
 
     def use(self) -> None:
@@ -62,17 +67,18 @@ class FarWindows:
         self.told = b""
         self.is_used = True
         if not self.following:
-            self.following = Following(self.connected, self.loop, self.hear, lambda: None)
+            self.following = Following(self.connected, self.loop, self.hear, self.lose)
             self.following.again = "follow windows"
-            self.following.want("windows")
+            self.following.want(WINDOWS)
             self.following.connect()
         self.tell()
 
     def there(self) -> list[tuple[int, str]]:
-        """The windows that run, with the ids of their sessions, the relay's own first."""
+        """The windows that run, with the ids of their sessions, the relay's own first. That one is there until its server has ended."""
         if not self.place:
             return []
-        found = [(window.number, window.id()) for window in self.place.windows()]
+        there = [window for window in self.place.windows() if not self.is_whole or window.number in self.named | {self.own()}]
+        found = [(window.number, window.id()) for window in there]
         return sorted(((number, name) for number, name in found if is_id(name)), key=lambda one: (one[0] != self.own(), one[0]))
 
     def own(self) -> int:
@@ -87,11 +93,24 @@ class FarWindows:
 
     def hear(self, lines: list[str]) -> None:
         """Tells what is new of the windows."""
-        if any(line.split(" ")[0] in ("window", "windows", "gone") for line in lines):
+        told = [line.split(" ") for line in lines if line.split(" ")[0] in (WINDOW, WINDOWS, GONE)]
+        for word, *rest in told:
+            number = number_in(rest[0], MOST_WINDOWS) if rest else 0
+            self.is_whole = self.is_whole or word == WINDOWS
+            if word == GONE:
+                self.named.discard(number)
+            elif word == WINDOW:
+                self.named.add(number)
+        if told:
             self.tell()
 
+    def lose(self) -> None:
+        """Waits until the keeper names all windows anew."""
+        self.named.clear()
+        self.is_whole = False
+
     def tell(self) -> None:
-        """Tells all windows, where that is new. One that is about to be gone may be there still."""
+        """Tells all windows, where that is new."""
         there = self.there()
         text = windows_text(there) if there else b""
         if self.is_used and text and text != self.told:

@@ -355,10 +355,18 @@ def count_front_ends(folder: str | os.PathLike[str]) -> int:
     return len(notes) - len(gone)
 
 
+def noted_editors(folder: str | os.PathLike[str] | None) -> set[int]:
+    """The processes of the front ends that type, as they are noted in a session's folder."""
+    found: set[int] = set()
+    with contextlib.suppress(OSError):
+        notes = pathlib.Path(folder, "attached").glob("[0-9]*") if folder else ()
+        found.update(int(note.name) for note in notes if is_attached(note) and kind_of(note) == "edits")
+    return found
+
+
 def has_others(folder: str | os.PathLike[str] | None) -> bool:
     """Whether another front end that types is noted in a session's folder."""
-    notes = pathlib.Path(folder, "attached").glob("[0-9]*") if folder else ()
-    return any(note.name != str(os.getpid()) and is_attached(note) and kind_of(note) == "edits" for note in notes)
+    return bool(noted_editors(folder) - {os.getpid()})
 
 
 def kind_of(note: pathlib.Path) -> str:

@@ -14,16 +14,18 @@ from roam_live.given import KEPT, LOST, GivenText, GivenTexts
 from roam_live.listeners import Listener
 from roam_live.loops import Loop
 from roam_live.presence import CLIENTS, LEAVE, LEAVE_OTHERS, WHO, Attended, Presence, presence_said
-from roam_live.program import Fault, read, reason, say, write
+from roam_live.program import Fault, SocketPeer, read, reason, say, write
 from roam_live.row_answers import RowAsker
 from roam_live.shells_peers import MOST_WAITING, Giving, ShellsPeer, client_line
 from roam_live.texts import cleaned, random_name
-from roam_live.zoom_notes import NotedZoom
+from roam_live.unmet import Unmet
+from roam_live.zoom_notes import LEFT, NotedZoom
 
 TYPE_CHECKING = False
 if TYPE_CHECKING:
     from roam_live.row_keeping import RowKeeper
     from roam_live.row_pieces import PaneRows
+    from roam_live.terminal import Size
     from roam_live.window_lines import WindowLines
 
 # So many are connected at most to the socket of a window, front ends of this machine and of others; and to those of all windows.
@@ -39,6 +41,9 @@ UNREAD = 60.0
 
 # So many seconds rows aren't read of the filter for who writes them down and doesn't take them.
 LOG_WAIT = 1.0
+
+# So often it is looked again whether all are known who may be at the session, while somebody waits to be told of them.
+MEETS_AGAIN = 0.1
 
 # What one says that is to be told what runs in front in the panes.
 COMMANDS = "commands"
@@ -74,12 +79,16 @@ class CommonShells:
         self.brought = Brought()
         self.buffers = Buffers()
         self.colours = Colours()
-        self.attended = Attended()
+        self.attended, self.unmet = Attended(), Unmet(self.processes)
         self.lines: WindowLines | None = None
 
     def peers(self) -> list[ShellsPeer]:
         """All who are connected."""
         return [peer for one in self.sockets for peer in one.peers]
+
+    def processes(self) -> set[int]:
+        """The processes of the terminals that are there, at any window: of those of another machine that of the relay."""
+        return {peer.process for peer in self.peers() if peer.presence}
 
     def next_number(self) -> int:
         """The number of one who came: no other has it."""
@@ -173,7 +182,7 @@ class ShellsSocket:
 
     def take(self, end: socket.socket) -> None:
         """Takes one who came."""
-        peer = ShellsPeer(end, self.common.next_number())
+        peer = ShellsPeer(end, self.common.next_number(), SocketPeer.of(end).process)
         self.peers.append(peer)
         if self.rows:
             peer.asker = RowAsker(self.rows, lambda data: self.answer(peer, data), lambda line: self.send(peer, [line]),
@@ -236,6 +245,16 @@ class ShellsSocket:
             self.is_new = True
         elif peer.watches() or not (self.common.brought.take(line) or self.common.colours.take(line)):
             self.send(peer, [BAD_LINE])
+
+    # ---- the zoom
+
+    def sized(self, size: Size | None) -> None:
+        """Takes note of the size that the window has; None where it isn't known."""
+        self.is_new = self.zoom.sized(size) or self.is_new
+
+    def end_zoom(self) -> None:
+        """Notes no zoom any more whose maker has left, where the window hasn't a size of it."""
+        self.is_new = self.zoom.end_left() or self.is_new
 
     # ---- who is there
 
@@ -338,13 +357,22 @@ class ShellsSocket:
     # ---- what goes
 
     def tell_news(self) -> None:
-        """Tells each who asked what is new of the others, all that came at once together."""
+        """Tells each who asked what is new of the others, all that came at once together; who asked just now, once it is known who they
+        are."""
         if not self.is_new:
             return
         self.is_new = False
+        asked = [peer for peer in self.peers if peer.asks]
+        if any(peer.told is None for peer in asked) and self.common.unmet.are_awaited():
+            asked = [peer for peer in asked if peer.told is not None]
+            self.loop.later(f"others of {self.window}", MEETS_AGAIN, self.look_again)
         there = {peer.number: peer.presence for peer in self.peers if peer.presence}
-        for peer in [peer for peer in self.peers if peer.asks]:
+        for peer in asked:
             self.send(peer, peer.news({number: one for number, one in there.items() if number != peer.number}, self.zoom.line()))
+
+    def look_again(self) -> None:
+        """Looks again whether it is known who is there."""
+        self.is_new = True
 
     def tell_rows(self) -> float | None:
         """Goes on with what was asked of rows, and tells when that is due again."""
@@ -410,7 +438,10 @@ class ShellsSocket:
             self.peers.remove(peer)
             if peer.presence:
                 self.common.attended.leaves(peer.presence.name, self.loop.clock())
-            self.is_new = self.zoom.leave(peer.number) or self.is_new or peer.presence is not None
+            if self.zoom.leave(peer.number):
+                self.is_new = True
+                self.loop.later(f"zoom left in {self.window}", LEFT, self.end_zoom)
+            self.is_new = self.is_new or peer.presence is not None
 
     def close(self) -> None:
         """Closes the socket, and removes it."""
@@ -419,6 +450,8 @@ class ShellsSocket:
         if self.listener:
             self.listener.close()
             self.listener = None
+        for moment in ("others of", "zoom left in"):
+            self.loop.drop(f"{moment} {self.window}")
         self.loop.end_each(self.tell_news)
         self.loop.end_each(self.tell_rows)
         if self in self.common.sockets:

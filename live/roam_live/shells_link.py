@@ -46,7 +46,7 @@ class ShellsLink(Following):
 
     def __init__(self, folder: str | os.PathLike[str] | None, loop: Loop, size: Callable[[], Size], watches: bool,
                  knows: Callable[[], object]) -> None:
-        path = os.path.join(folder, "shells") if folder else ""
+        path = self.path = os.path.join(folder, "shells") if folder else ""
         super().__init__(lambda: connected_now(path), loop, self.take, self.forget)
         self.name, self.size, self.kind, self.knows = terminal_name(), size, "watches" if watches else "edits", knows
         # What was said of this terminal, and what was told of the others.
@@ -104,7 +104,7 @@ class ShellsLink(Following):
 
     def is_connecting(self) -> bool:
         """Whether a connection may be there soon: none is, as where the keeper was launched just before, and few were tried in a row."""
-        return self.peer is None and self.faults <= FEW
+        return bool(self.path) and self.peer is None and self.faults <= FEW
 
     def say_here(self) -> None:
         """Says that this terminal is there, where that, or its size, wasn't said."""
@@ -215,8 +215,8 @@ class ShellsLink(Following):
             self.answers(name, word, "")
 
     def takes_texts(self) -> bool:
-        """Whether a keeper takes texts, as far as is known: one was there, or may tell soon."""
-        return self.is_known or self.is_awaited()
+        """Whether a keeper takes texts, as far as is known: one was there, or is connected and may tell soon."""
+        return self.is_known or self.peer is not None and self.is_awaited()
 
     def has_room(self, length: int) -> bool:
         """Whether a text of so many bytes may wait here: where a keeper is stopped nothing goes, not even what isn't wanted any more."""
@@ -258,8 +258,8 @@ class ShellsLink(Following):
         self.answers(name, word, more)
 
     def is_awaited(self) -> bool:
-        """Whether it isn't known yet who else is there, and may be soon."""
-        return self.peer is not None and not self.others.is_whole and self.loop.clock() < self.since + KNOWS
+        """Whether it isn't known yet who else is there, and may be soon: the keeper is about to tell it, or to be connected."""
+        return self.is_connecting() or self.peer is not None and not self.others.is_whole and self.loop.clock() < self.since + KNOWS
 
     def has_others(self) -> bool | None:
         """Whether somebody else types at the session; None where that isn't known."""

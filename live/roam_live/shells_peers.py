@@ -38,10 +38,11 @@ class Giving:
 
 
 class ShellsPeer:
-    """One who is connected, by a number of its own: what came of its lines, what waits for it, and whether it is at a terminal."""
+    """One who is connected, by a number of its own and its process: what came of its lines, what waits for it, and whether it is at a
+    terminal."""
 
-    def __init__(self, end: socket.socket, number: int) -> None:
-        self.end, self.number = end, number
+    def __init__(self, end: socket.socket, number: int, process: int = 0) -> None:
+        self.end, self.number, self.process = end, number, process
         self.came, self.waiting = bytearray(), bytearray()
         self.presence: Presence | None = None
         # Since when that is so, in seconds since the epoch.

@@ -81,13 +81,34 @@ def set_size(terminal: int, rows: int, cols: int) -> None:
     fcntl.ioctl(terminal, termios.TIOCSWINSZ, struct.pack("HHHH", rows, cols, 0, 0))
 
 
+def forget_signals() -> None:
+    """Has this process be ended by signals that the one from which it was forked took for itself, and tells that one of none."""
+    signal.set_wakeup_fd(-1)
+    for number in SIGNALS:
+        signal.signal(number, signal.SIG_DFL)
+
+
+def forked_apart() -> int:
+    """Forks a process: 0 in that one, and its number in this one. What is signalled to the new one, however soon, isn't told where this
+    one is told of its own signals: the keeper would take the end of a pane that is closed at once for its own."""
+    before = signal.pthread_sigmask(signal.SIG_BLOCK, SIGNALS)
+    process = -1
+    try:
+        process = os.fork()
+    finally:
+        if process == 0:
+            forget_signals()
+        signal.pthread_sigmask(signal.SIG_SETMASK, before)
+    return process
+
+
 def forked(size: Size) -> tuple[int, int]:
     """Forks a process on a new terminal: 0 and 0 in that process, and its number and the terminal's other end in this one. The terminal has
     its size before the process is there, so that no later size comes before this one."""
     master, slave = os.openpty()
     try:
         set_size(slave, *size)
-        process = os.fork()
+        process = forked_apart()
     except OSError:
         os.close(master)
         os.close(slave)
@@ -116,9 +137,7 @@ def become(command: list[str], environment: dict[str, str], instead: str | None 
         modes = termios.tcgetattr(0)
         modes[0] |= IUTF8
         termios.tcsetattr(0, termios.TCSANOW, modes)
-    signal.set_wakeup_fd(-1)
-    for number in SIGNALS:
-        signal.signal(number, signal.SIG_DFL)
+    forget_signals()
     execute(command, environment, f"; this is {instead}" if instead else "")
     if instead:
         execute([instead], {**environment, "SHELL": instead})

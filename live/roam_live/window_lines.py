@@ -52,6 +52,9 @@ NO_NAME = "-"
 # One who asks may have so many opened at once.
 MOST_OPENING = 4
 
+# For so many seconds a window is his who asks again for what he asked for when his connection was cut, as where a relay goes another way.
+ASKED_AGAIN = 5.0
+
 WATCHES = "a terminal that only watches opens none"
 TOO_MANY = f"{MOST_OPENING} are being opened"
 
@@ -72,11 +75,25 @@ def name_word(name: str) -> str:
     return name.encode("utf-8", "replace").hex() or NO_NAME
 
 
+class AskedWindow:
+    """A window that one who is at another asked for, of a size; and its number, and since when it is there."""
+
+    def __init__(self, socket: ShellsSocket, peer: ShellsPeer, size: Size) -> None:
+        self.socket, self.peer, self.size = socket, peer, size
+        self.number, self.since = 0, 0.0
+
+    def is_left(self) -> bool:
+        """Whether he isn't connected any more, so that he may not know of it."""
+        return self.peer not in self.socket.peers
+
+
 class WindowLines:
     """The lines, at the sockets of all windows, for a table that has them: what one who only watches asks for isn't done."""
 
     def __init__(self, table: WindowTable, sockets: list[ShellsSocket]) -> None:
         self.table, self.sockets = table, sockets
+        # The windows that front ends asked for, and where no terminal was yet.
+        self.asked: list[AskedWindow] = []
 
     def take(self, socket: ShellsSocket, peer: ShellsPeer, line: str) -> bool:
         """Takes a line of one who is at a window, and tells whether it is one of these."""
@@ -108,19 +125,38 @@ class WindowLines:
             socket.send(peer, [f"{GONE} {number}"])
 
     def open(self, socket: ShellsSocket, peer: ShellsPeer, size: Size) -> None:
-        """Has a window opened, and answers once it is there, or can't be."""
-
-        def told(number: int, why: str) -> None:
-            peer.opening -= 1
-            if peer in socket.peers:
-                socket.send(peer, [f"{OPENED} {number}" if number else f"{OPENED} none {why}"])
-
+        """Has a window opened, and answers once it is there, or can't be. A front end whose connection was cut asks again, and is told of
+        the same."""
         refusal = WATCHES if peer.watches() else TOO_MANY if peer.opening >= MOST_OPENING else ""
-        peer.opening += 1
         if refusal:
-            told(0, refusal)
-        else:
-            self.table.open(size, socket.window, told)
+            socket.send(peer, [f"{OPENED} none {refusal}"])
+            return
+        peer.opening += 1
+        left = self.left(socket, size)
+        if left:
+            left.peer = peer
+            if left.number:
+                self.opened(left, left.number)
+            return
+        asked = AskedWindow(socket, peer, size)
+        if peer.asks_windows:
+            self.asked.append(asked)
+        self.table.open(size, socket.window, lambda number, why: self.opened(asked, number, why))
+
+    def left(self, socket: ShellsSocket, size: Size) -> AskedWindow | None:
+        """A window of this size that was asked for here by one who has left; None where there is none."""
+        now, named = socket.loop.clock(), self.table.named()
+        self.asked = [one for one in self.asked if not one.number or one.number in named and now < one.since + ASKED_AGAIN]
+        return next((one for one in self.asked if one.is_left() and (one.socket, one.size) == (socket, size)), None)
+
+    def opened(self, asked: AskedWindow, number: int, why: str = "") -> None:
+        """Tells who asked for a window that it is there, or why it can't be."""
+        asked.number, asked.since = number, asked.socket.loop.clock()
+        if not number and asked in self.asked:
+            self.asked.remove(asked)
+        if not asked.is_left():
+            asked.peer.opening -= 1
+            asked.socket.send(asked.peer, [f"{OPENED} {number}" if number else f"{OPENED} none {why}"])
 
     def has_asked(self) -> bool:
         """Whether somebody is there who asked for windows."""
@@ -140,4 +176,5 @@ class WindowLines:
 
     def comes(self, number: int) -> None:
         """Takes note that a terminal is at a window."""
+        self.asked = [one for one in self.asked if one.number != number]
         self.table.came(number)

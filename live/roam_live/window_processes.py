@@ -4,12 +4,11 @@ from __future__ import annotations
 import contextlib
 import json
 import os
-import signal
 
 from roam_live.processes import is_note
 from roam_live.program import SocketPeer, begun, connected_now, end_words, is_running, program, reason, replace_text, say
 from roam_live.programs import PANE
-from roam_live.terminal import SIGNALS
+from roam_live.terminal import forked_apart
 from roam_live.window_lines import NO_NAME, name_in, name_word
 from roam_live.window_notes import SPARE, WINDOWS_VERSION, window_folder, windows_folder
 
@@ -116,7 +115,7 @@ class WindowProcesses:
     def spawn(self, role: str, words: list[str]) -> int:
         """Spawns a process with a session of its own, which notes itself before it runs the words, so that it is found however this one
         ends; and tells its number."""
-        process = os.fork()
+        process = forked_apart()
         if process == 0:
             self.become(role, words)
         self.noted[role] = process, begun(process)
@@ -136,9 +135,6 @@ class WindowProcesses:
         """Becomes the process of a role; what it says goes where this process says something."""
         try:
             os.setsid()
-            signal.set_wakeup_fd(-1)
-            for number in SIGNALS:
-                signal.signal(number, signal.SIG_DFL)
             self.noted[role] = os.getpid(), begun(os.getpid())
             self.note()
             nothing = os.open(os.devnull, os.O_RDONLY)

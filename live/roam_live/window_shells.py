@@ -181,6 +181,7 @@ class Shells:
         self.server = asked.server or self.following.server or None
         self.server_began = begun(self.server) if self.server else None
         self.bells = BellSource(asked.dir, self.loop)
+        common.shells.unmet.folder = asked.common
         self.socket = ShellsSocket(asked.dir, self.loop, self.look_at_fronts, common.shells, asked.window)
         # What runs in front in panes, as far as that was looked up.
         self.in_front: dict[int, str] = {}
@@ -326,6 +327,9 @@ class Shells:
             self.aside, self.is_new = ToldPanes(), False
         for line in lines:
             self.told(line)
+        places = self.aside.places() if any(line[:1].isdigit() for line in lines) else None
+        if places and places.is_covered():
+            self.socket.sized(places.size())
 
     def follow_now(self) -> None:
         """Takes what came from D/panes so far."""
@@ -335,6 +339,7 @@ class Shells:
     def lost(self) -> None:
         """Goes on without D/panes, which is connected to again; where the server's process has ended the session has."""
         self.untold, self.is_new = set(self.panes), True
+        self.socket.sized(None)
         self.goes_on()
 
     def has_server(self) -> bool:

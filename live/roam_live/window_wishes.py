@@ -100,8 +100,9 @@ class WindowWishes:
         # Whether a window is being opened, and that takes so long that a person was told; and what is typed for it.
         self.is_opening = self.is_late = False
         self.held: list[Key] = []
-        # What opens one, and wasn't said yet, since the keeper isn't connected: it may be soon, as where it was launched just before.
-        self.unsaid = ""
+        # What opens one, while it isn't answered; and where it wasn't said yet, since the keeper isn't connected: it may be soon, as where
+        # it was launched just before.
+        self.opens = self.unsaid = ""
         self.link = WindowsLink(self.path, loop, self.take, self.told.begin, self.lose)
 
     def path(self) -> str:
@@ -163,8 +164,11 @@ class WindowWishes:
         self.show()
 
     def lose(self) -> None:
-        """Goes on with what was told: the windows are told anew once the connection is there again."""
-        if self.is_opening and not self.unsaid:
+        """Goes on with what was told: the windows are told anew once the connection is there again. Of another machine's session that is
+        cut as often as its relay goes another way: a window is asked for again then, which is the same there."""
+        if self.is_opening and self.front.session.served == "relay":
+            self.unsaid = self.opens
+        elif self.is_opening and not self.unsaid:
             self.end_opening(NOBODY)
 
     def show(self) -> None:
@@ -276,11 +280,11 @@ class WindowWishes:
             # What stands behind in the same read was for it too.
             self.loop.later("window opens", 0.0, lambda: self.end_opening(why))
             return
-        line = "open {} {}".format(*largest(size))
+        self.opens = "open {} {}".format(*largest(size))
         if self.link.peer:
-            self.link.ask(line)
+            self.link.ask(self.opens)
         else:
-            self.unsaid = line
+            self.unsaid = self.opens
         self.loop.later("window opens", OPENS, lambda: self.end_opening(LATE))
         self.loop.later("window waits", TAKES_LONG, self.tell_late)
 
@@ -298,6 +302,8 @@ class WindowWishes:
         if not number:
             self.end_opening(f"no window is opened: {why}")
             return
+        # It isn't asked for again.
+        self.opens = ""
         if self.front.reached(number) is None and "window opens" in self.loop.due:
             # Of another machine's session it is told here a moment later, by another way.
             self.loop.later("window comes", COMES, lambda: self.opened(number, why))

@@ -19,6 +19,9 @@ NO_ZOOM = f"{ZOOMED} {NONE}"
 # So many sizes are asked for in one zoom at most.
 MOST_ASKED = 8
 
+# So many seconds after a front end left that had made a zoom the session has taken what that typed last.
+LEFT = 0.5
+
 
 class ZoomNote(namedtuple("ZoomNote", "size asked")):
     """The size that a session is to have again, and those that it was asked for by the zoom, the last of them last."""
@@ -48,11 +51,15 @@ def zoomed_in(words: list[str]) -> tuple[int, ZoomNote | None] | None:
 
 
 class NotedZoom:
-    """The zoom that was told of last, and who told of it: it stays noted once he has left, until somebody tells that it is over."""
+    """The zoom that was told of last, and who told of it: it stays noted once he has left, until somebody tells that it is over, or the
+    session has another size."""
 
     def __init__(self) -> None:
         self.maker = 0
         self.note: ZoomNote | None = None
+        # The session's size, where it is known; and whether all is taken that one typed who has left.
+        self.size: Size | None = None
+        self.is_taken = False
 
     def take(self, number: int, line: str) -> bool:
         """Takes a line of the terminal of a number, and tells whether it is one of a zoom. Of another's that is there nobody tells that it
@@ -63,6 +70,7 @@ class NotedZoom:
             return False
         if note or self.maker in (0, number):
             self.maker, self.note = number if note else 0, note
+            self.is_taken = False
         return True
 
     def leave(self, number: int) -> bool:
@@ -70,6 +78,20 @@ class NotedZoom:
         is_maker = self.note is not None and self.maker == number
         self.maker = 0 if is_maker else self.maker
         return is_maker
+
+    def sized(self, size: Size | None) -> bool:
+        """Takes note of the session's size, and tells whether the zoom is noted no more for that."""
+        self.size = size
+        return self.is_taken and self.end_left()
+
+    def end_left(self) -> bool:
+        """Has a zoom be noted no more whose maker has left, now that all is taken that he typed, where the session has no size of it; and
+        tells whether that is so."""
+        self.is_taken = not self.maker
+        if self.maker or not self.note or self.size is None or self.size in self.note.asked:
+            return False
+        self.note = None
+        return True
 
     def line(self) -> str:
         """The line that tells of it."""

@@ -6,7 +6,7 @@ from roam_live import terminal
 from roam_live.borders import splits_of
 from roam_live.loops import Loop
 from roam_live.shares import above, area_of, laid, size_for
-from roam_live.zoom_notes import MOST_ASKED, ZoomNote
+from roam_live.zoom_notes import LEFT, MOST_ASKED, ZoomNote
 
 TYPE_CHECKING = False
 if TYPE_CHECKING:
@@ -17,10 +17,7 @@ if TYPE_CHECKING:
 # So many seconds after a larger size was taken, of which nothing is told, it was refused.
 REFUSES = 2.5
 
-# So many seconds after a front end left that had made a zoom the session has taken what that typed last.
-LEFT = 0.5
-
-# For so many seconds it may be told where the focus is that a command of this person moves.
+# For so many seconds it may be told where the focus is that a command of this person moves, or what another has zoomed.
 FOCUS_WAIT = 1.0
 
 # So many seconds a line stands that tells why nothing is zoomed.
@@ -56,10 +53,12 @@ class Zooming:
         # What was told of the panes when the last size was asked for, while it may come; and where they were when the pane was shown.
         self.awaited: Places | None = None
         self.rects: dict[int, Rect] = {}
-        # Whether this terminal showed all of the session; and the zoom of another that was looked after.
+        # Whether this terminal showed all of the session; the zoom of another that was looked after, and one without whose sizes the
+        # session was seen since.
         self.showed_all = False
         self.mended: ZoomNote | None = None
-        # Whether the pane that comes into focus by what was typed is to be zoomed, once that is told.
+        self.unseen: ZoomNote | None = None
+        # Whether the pane in focus is to be zoomed once it is told which that is, by what was typed, and whether another has a zoom.
         self.waits = False
 
     def is_on(self) -> bool:
@@ -87,7 +86,7 @@ class Zooming:
             self.end()
             return
         places = self.commands.places()
-        if places and not places.focus and not self.waits:
+        if places and not self.waits and not self.is_told(places):
             self.waits = True
             self.loop.later("zoom waits", FOCUS_WAIT, self.switch)
             return
@@ -102,6 +101,10 @@ class Zooming:
         self.pane, self.before, self.showed_all = places.focus, before, self.commands.display.shows_all()
         self.note = ZoomNote(size, ())
         self.ask(places)
+
+    def is_told(self, places: Places | None) -> bool:
+        """Whether it is told which pane is in focus, and by the keeper whether another has a zoom, where one is about to."""
+        return bool(places and places.focus) and not (self.commands.shells and self.commands.shells.is_awaited())
 
     def drop_wait(self) -> None:
         """Waits no more for what is told of the focus."""
@@ -186,7 +189,7 @@ class Zooming:
         """Goes by what is told of the panes: it is over where another is in focus, or they are others, or the session's size is another
         than it was asked for."""
         places = self.commands.places()
-        if self.waits and places and places.focus:
+        if self.waits and self.is_told(places):
             self.switch()
             return
         if not places or not self.pane:
@@ -262,23 +265,34 @@ class Zooming:
         shells = self.commands.shells
         maker, note = shells.zoomed if shells else (0, None)
         if maker or not note:
-            self.mended = None
+            self.mended = self.unseen = None
         return None if maker or self.pane or self.commands.link.watches or note == self.mended else note
 
     def mend(self, is_late: bool = False) -> bool:
         """Gives the session its size back where a front end made it larger that has left, and tells whether it does: what that typed last
-        may not be taken yet."""
+        may not be taken yet. Where the session had another size meanwhile it may have that of somebody else's zoom: of that the keeper
+        tells, maybe a moment after the panes are told."""
         note, size = self.left_by(), self.commands.given or self.commands.session_size()
         if not note or size == (0, 0):
             return False
-        if size in note.asked:
+        if size not in note.asked:
+            self.unseen = note
+            self.loop.drop("zoom comes")
+            if is_late:
+                self.overrule()
+            else:
+                self.loop.later("zoom left", LEFT, lambda: self.mend(is_late=True))
+        elif note != self.unseen:
             self.commands.give(note.size)
             return True
-        if is_late:
-            self.overrule()
-        else:
-            self.loop.later("zoom left", LEFT, lambda: self.mend(is_late=True))
+        elif "zoom comes" not in self.loop.due:
+            self.loop.later("zoom comes", LEFT, self.mend_late)
         return False
+
+    def mend_late(self) -> None:
+        """Gives the session its size back, where nobody has told that the zoom is his."""
+        self.unseen = None
+        self.commands.mend()
 
     def overrule(self) -> None:
         """Tells the keeper that a zoom which a front end has left is over: the session's size is one that it was given otherwise."""

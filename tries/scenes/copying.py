@@ -18,7 +18,8 @@ def begins(environment=None, text="seq 3000"):
     outer = Outer(tool("mux", SESSION), environment=environment or VI)
     outer.shows("$ ")
     outer.type(f"clear; {text}\r".encode())
-    outer.shows("3000" if text == "seq 3000" else "$ ")
+    outer.shows(text.split()[-1])
+    outer.stands(22, 0, "$")
     return outer
 
 
@@ -70,7 +71,6 @@ def copy_private(folder):
 def copy_all(folder):
     """All kept rows are there: the first, the last, what is searched for, and what is copied of them, which is pasted."""
     outer = begins(VI, "seq 20000")
-    outer.shows("20000")
     outer.type(b"\x02[gjj")
     is_first = comes(lambda: outer.rows()[0].strip().isdigit() and int(outer.rows()[0]) < 15000)
     check("the first row that is kept is shown", is_first, outer.rows)

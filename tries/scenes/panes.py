@@ -71,8 +71,7 @@ def leaving(folder):
     outer = three_panes()
     outer.type(b"clear; echo la''st\r")
     outer.shows("last")
-    time.sleep(0.3)
-    before = outer.rows()
+    before = outer.settled(1)
     outer.type(b"\x02d")
     check("C-b d ends the front end with status 0", outer.ends() and outer.process.returncode == 0, outer.process.returncode)
     check("the terminal is as it was", outer.is_restored(), bytes(outer.written[-200:]))
@@ -375,7 +374,7 @@ def smaller(folder):
     check("a session that is launched has its terminal's size", comes(lambda: listed()[1:4] == ["24", "by", "100"]), listed)
     outer.type(b"clear; for i in 1 2 3 4 5 6 7 8 9; do printf '%060d %s\\n' $i ri''ght-$i; done\r")
     outer.shows("right-9")
-    before = outer.rows()
+    before = outer.settled(9)
     small = Outer(tool("mux", "attach", "other"), size=(12, 40))
     check("a smaller one shows the part with the cursor, and is told the key", small.status("[1]", end=FITS) and small.shows("$ "),
           small.rows)

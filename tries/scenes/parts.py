@@ -89,8 +89,6 @@ def two_sizes(folder):
     guesses = {"ROAM_GUESS": "always"}
     first = Outer(tool("mux", "other"), (24, 80), guesses)
     first.shows("$ ")
-    # Who comes before the keeper knows of the first is alone, and has the session its own size.
-    comes(lambda: listed()[-2:] == ["1", "terminal"])
     second = Outer(tool("mux", "attach", "other"), (50, 200), guesses)
     second.shows("$ ")
     check("the second shows all of a smaller session", are_right([first, second]), (first.rows(), second.rows()))
@@ -129,7 +127,7 @@ def small_and_back(folder):
     outer.shows("$ ")
     outer.type(b"clear; for i in 1 2 3 4 5 6 7 8 9; do printf '%080d %s\\n' $i ri''ght-$i; done; printf '%99s\\344\\270\\255\\n'\r")
     outer.shows("right-9")
-    before = outer.rows()
+    before = outer.settled(11)
     outer.type(b"\x02d")
     outer.ends()
     small = Outer(tool("mux", "other"), (12, 40))

@@ -8,8 +8,10 @@ import signal
 import subprocess
 import time
 
-from tried import KEEPS_NONE, Outer, check, comes, noted, said, scene, tool
+from tried import KEEPS_NONE, Outer, check, comes, noted, said, scene, tool, window_of
 from scenes.machines import far_ends, ssh_words
+from scenes.mouse_programs import Modes
+from roam_live.places import BRACKETED
 
 # So many pastes are typed with keys round each, and so many bytes at once are timed.
 PASTES = 100
@@ -46,11 +48,15 @@ def has(path, text, seconds=30.0):
     return comes(lambda: path.exists() and path.stat().st_size >= len(text), seconds) and path.read_bytes() == text
 
 
-def waits_for_return(outer, name):
+def waits_for_return(outer, name, folder):
     """Two pasted lines wait for Return in a shell that asks for brackets, whether they are typed as acts or by a mark."""
+    modes = Modes(folder)
     for form, pad in (("short", ""), ("long", f" {'#' * 40}")):
         outer.type(b"clear\r")
-        comes(lambda: not any("one" in row for row in outer.rows()))
+        # It asks for none while it runs a command; and what it asks for is told beside what is painted.
+        comes(lambda: outer.rows()[0].startswith("b> ") and not any(row.strip() for row in outer.rows()[1:-1]))
+        comes(lambda: BRACKETED in modes.of(1))
+        time.sleep(0.3)
         outer.type(pasted(LINES.format(pad=pad)))
         is_typed = outer.shows("tw''o")
         time.sleep(1)
@@ -66,7 +72,7 @@ def paste_lines(folder):
     outer.shows("$ ")
     outer.type(BASH)
     outer.shows("b> ")
-    waits_for_return(outer, "bash")
+    waits_for_return(outer, "bash", window_of("other"))
     outer.type(b"\x15\x02%")
     outer.status(" 1 [2]")
     outer.type(b"sleep 1000\r")
@@ -212,7 +218,7 @@ def paste_far(folder):
     outer.shows("$ ")
     outer.type(BASH)
     outer.shows("b> ")
-    waits_for_return(outer, "over mux ssh")
+    waits_for_return(outer, "over mux ssh", far / "roam/other/w/1")
     reads(outer, path, r"\033[?2004h")
     text = bytes(random.Random(3).choices(range(0x20, 0x7F), k=200_000))
     begun = time.monotonic()

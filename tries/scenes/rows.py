@@ -7,7 +7,7 @@ import time
 
 from tried import SESSION, Outer, check, children, comes, is_filter, noted, said, scene, tool, window_of
 from roam_live.asked_rows import RowsAsked
-from roam_live.program import TOOLS
+from roam_live.program import TOOLS, Fault
 from roam_live.sessions import FolderSession
 from roam_live.targets import making_of
 
@@ -46,9 +46,12 @@ def count_of(name=SESSION, pane=1):
 
 
 def kept(name=SESSION, pane=1):
-    """All rows that are kept of a pane, without what leads them."""
+    """All rows that are kept of a pane, without what leads them; none while the filter has too much to read to lend any."""
     asked = RowsAsked(FolderSession(window_of(name)))
-    snapshot, found = asked.snapshot(pane), []
+    try:
+        snapshot, found = asked.snapshot(pane), []
+    except Fault:
+        return []
     while snapshot.first + len(found) < snapshot.end:
         rows = asked.rows(snapshot, snapshot.first + len(found), snapshot.end)
         if not rows:

@@ -414,6 +414,12 @@ class Sizes(unittest.TestCase):
             person.answers()
             person.resize(20, 70)
             self.assertEqual((person.sizes(), person.shells.said > 1), (sizes, True), types)
+            # Nor does it grow where that isn't known, since somebody may be there whom no note of this machine tells.
+            person = Person(24, 80, told=places(24, 80), shells=PlayedShells(types))
+            person.place.served = "relay"
+            person.answers()
+            person.resize(30, 90)
+            self.assertEqual(person.sizes(), ["size 30 90"] if types is False else [], types)
         with mock.patch("roam_live.commands.has_others", return_value=True):
             self.assertEqual(Person(50, 132, told=places(24, 80), shells=PlayedShells(False)).sizes(), ["size 50 132"])
             self.assertEqual(Person(50, 132, told=places(24, 80), shells=PlayedShells(None)).sizes(), [])

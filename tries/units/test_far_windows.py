@@ -62,6 +62,30 @@ class Far(Case):
         self.windows.use()
         self.assertEqual(len(self.told), 3)
 
+    def test_gone(self):
+        """One that is told to be gone, or isn't named anew where the connection was cut, is told no more, though its server hasn't ended
+        yet; the relay's own is until then. What is no number changes nothing."""
+        listener = self.listening(self.window(1).folder / "shells")
+        self.here.update({2: "a2", 4: "a4"})
+        self.windows.use()
+        self.assertEqual(self.told, [b"n3 a3 1 a1 2 a2 4 a4"])
+        keeper = self.taken(listener)
+        for text, wanted in ((b"window 1 -\nwindow 2 -\nwindow 3 -\nwindow 4 -\nwindows 4\n", None), (b"gone 2\n", b"n3 a3 1 a1 4 a4"),
+                             (b"gone x\ngone\nwindow\nbell 1 1\n", None), (b"gone 3\n", None),
+                             (b"window 2 -\n", b"n3 a3 1 a1 2 a2 4 a4"), (b"", None),
+                             (b"window 1 -\nwindow 2 -\nwindows 2\n", b"n3 a3 1 a1 2 a2")):
+            self.told.clear()
+            if not text:
+                keeper.close()
+                self.loop.turns(2)
+                self.now += 1
+                self.loop.turns(2)
+                keeper = self.taken(listener)
+                continue
+            keeper.send(text)
+            self.loop.turns(2)
+            self.assertEqual(self.told, [wanted] if wanted else [], text)
+
     def test_heir(self):
         """Once its own window has ended another is, where the near end knows of windows."""
         self.assertIsNone(self.windows.heir())

@@ -13,6 +13,7 @@ from roam_live.extended_keys import QUERY, WANTED, given_back
 from roam_live.front_end import FrontEnd
 from roam_live.program import Fault, begun
 from roam_live.places import Places, Rect
+from roam_live.shells_link import FEW
 from roam_live.told import ToldRecord
 from test_display import Person, PlayedPanes, painting, places
 
@@ -475,6 +476,7 @@ class Loop(Fronts):
 
     def test_sizes(self):
         """What is shown goes by a new size soon, and the session by one that has stood for 0.3 s; a new session by each."""
+        self.front.visit.shells.faults = FEW + 1
         start = self.connect()
         self.paints()
         read_now(start)
@@ -495,11 +497,15 @@ class Loop(Fronts):
         self.assertEqual(read_now(start), b"size 20 70\npart 19 70\n")
 
     def test_unknown_size(self):
-        """A session of which nothing is known is fitted once something was painted, 0.3 s later."""
+        """A session of which nothing is known is fitted once something was painted, 0.3 s later, and no keeper may tell who is there."""
         self.place.told = None
         start = self.connect()
         self.paints(20, 70)
         self.assertEqual(read_now(start), b"told\nguess adaptive\nview -500\n")
+        self.now += 0.3
+        self.turn()
+        self.assertEqual(read_now(start), b"")
+        self.front.visit.shells.faults = FEW + 1
         self.now += 0.3
         self.turn()
         self.assertEqual(read_now(start), b"size 24 80\n")

@@ -1,6 +1,7 @@
 """The keeper's socket `shells`: who is at a session, as each terminal says it and the others are told."""
 import os
 import socket
+import time
 import unittest
 from unittest import mock
 
@@ -8,9 +9,11 @@ from aids import Case, StillLoop, read_now
 from roam_live import fronts, presence
 from roam_live.following import PAUSES
 from roam_live.presence import MOST_OTHERS, Presence, ToldOthers, presence_said, terminal_name
-from roam_live.shells import LONGEST_LINE, MOST_PEERS, MOST_WAITING, ShellsSocket
+from roam_live.program import begun
+from roam_live.shells import LONGEST_LINE, MEETS_AGAIN, MOST_PEERS, MOST_WAITING, ShellsSocket
 from roam_live.shells_link import KNOWS, ShellsLink
-from roam_live.zoom_notes import ZoomNote
+from roam_live.unmet import MEETS, TICKS, ticks
+from roam_live.zoom_notes import LEFT, ZoomNote
 
 A, B = "here:/dev/pts/1 24 80 edits", "there:/dev/pts/2 12 40 watches"
 
@@ -190,6 +193,69 @@ class Fronts(Case):
         self.assertEqual((self.looks.call_count, self.fronts.looked), (0, {}))
 
 
+class Unmet(Sockets):
+    """Front ends that are noted, and not connected yet."""
+
+    def setUp(self):
+        super().setUp()
+        self.other, self.unmet = self.process().pid, self.socket.common.unmet
+        self.unmet.folder, self.unmet.since = str(self.folder), 0
+        self.age(0)
+        (self.folder / "attached").mkdir()
+        self.note("edits")
+
+    def note(self, kind):
+        """Notes another front end."""
+        (self.folder / "attached" / str(self.other)).write_text(f"{begun(self.other)} {kind}\n", encoding="utf-8")
+
+    def age(self, seconds):
+        """Has it been there for so long."""
+        self.unmet.clock = lambda: begun(self.other) + seconds * TICKS
+
+    def told(self, one):
+        """What one is told of the others, a moment later."""
+        self.now += MEETS_AGAIN
+        self.loop.turns(2)
+        return read_now(one).decode().split("\n")[:-1]
+
+    def test_waited_for(self):
+        """Who asks isn't told that nobody is there while one may be about to connect; who was told already is told of others meanwhile."""
+        before = self.connect(b"who\n")
+        self.age(MEETS)
+        self.assertEqual(self.told(before), [f"keeper {NAMED}", "others 0"])
+        self.age(MEETS / 2)
+        one = self.connect(f"here {A}\nwho\n".encode())
+        self.assertEqual([self.told(one), self.told(one), self.told(before)], [[f"keeper {NAMED}"], [], [f"there 2 {A}", "others 1"]])
+        self.connect(f"here {B}\n".encode())
+        self.assertEqual(self.told(one), [])
+        self.socket.peers[-1].process = self.other
+        self.assertEqual(self.told(one), [f"there 3 {B}", "others 1"])
+
+    def test_not_for_long(self):
+        """It is waited for no longer than it takes to connect, but anew by a keeper that has just begun; and not where it has ended."""
+        for seconds, since, is_awaited in ((MEETS - 0.1, 0, True), (MEETS, 0, False), (900, 0, False), (900, 900 - MEETS + 0.1, True)):
+            self.age(seconds)
+            self.unmet.since = begun(self.other) + since * TICKS if since else 0
+            self.assertEqual(self.unmet.are_awaited(), is_awaited, (seconds, since))
+        one = self.connect(b"who\n")
+        self.assertEqual(self.told(one), [f"keeper {NAMED}"])
+        (self.folder / "attached" / str(self.other)).write_text("5 edits\n", encoding="utf-8")
+        self.assertEqual((self.told(one), self.told(one), "others of 0" in self.loop.due), (["others 0"], [], False))
+
+    def test_needless(self):
+        """Nobody waits for one that only watches, or where no folder is known or can be read."""
+        self.assertTrue(self.unmet.are_awaited())
+        self.note("watches")
+        self.assertFalse(self.unmet.are_awaited())
+        self.note("edits")
+        with mock.patch("pathlib.Path.glob", side_effect=OSError(24, "none")):
+            self.assertFalse(self.unmet.are_awaited())
+        self.unmet.folder = ""
+        self.assertFalse(self.unmet.are_awaited())
+        self.assertEqual(round(ticks() / TICKS - time.clock_gettime(time.CLOCK_BOOTTIME)), 0)
+        self.assertLess(abs(begun(self.other) - ticks()), 60 * TICKS)
+
+
 class Bounds(Sockets):
     """What is bounded."""
 
@@ -313,7 +379,7 @@ class Links(Sockets):
         self.turn(one, other)
         self.socket.close()
         self.turn(one, other)
-        self.assertEqual((one.has_others(), one.is_awaited(), one.peer), (None, False, None))
+        self.assertEqual((one.has_others(), one.is_awaited(), one.peer), (None, True, None))
         self.socket = ShellsSocket(self.folder, self.loop)
         self.addCleanup(self.socket.close)
         self.now += PAUSES[0]
@@ -344,6 +410,32 @@ class Links(Sockets):
         other.note_zoom(None)
         self.turn(other)
         self.assertEqual(read_now(late).splitlines(), [b"zoomed none", b"others 1"])
+
+    def test_zoom_left(self):
+        """Who is killed before all of his zoom was taken, or before he told that it is over, leaves none behind: half a second later it is
+        noted no more where the window has another size."""
+        for size, told in (((24, 80), b"zoomed none\nothers 0\n"), ((48, 160), b""), (None, b"")):
+            one, other = self.connect(f"here {A}\n".encode()), self.connect(f"here {B}\nwho\n".encode())
+            self.say(one, b"zoom 24 80 48 160\n")
+            self.socket.sized(size)
+            one.close()
+            self.loop.turns(3)
+            self.assertIn(b"zoomed 0 24 80 48 160\nothers 0\n", read_now(other))
+            self.now += LEFT
+            self.loop.turns(3)
+            self.assertEqual(read_now(other), told, size)
+            self.socket.sized((48, 160))
+            self.socket.sized((24, 80))
+            self.loop.turns(3)
+            self.assertEqual((read_now(other), self.socket.zoom.note), (b"" if told else b"zoomed none\nothers 0\n", None))
+            other.close()
+            self.loop.turns(3)
+        one = self.connect(f"here {A}\nzoom 24 80 48 160\n".encode())
+        one.close()
+        self.loop.turns(3)
+        self.assertEqual(list(self.loop.due), ["zoom left in 0"])
+        self.socket.close()
+        self.assertEqual(self.loop.due, {})
 
     def test_no_zoom(self):
         """Who watches makes none, and neither do lines that tell of none."""
@@ -397,15 +489,20 @@ class Links(Sockets):
         """Where nobody knows the socket, or tells nothing, nothing is known, and that isn't awaited for long; no folder has none."""
         folder = self.made_folder()
         one = self.link(folder=folder)
-        self.assertEqual((one.has_others(), one.is_awaited(), one.peer), (None, False, None))
+        self.assertEqual((one.has_others(), one.is_awaited(), one.peer, one.takes_texts()), (None, True, None, False))
+        for pause, is_awaited in zip(PAUSES, (True, False, False)):
+            self.now += pause
+            one.loop.turn()
+            self.assertEqual((one.has_others(), one.is_awaited(), one.peer), (None, is_awaited, None), pause)
         listener = self.listening(folder / "shells")
-        self.now += PAUSES[0]
+        self.now += PAUSES[3]
         one.loop.turn()
         self.assertTrue(one.is_awaited())
         self.now += KNOWS
         self.assertEqual((one.has_others(), one.is_awaited()), (None, False))
         self.assertTrue(listener)
-        self.assertEqual(ShellsLink(None, StillLoop(), lambda: (24, 80), False, list).loop.due, {})
+        nowhere = ShellsLink(None, StillLoop(), lambda: (24, 80), False, list)
+        self.assertEqual((nowhere.loop.due, nowhere.is_connecting(), nowhere.is_awaited()), ({}, False, False))
 
     def test_ended_at_once(self):
         """A socket that ends each connection at once, as a relay's to an earlier keeper, is tried ever more seldom."""

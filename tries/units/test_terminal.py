@@ -11,7 +11,7 @@ import struct
 import termios
 from unittest import mock
 
-from aids import Case
+from aids import Case, read_now
 from roam_live import terminal
 
 
@@ -164,6 +164,24 @@ class Commands(Case):
         process, words = self.forked((7, 33))
         self.assertEqual((words[:2], words[2].startswith("/dev/pts/"), int(words[3])), (["7", "33"], True, process))
         self.assertEqual(words[4], "0")
+
+    def test_signalled(self):
+        """A signal that comes to a process that was just forked ends that one, and isn't told where this one is told of its own: as where a
+        pane is closed that is being split off."""
+        reader, writer = self.pipe()
+        before = signal.signal(signal.SIGHUP, lambda number, frame: None), signal.set_wakeup_fd(writer, warn_on_full_buffer=False)
+        self.addCleanup(lambda: (signal.set_wakeup_fd(before[1]), signal.signal(signal.SIGHUP, before[0])))
+        for takes in (lambda slave: os.kill(os.getpid(), signal.SIGHUP), lambda slave: signal.pause()):
+            with mock.patch.object(terminal, "take", takes):
+                process, master = terminal.forked((7, 33))
+            if process == 0:
+                os._exit(0)
+            os.kill(process, signal.SIGHUP)
+            self.assertEqual(os.waitpid(process, 0)[1], signal.SIGHUP)
+            os.close(master)
+            self.assertEqual(read_now(reader), b"")
+        os.kill(os.getpid(), signal.SIGHUP)
+        self.assertEqual(read_now(reader), bytes([signal.SIGHUP]))
 
     def test_not_forked(self):
         """Where no process or no size is to be had nothing is left open."""

@@ -7,7 +7,7 @@ from unittest import mock
 from aids import Case, StillLoop, read_now
 from roam_live import pane_commands, window_processes, window_shells, windows
 from roam_live.program import Fault, begun
-from roam_live.window_lines import MOST_WINDOWS, name_in, name_word
+from roam_live.window_lines import ASKED_AGAIN, MOST_WINDOWS, name_in, name_word
 from roam_live.window_notes import note_ends, numbers_in
 from roam_live.window_processes import SERVER, TERMINALS, WindowProcesses
 from roam_live.windows import ENDING, ENDS, FULL, OPENS, OVER, THERE, Windows
@@ -170,6 +170,20 @@ class Opened(Played):
         self.servers[2].send(b"1 1 1 30 100 4\n")
         self.turns()
         self.assertEqual(sizes.call_args[0][1:], (30, 100))
+
+    def test_seen_size(self):
+        """The keeper knows a window's size by its panes, while it follows them."""
+        self.opened()
+        zoom = self.windows.windows[1].shells.socket.zoom
+        self.assertEqual(zoom.size, (24, 80))
+        for text, size in ((b"1 1 1 23 60 4\n", (24, 60)), (b"1 1 1 23 40 4\n2 1 42 23 40 5\n", (24, 81)), (b"2 1 42 23 41 5\n", (24, 82)),
+                           (b"1 1 1 20 40 4\n", (24, 82)), (b"2 1 42 20 41 5\n", (21, 82)), (b"2 gone\n", (21, 40))):
+            self.servers[1].send(text)
+            self.turns(2)
+            self.assertEqual(zoom.size, size, text)
+        self.servers[1].close()
+        self.turns(2)
+        self.assertIsNone(zoom.size)
 
     def test_untold_size(self):
         """A size that isn't had goes by what is told."""
@@ -355,6 +369,45 @@ class Told(Played):
         self.turns(2)
         self.comes_up(3)
         self.assertIn(3, self.windows.named())
+
+    def asks_again(self, size):
+        """What a front end is told that asks for a window of a size as its connection before was cut, and how many servers were spawned."""
+        one = self.asker(1, b"windows\n")
+        read_now(one)
+        told = self.said_by(one, b"open %d %d\n" % size)
+        one.close()
+        self.turns(2)
+        return told, sum(role == SERVER for _, role in self.spawned)
+
+    def test_asked_again(self):
+        """A front end whose connection is cut before it goes to a window that it asked for, told of it or not, asks again and is told of
+        the same, for five seconds; not one who asks for another size, or elsewhere."""
+        self.opened()
+        self.patch_of(windows.Windows, "prepare")
+        self.assertEqual([self.asks_again((30, 90)) for _ in range(3)], [(b"", 2)] * 3)
+        self.comes_up(2)
+        self.assertEqual(self.asks_again((30, 90)), (b"opened 2\n", 2))
+        self.now += ASKED_AGAIN - 1
+        self.assertEqual(self.asks_again((30, 90)), (b"opened 2\n", 2))
+        self.assertEqual(self.asks_again((20, 90)), (b"", 3))
+        self.assertEqual(self.said_by(self.asker(2, b""), b"open 30 90\n"), b"")
+        self.assertEqual(sum(role == SERVER for _, role in self.spawned), 4)
+        self.asker(2, b"here a:/dev/pts/1 24 80 edits\n").close()
+        self.assertEqual(self.asks_again((30, 90)), (b"", 5))
+        self.comes_up(3)
+        self.now += ASKED_AGAIN
+        self.assertEqual(self.asks_again((20, 90)), (b"", 6))
+
+    def test_asked_once(self):
+        """A command that asks, and ends once it is told, has nobody told of its window; neither has one that can't be opened."""
+        self.opened()
+        self.patch_of(windows.Windows, "prepare")
+        self.assertEqual(self.said_by(self.asker(1, b""), b"open 30 90\n"), b"")
+        self.comes_up(2)
+        self.assertEqual(self.asks_again((30, 90)), (b"", 3))
+        self.now += OPENS
+        self.turns(2)
+        self.assertEqual(self.asks_again((30, 90)), (b"", 4))
 
     def test_clients(self):
         """Terminals are told of all windows, each with the window where it is; one is told to leave, or all others are."""
@@ -578,3 +631,14 @@ class Noted(Case):
             pass
         self.assertEqual((processes.state()[SERVER], os.getsid(process)), ([process, begun(process)], process))
         self.assertTrue(processes.runs(SERVER))
+
+    def test_ended_at_once(self):
+        """One that is told to end before it runs its words does, and the keeper isn't told of that by its own signals."""
+        reader, writer = self.pipe()
+        before = signal.signal(signal.SIGTERM, lambda number, frame: None), signal.set_wakeup_fd(writer, warn_on_full_buffer=False)
+        self.addCleanup(lambda: (signal.set_wakeup_fd(before[1]), signal.signal(signal.SIGTERM, before[0])))
+        processes = WindowProcesses(str(self.made_folder()), 4)
+        self.patch_of(processes, "become", lambda role, words: (signal.pause(), os._exit(0)))
+        process = processes.spawn(SERVER, [])
+        os.kill(process, signal.SIGTERM)
+        self.assertEqual((os.waitpid(process, 0)[1], read_now(reader)), (signal.SIGTERM, b""))

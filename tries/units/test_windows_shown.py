@@ -381,6 +381,29 @@ class Opened(Windows):
         self.turn()
         self.assertEqual((self.front.windows.is_opening, self.front.display.told.endswith(DROPPED)), (False, True))
 
+    def test_relay_turns(self):
+        """Of another machine's session the connection is cut where its relay goes another way: the window is asked for again, until it is
+        known that it is there, and has what was typed for it."""
+        self.place.served = "relay"
+        self.tell_list()
+        self.said()
+        self.type(b"\x02cab")
+        for wanted in (["open 24 80"], ["windows", "open 24 80"]):
+            self.assertEqual([line for line in self.said() if line.split()[0] in ("windows", "open")], wanted)
+            self.front.windows.link.lost("cut")
+            self.now += 1
+            self.turn()
+            self.send(self.keepers[-1][0], b"window 1 -\nwindow 2 -\nwindows 2\n")
+            self.turn()
+        self.said()
+        self.send(self.keepers[-1][0], b"opened 3\n")
+        self.turn()
+        self.front.windows.link.lost("cut")
+        self.now += 0.02
+        self.add(3)
+        self.turn()
+        self.assertEqual((self.typed, self.front.number, self.front.windows.unsaid), ({1: "", 2: "", 3: "ab"}, 3, ""))
+
     def test_bounded(self):
         """No more is read than is kept for a window that is being opened."""
         self.tell_list()

@@ -409,6 +409,49 @@ class Noted(Zoomed):
             self.take()
             self.assertEqual((self.session.places().size(), self.person.shells.zooms[-1:]), (after, ["None"]), key)
 
+    def test_anothers(self):
+        """A zoom of somebody else, to a size of one that was left and is noted still, isn't taken for that: the keeper tells of it by another
+        way than the panes are told, maybe later."""
+        note = ZoomNote((24, 80), ((48, 160),))
+        for told, after in ((False, (24, 80)), (True, (48, 160))):
+            self.attach(self.grid(), shells=PlayedShells(True))
+            self.person.shells.zoomed = 0, note
+            self.person.commands.others_told()
+            self.by_another("size 48 160")
+            self.assertEqual(self.session.places().size(), (48, 160))
+            self.now += zooming.LEFT / 2
+            self.person.loop.do_due()
+            self.by_another("grow 1")
+            self.person.shells.zoomed = 9 if told else 0, note
+            self.person.commands.others_told()
+            self.now += zooming.LEFT / 2
+            self.person.loop.do_due()
+            self.take()
+            self.assertEqual((self.session.places().size(), self.person.shells.zooms), (after, [] if told else ["None"]))
+        # Once that one is left too it has the size at once.
+        self.person.shells.zoomed = 0, note
+        self.person.commands.others_told()
+        self.take()
+        self.assertEqual(self.session.places().size(), (24, 80))
+
+    def test_keeper_awaited(self):
+        """While the keeper may be about to tell of another's zoom none is begun: it would give back that one's size."""
+        for tells in (True, False):
+            session = self.grid()
+            session.do("size 48 160")
+            self.attach(session, (24, 80), PlayedShells(True, awaited=True))
+            self.types(b"\x02z")
+            self.assertEqual((self.person.commands.zooming.is_on(), self.person.shells.zooms), (False, []))
+            self.person.shells.zoomed = (9, ZoomNote((24, 80), ((48, 160),))) if tells else (0, None)
+            if tells:
+                self.person.shells.awaited = False
+                self.person.commands.others_told()
+            else:
+                self.now += zooming.FOCUS_WAIT
+                self.person.loop.do_due()
+            self.take()
+            self.assertEqual(self.person.commands.zooming.note.size, (24, 80) if tells else (48, 160))
+
     def test_lines(self):
         """Lines that tell of a zoom, and those that don't."""
         note = ZoomNote((24, 80), ((48, 160),))
@@ -433,6 +476,20 @@ class Noted(Zoomed):
         self.assertTrue(noted.take(1, "zoom none"))
         self.assertEqual((noted.line(), noted.leave(1), noted.leave(2)), ("zoomed 2 24 80 50 170", False, True))
         self.assertEqual((noted.line(), noted.take(3, "zoom none"), noted.line()), ("zoomed 0 24 80 50 170", True, NO_ZOOM))
+
+    def test_keeper_sees(self):
+        """Once all is taken that was typed by who made it and has left it is noted no more where the session has another size, known now or
+        later, than it asked for; and another's is."""
+        for size, later, line in ((None, None, "zoomed 0 24 80 50 170"), ((50, 170), None, "zoomed 0 24 80 50 170"),
+                                  ((24, 80), None, NO_ZOOM), ((50, 170), (24, 80), NO_ZOOM), (None, (30, 90), NO_ZOOM)):
+            noted = NotedZoom()
+            noted.take(1, "zoom 24 80 50 170")
+            self.assertEqual((noted.sized((24, 80)), noted.sized(size), noted.leave(1), noted.sized(size)), (False, False, True, False))
+            is_over = noted.end_left()
+            self.assertEqual((is_over, noted.sized(later or size)), (size == (24, 80), later is not None), (size, later))
+            self.assertEqual(noted.line(), line, (size, later))
+            noted.take(2, "zoom 24 80 50 170")
+            self.assertEqual((noted.sized((24, 80)), noted.end_left(), noted.line()), (False, False, "zoomed 2 24 80 50 170"))
 
 
 if __name__ == "__main__":
