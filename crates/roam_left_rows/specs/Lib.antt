@@ -1,3 +1,4 @@
 pub mod Records
 pub mod Requests
+pub mod ReadRequests
 pub mod Panes

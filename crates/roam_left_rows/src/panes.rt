@@ -1,5 +1,5 @@
 //! A terminal whose rows are told.
-ghost use Rattle.std.specs.Prelude.{◌≡◌, ◌⊎◌, ◌↔◌, ◌<◌, ◌≤◌, ◌∷◌, ◌++◌, [], length, map, take, IfOk, IfErr, OnOk, OnErr, IsErrOf};
+ghost use Rattle.std.specs.Prelude.{◌≡◌, ◌⊎◌, ◌↔◌, ◌<◌, ◌≤◌, ◌∷◌, ◌++◌, [], length, map, take, IfOk, IfErr, OnOk, OnErr, IsErrOf, Some, None, if◌then◌else◌};
 ghost use Rattle.roam_cells.specs.Limits.{IsSize};
 ghost use Rattle.roam_leaving.specs.Lines.{no_lines};
 ghost use Rattle.roam_leaving.specs.Sources.{IsSource};
@@ -132,6 +132,7 @@ impl Pane {
     ) -> Result<Self, Fault>
         ensures stands { IfOk result (λ pane. IsSource pane.source rows cols []) }
         ensures number { IfOk result (λ pane. pane.number ≡ number) }
+        ensures held { IfOk result (λ pane. pane.held ≡ (if as_meant then Some [] else None)) }
         ensures bad_size { IsErrOf result Fault.BadSize ↔ (¬ IsSize rows cols) }
         ensures faults { IfErr result (λ fault. (fault ≡ Fault.BadSize) ⊎ (fault ≡ Fault.OutOfMemory)) }
     {

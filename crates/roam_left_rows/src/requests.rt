@@ -1,6 +1,8 @@
 //! The records that are asked with, a line each.
-ghost use Rattle.std.specs.Prelude.{◌≡◌, ◌<◌, ◌≤◌, IfSome};
-ghost use Rattle.roam_left_rows.specs.Requests.{most_terminals};
+ghost use Rattle.std.specs.Prelude.{◌≡◌, ◌++◌, Some, IfSome, codes};
+ghost use Rattle.roam_left_rows.specs.ReadRequests.{counted_in, short_in, size_in, sized_in, terminal_in};
+ghost use Rattle.roam_left_rows.specs.Requests.{IsRequest, request_text};
+ghost use Rattle.roam_left_rows.specs.declared.requests.Request.{Request as RequestOf};
 
 use roam_numbers::{first_word, number};
 
@@ -22,45 +24,108 @@ pub enum Request {
     Gone(u16),
 }
 
-fn small(text: &[u8]) -> Option<u16> {
-    match number(text, 65535) {
-        Some(value) => Some(value as u16),
-        None => None,
-    }
+// The number of 16 bits that a text writes.
+fn short(text: &[u8]) -> Option<u16>
+    ensures number { result ≡ short_in text.now }
+{
+    Some(number(text, 65_535)? as u16)
 }
 
-fn number_of(text: &[u8]) -> Option<u16> {
-    match number(text, 1023) {
-        Some(value) => Some(value as u16),
-        None => None,
-    }
+// The terminal that a text writes.
+fn number_of(text: &[u8]) -> Option<u16>
+    ensures number { result ≡ terminal_in text.now }
+{
+    Some(number(text, 1023)? as u16)
+}
+
+// Rows and columns.
+fn size(text: &[u8]) -> Option<(u16, u16)>
+    ensures size { result ≡ size_in text.now }
+{
+    let (rows, cols) = first_word(text)?;
+    Some((short(rows)?, short(cols)?))
 }
 
 // A terminal with rows and columns.
-fn sized(text: &[u8]) -> Option<(u16, u16, u16)> {
-    let (first, rest) = first_word(text)?;
-    let (second, third) = first_word(rest)?;
-    Some((number_of(first)?, small(second)?, small(third)?))
+fn sized(text: &[u8]) -> Option<(u16, u16, u16)>
+    ensures sized { result ≡ sized_in text.now }
+{
+    let (number, rest) = first_word(text)?;
+    let number = number_of(number)?;
+    let (rows, cols) = size(rest)?;
+    Some((number, rows, cols))
+}
+
+// A terminal, and how many bytes follow.
+fn counted(text: &[u8]) -> Option<(u16, u64)>
+    ensures counted { result ≡ counted_in text.now }
+{
+    let (first, count) = first_word(text)?;
+    Some((number_of(first)?, number(count, u64::MAX)?))
+}
+
+// What stands behind `pane `.
+fn behind_pane(text: &[u8]) -> Option<Request>
+    ensures found { IfSome result (λ request. IsRequest request × (codes "pane " ++ text.now ≡ request_text request)) }
+    ensures only { (request : RequestOf) → IsRequest request → codes "pane " ++ text.now ≡ request_text request → result ≡ Some request }
+{
+    let (number, rows, cols) = sized(text)?;
+    Some(Request::Pane(number, rows, cols))
+}
+
+// What stands behind `size `.
+fn behind_size(text: &[u8]) -> Option<Request>
+    ensures found { IfSome result (λ request. IsRequest request × (codes "size " ++ text.now ≡ request_text request)) }
+    ensures only { (request : RequestOf) → IsRequest request → codes "size " ++ text.now ≡ request_text request → result ≡ Some request }
+{
+    let (number, rows, cols) = sized(text)?;
+    Some(Request::Size(number, rows, cols))
+}
+
+// What stands behind `bytes `.
+fn behind_bytes(text: &[u8]) -> Option<Request>
+    ensures found { IfSome result (λ request. IsRequest request × (codes "bytes " ++ text.now ≡ request_text request)) }
+    ensures only { (request : RequestOf) → IsRequest request → codes "bytes " ++ text.now ≡ request_text request → result ≡ Some request }
+{
+    let (number, count) = counted(text)?;
+    Some(Request::Bytes(number, count))
+}
+
+// What stands behind `screen `.
+fn behind_screen(text: &[u8]) -> Option<Request>
+    ensures found { IfSome result (λ request. IsRequest request × (codes "screen " ++ text.now ≡ request_text request)) }
+    ensures only { (request : RequestOf) → IsRequest request → codes "screen " ++ text.now ≡ request_text request → result ≡ Some request }
+{
+    Some(Request::Screen(number_of(text)?))
+}
+
+// What stands behind `gone `.
+fn behind_gone(text: &[u8]) -> Option<Request>
+    ensures found { IfSome result (λ request. IsRequest request × (codes "gone " ++ text.now ≡ request_text request)) }
+    ensures only { (request : RequestOf) → IsRequest request → codes "gone " ++ text.now ≡ request_text request → result ≡ Some request }
+{
+    Some(Request::Gone(number_of(text)?))
 }
 
 /// The request of a line without its LF; `None` where it is none.
-pub fn request_of(line: &[u8]) -> Option<Request> {
-    let (word, rest) = first_word(line)?;
-    match word {
-        b"pane" => {
-            let (n, rows, cols) = sized(rest)?;
-            Some(Request::Pane(n, rows, cols))
-        }
-        b"size" => {
-            let (n, rows, cols) = sized(rest)?;
-            Some(Request::Size(n, rows, cols))
-        }
-        b"bytes" => {
-            let (n, length) = first_word(rest)?;
-            Some(Request::Bytes(number_of(n)?, number(length, u64::MAX)?))
-        }
-        b"screen" => Some(Request::Screen(number_of(rest)?)),
-        b"gone" => Some(Request::Gone(number_of(rest)?)),
-        _ => None,
+pub fn request_of(line: &[u8]) -> Option<Request>
+    // What is read has this text.
+    ensures found { IfSome result (λ request. IsRequest request × (line.now ≡ request_text request)) }
+    // What has this text is read.
+    ensures only { (request : RequestOf) → IsRequest request → line.now ≡ request_text request → result ≡ Some request }
+{
+    if let Some(text) = line.strip_prefix(b"pane ".as_slice()) {
+        return behind_pane(text);
     }
+    if let Some(text) = line.strip_prefix(b"size ".as_slice()) {
+        return behind_size(text);
+    }
+    if let Some(text) = line.strip_prefix(b"bytes ".as_slice()) {
+        return behind_bytes(text);
+    }
+    if let Some(text) = line.strip_prefix(b"screen ".as_slice()) {
+        return behind_screen(text);
+    }
+    let text = line.strip_prefix(b"gone ".as_slice())?;
+    behind_gone(text)
 }

@@ -18,7 +18,7 @@ use Rattle.roam_terminals.specs.Painted.MayPaint.{painted, told as was_told, not
 use Rattle.roam_terminals.specs.Running.{Asks, Came, Comes, IsStep, RunStep, RunsBy, Took}
 use Rattle.roam_terminals.specs.Sharing.{AreEach, HearsAll, Settles, Shared, is_gone, is_let_go, turned_round, who_stay}
 use Rattle.roam_terminals.specs.Terminals.{Stands, Types, is_heard, typed_by}
-use Rattle.roam_terminals.specs.Writing.{TellsSilence, is_empty, state_after, unwritten}
+use Rattle.roam_terminals.specs.Writing.{TellsSilence, has_gone, is_empty, state_after, unwritten}
 use Rattle.roam_terminals.specs.Writing.{SaysSilence}
 use Rattle.roam_terminals.specs.Writing.SaysSilence.{heard as is_heard_again, silent as is_silent, quiet as is_as_it_was}
 use Rattle.roam_terminals.specs.Writing.TellsSilence.{over as is_told_over, told as is_told_more, quiet as is_quiet, says as in_records}
@@ -445,10 +445,11 @@ module _ {S : Type 0} (remaining contents : S → Option (List ℕ)) (came : Lis
   settled_account silence typed a new s h =
       let f = s.flushes in
       let told = told_same silence a.last s.told s.tells in
+      let took = has_gone s.told.waiting new.waiting in
       let still_gone : s.told.state ≡ Gone → new.state ≡ Gone = λ gone.
-      f.state ∙ (ap (λ w. state_after (is_empty new.waiting) f.has_taken silence.moment s.told.stuck w)
+      f.state ∙ (ap (λ w. state_after (is_empty new.waiting) took silence.moment s.told.stuck w)
       (unwritten_gone s.told.state f.written f.fails gone)
-      ∙ gone_later (is_empty new.waiting) f.has_taken silence.moment s.told.stuck) in
+      ∙ gone_later (is_empty new.waiting) took silence.moment s.told.stuck) in
       account_stays typed a new
       (subst (λ x. Keeps (remaining x) (remaining new.stream)) told.0 f.apart)
       (ap (λ t. t.lines) f.others ∙ told.1) (ap (λ t. t.watches) f.others ∙ told.2)

@@ -1,6 +1,7 @@
 -- What is written of what waits, piece after piece.
-use Rattle.std.proofs.Common.{◌≡◌, ◌⊎◌, ℕ, ◌+◌, Bool, true, false, List, [], ◌∷◌, ◌++◌, take, drop, Option, Some, None, sym, ap, ◌∙◌, refl, subst, arith, inl, inr}
+use Rattle.std.proofs.Common.{◌≡◌, ◌≢◌, ◌⊎◌, ℕ, ◌+◌, ◌≤◌, Bool, true, false, List, [], ◌∷◌, ◌++◌, length, take, drop, Option, Some, None, sym, ap, ◌∙◌, refl, subst, arith, inl, inr}
 use Rattle.std.proofs.KnownBytes.{Appends-kept, Appends-nil, Appends-trans}
+use Rattle.std.proofs.lemmas.Bool.Decides.{nat_tests}
 use Rattle.std.proofs.lemmas.List.{drop-drop, drop-take, take-append-drop}
 use Rattle.std.proofs.lemmas.Grind.{common_steps}
 use Rattle.std.specs.Prelude.{is_some}
@@ -10,7 +11,7 @@ use Rattle.roam_terminals.specs.Painted.{is_here}
 use Rattle.roam_terminals.specs.Silence.{due_of, is_over, notice_of}
 use Rattle.roam_records.specs.Records.{text_of}
 use Rattle.roam_records.specs.declared.records.Record.TheVariants.{Heard, Silent}
-use Rattle.roam_terminals.specs.Writing.{Flushes, SaysSilence, TellsSilence, is_empty, seen_by, state_after, stuck_after, unwritten}
+use Rattle.roam_terminals.specs.Writing.{Flushes, SaysSilence, TellsSilence, has_gone, is_empty, seen_by, state_after, stuck_after, unwritten}
 use Rattle.roam_terminals.specs.Writing.SaysSilence.{heard, silent, quiet as says_nothing}
 use Rattle.roam_terminals.specs.Writing.TellsSilence.{over, told, quiet, says}
 use Rattle.roam_terminals.specs.declared.silence.Silence.{Silence}
@@ -46,6 +47,16 @@ writes_more before mid after old came new first later = record {
   left = later.left ∙ ap (λ t. drop later.count t) first.left ∙ drop-drop later.count first.count old;
 }
 
+-- ---- whether some of what waited was taken
+
+pub no_more_gone : (has_taken : Bool) (old came new : List ℕ) → has_taken ≡ has_gone old came → length new + 0 ≡ length came
+    → has_taken ≡ has_gone old new
+no_more_gone has_taken old came new gone same = grind (arith, nat_tests)
+
+pub more_gone : (count : ℕ) (old came new : List ℕ) → length came ≤ length old → length new + count ≡ length came → count ≢ 0
+    → true ≡ has_gone old new
+more_gone count old came new fewer same some = grind (arith, nat_tests)
+
 -- ---- one write after another
 
 pub others_write : {S : Type 0} (a b c : Terminal S) → b ≡ record a { stream = b.stream; waiting = b.waiting; state = b.state }
@@ -59,24 +70,24 @@ fails_from a b c same (inr is) = inr (is ∙ ap unwritten same)
 
 pub flushes_by : {S : Type 0} (remaining contents : S → Option (List ℕ)) (now : ℕ) (has_taken : Bool) (old mid new : Terminal S)
     → Writes (contents old.stream) (contents mid.stream) old.waiting mid.waiting → Keeps (remaining old.stream) (remaining mid.stream)
-    → ((mid.state ≡ old.state) ⊎ (mid.state ≡ unwritten old.state))
+    → has_taken ≡ has_gone old.waiting mid.waiting → ((mid.state ≡ old.state) ⊎ (mid.state ≡ unwritten old.state))
     → mid ≡ record old { stream = mid.stream; waiting = mid.waiting; state = mid.state }
     → new.stuck ≡ stuck_after (is_empty mid.waiting) has_taken now mid.stuck
     → new.state ≡ state_after (is_empty mid.waiting) has_taken now mid.stuck mid.state
     → new ≡ record mid { stuck = new.stuck; state = new.state } → Flushes remaining contents now old new
-flushes_by {S} remaining contents now has_taken old mid new writes apart fails first stuck state later =
+flushes_by {S} remaining contents now has_taken old mid new writes apart gone fails first stuck state later =
     let stream : new.stream ≡ mid.stream = ap (λ t. t.stream) later in
     let waiting : new.waiting ≡ mid.waiting = ap (λ t. t.waiting) later in
     let was : mid.stuck ≡ old.stuck = ap (λ t. t.stuck) first in
+    let took : has_taken ≡ has_gone old.waiting new.waiting = gone ∙ ap (has_gone old.waiting) (sym waiting) in
     record {
       writes = subst (λ s. Writes (contents old.stream) (contents s) old.waiting new.waiting) (sym stream)
           (subst (λ w. Writes (contents old.stream) (contents mid.stream) old.waiting w) (sym waiting) writes);
       apart = subst (λ s. Keeps (remaining old.stream) (remaining s)) (sym stream) apart;
-      has_taken = has_taken;
       written = mid.state;
       fails = fails;
-      stuck = stuck ∙ (λ i. stuck_after (is_empty (sym waiting i)) has_taken now (was i));
-      state = state ∙ (λ i. state_after (is_empty (sym waiting i)) has_taken now (was i) mid.state);
+      stuck = stuck ∙ (λ i. stuck_after (is_empty (sym waiting i)) (took i) now (was i));
+      state = state ∙ (λ i. state_after (is_empty (sym waiting i)) (took i) now (was i) mid.state);
       others = later ∙ ap (λ (t : Terminal S). record t { stuck = new.stuck; state = new.state }) first
           ∙ (λ i. record old { stream = sym stream i; waiting = sym waiting i; stuck = new.stuck; state = new.state });
     }

@@ -1,5 +1,5 @@
 -- What waits for an outer terminal: it is written as the terminal takes it; and what is told of silence.
-use Rattle.std.specs.Prelude.{◌≡◌, ◌⊎◌, ℕ, ◌-◌, Bool, true, false, nat_le, List, [], ◌∷◌, Option, Some, None, is_some, if◌then◌else◌}
+use Rattle.std.specs.Prelude.{◌≡◌, ◌⊎◌, ℕ, ◌-◌, Bool, true, false, nat_le, nat_lt, List, [], ◌∷◌, length, Option, Some, None, is_some, if◌then◌else◌}
 use Rattle.std.specs.Io.KnownBytes.{Keeps}
 use Rattle.roam_frames.specs.Carriers.{Writes}
 use Rattle.roam_records.specs.Records.{text_of}
@@ -34,6 +34,10 @@ once_written Deaf = Deaf
 once_written Left = Left
 once_written Gone = Gone
 
+-- some of what waited was taken
+abbrev pub has_gone : List ℕ → List ℕ → Bool
+has_gone old new = nat_lt (length new) (length old)
+
 -- since when a terminal takes nothing of what waits: it just took some, or it did or does from now on
 abbrev pub stuck_since : Bool → ℕ → Option ℕ → ℕ
 stuck_since true now stuck = now
@@ -51,15 +55,15 @@ state_after false has_taken now stuck state =
     if nat_le longest_stuck (now - stuck_since has_taken now stuck) then Gone else state
 
 -- Some of what waited for a terminal was written, and nothing else is another: what is noted of it, what stands over that and what is
--- guessed stay, and so do its lines. Where a write failed nothing more can be written.
+-- guessed stay, and so do its lines. Where a write failed nothing more can be written. Since when it takes nothing is known by whether
+-- less waits than before.
 pub record Flushes {S : Type 0} (remaining contents : S → Option (List ℕ)) (now : ℕ) (old new : Terminal S) : Type 0 where
   pub writes : Writes (contents old.stream) (contents new.stream) old.waiting new.waiting
   pub apart : Keeps (remaining old.stream) (remaining new.stream)
-  pub has_taken : Bool
   pub written : State
   pub fails : (written ≡ old.state) ⊎ (written ≡ unwritten old.state)
-  pub stuck : new.stuck ≡ stuck_after (is_empty new.waiting) has_taken now old.stuck
-  pub state : new.state ≡ state_after (is_empty new.waiting) has_taken now old.stuck written
+  pub stuck : new.stuck ≡ stuck_after (is_empty new.waiting) (has_gone old.waiting new.waiting) now old.stuck
+  pub state : new.state ≡ state_after (is_empty new.waiting) (has_gone old.waiting new.waiting) now old.stuck written
   pub others : new
       ≡ record old { stream = new.stream; waiting = new.waiting; stuck = new.stuck; state = new.state }
 

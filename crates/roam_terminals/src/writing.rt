@@ -1,5 +1,5 @@
 //! What waits for an outer terminal is written to it as it takes it, and silences are told.
-ghost use Rattle.std.specs.Prelude.{◌≡◌, ◌≢◌, ◌⊎◌, ◌++◌, [], true, false, None, Some, IfOk, OnErr, min, drop, length};
+ghost use Rattle.std.specs.Prelude.{◌≡◌, ◌≢◌, ◌⊎◌, ◌+◌, ◌≤◌, ◌++◌, [], true, false, None, Some, IfOk, OnErr, min, drop, length};
 ghost use Rattle.std.specs.Io.KnownBytes.{Keeps};
 ghost use Rattle.roam_faults.specs.Streams.{IsStreamEnd};
 ghost use Rattle.roam_frames.specs.Carriers.{Writes};
@@ -7,7 +7,7 @@ ghost use Rattle.roam_terminals.specs.Sharing.{Settles};
 ghost use Rattle.roam_terminals.specs.Silence.{is_over, due_of, notice_of};
 ghost use Rattle.roam_records.specs.Records.{text_of};
 ghost use Rattle.roam_records.specs.declared.records.Record.{Record as RecordOf};
-ghost use Rattle.roam_terminals.specs.Writing.{Flushes, SaysSilence, TellsSilence, is_empty, seen_by, state_after, stuck_after, stuck_since, unwritten};
+ghost use Rattle.roam_terminals.specs.Writing.{Flushes, SaysSilence, TellsSilence, has_gone, is_empty, seen_by, state_after, stuck_after, stuck_since, unwritten};
 
 use crate::duplex::Duplex;
 use crate::silence::{Silence, notice};
@@ -107,6 +107,7 @@ impl<S: Duplex + Drop> Terminal<S> {
         ensures taken { IfOk answer.now (λ n. result ≡ min n (length self.old.waiting)) }
         ensures none { OnErr answer.now (result ≡ 0) }
         ensures left { self.new.waiting ≡ drop result self.old.waiting }
+        ensures within { result ≤ length self.old.waiting }
         // Nothing more can be written where the stream is over, and nowhere else.
         ensures fails { (self.new.state ≡ self.old.state)
             ⊎ ((self.new.state ≡ unwritten self.old.state) × IsStreamEnd answer.now × (result ≡ 0)) }
@@ -134,6 +135,7 @@ impl<S: Duplex + Drop> Terminal<S> {
         // A write that fails ends what is written alone: what it typed before is taken.
         ensures fails { (self.new.state ≡ self.old.state) ⊎ (self.new.state ≡ unwritten self.old.state) }
         ensures on { result ≢ 0 → self.new.state ≡ self.old.state }
+        ensures went { length self.new.waiting + result ≡ length self.old.waiting }
         ensures others { self.new ≡ record self.old { stream = self.new.stream; waiting = self.new.waiting; state = self.new.state } }
     {
         let piece = self.waiting.as_slice();
@@ -166,6 +168,7 @@ impl<S: Duplex + Drop> Terminal<S> {
     fn write_waiting(&mut self) -> bool
         ensures writes { Writes (S.contents self.old.stream) (S.contents self.new.stream) self.old.waiting self.new.waiting }
         ensures apart { Keeps (S.remaining self.old.stream) (S.remaining self.new.stream) }
+        ensures gone { result ≡ has_gone self.old.waiting self.new.waiting }
         ensures fails { (self.new.state ≡ self.old.state) ⊎ (self.new.state ≡ unwritten self.old.state) }
         ensures others { self.new ≡ record self.old { stream = self.new.stream; waiting = self.new.waiting; state = self.new.state } }
     {
