@@ -83,15 +83,17 @@ class GivenAside:
 
     def given(self, title: str, shape: int) -> bytes:
         """What is written where this is the title and the shape from now on: what is new of it. The terminal's own title isn't changed
-        before there is one."""
-        text = b""
-        if self.is_able and title != self.title:
-            text += b"" if self.has_kept else TITLE_KEPT
-            text += titled(title)
-            self.title, self.has_kept = title, True
+        before there is one, and is back where there is none any more."""
+        text = self.retitled(title) if self.is_able and title != self.title else b""
         if self.is_able and shape != self.shape:
             text += shaped(shape)
             self.shape = shape
+        return text
+
+    def retitled(self, title: str) -> bytes:
+        """What is written where this is the title from now on, or none is: what can't have its own back has an empty one then."""
+        text = (b"" if self.has_kept else TITLE_KEPT) + titled(title) + (b"" if title else TITLE_BACK)
+        self.title, self.has_kept = title, bool(title)
         return text
 
     def asked(self, reports: str) -> bytes:
