@@ -25,3 +25,5 @@ mod runs;
 mod silence;
 #[cfg(test)]
 mod terminals;
+#[cfg(test)]
+mod waits;
