@@ -298,6 +298,8 @@ class Commands:
         self.show_known()
         self.show_aside()
         self.synchronizing.settle()
+        if self.windows:
+            self.windows.told_panes()
 
     def show_aside(self) -> None:
         """Gives the terminal the title and the cursor's shape of the pane in focus, and asks it for what its program wants of the mouse."""
@@ -324,6 +326,11 @@ class Commands:
         if places is None or self.moved_to is None:
             return places
         return places._replace(focus=self.moved_to if self.moved_to in places.rects else 0)
+
+    def awaits_focus(self) -> bool:
+        """Whether it isn't told yet which pane is in focus, and may be soon."""
+        places = self.places()
+        return not places.focus if places else self.panes.is_awaited()
 
     def left(self) -> None:
         """Does what is left to do where the person leaves."""

@@ -19,7 +19,7 @@ from roam_live.row_answers import RowAsker
 from roam_live.shells_peers import MOST_WAITING, Giving, ShellsPeer, client_line
 from roam_live.texts import cleaned, random_name
 from roam_live.unmet import Unmet
-from roam_live.zoom_notes import LEFT, NotedZoom
+from roam_live.zoom_notes import OVER, NotedZoom
 
 TYPE_CHECKING = False
 if TYPE_CHECKING:
@@ -440,7 +440,7 @@ class ShellsSocket:
                 self.common.attended.leaves(peer.presence.name, self.loop.clock())
             if self.zoom.leave(peer.number):
                 self.is_new = True
-                self.loop.later(f"zoom left in {self.window}", LEFT, self.end_zoom)
+                self.loop.later(f"zoom left in {self.window}", OVER, self.end_zoom)
             self.is_new = self.is_new or peer.presence is not None
 
     def close(self) -> None:

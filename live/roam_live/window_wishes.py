@@ -62,6 +62,10 @@ MOST_KEYS = 4096
 MOST_TEXT = 1 << 20
 INTERRUPT = "\x03"
 
+# So many seconds a list of windows waits until it is told where the panes are, over one of which it stands.
+LISTS = 1.0
+NO_ROOM = "the list of windows has no room here"
+
 # So many seconds a line stands.
 SAID = 2.0
 ONE = "no other window can be had here"
@@ -97,8 +101,9 @@ class WindowWishes:
         self.visited: list[int] = []
         # The numbers of those whose labels stand in the last row.
         self.shown: list[int] = []
-        # Whether a window is being opened, and that takes so long that a person was told; and what is typed for it.
-        self.is_opening = self.is_late = False
+        # Whether a window is being opened, and that takes so long that a person was told; whether a list of them is about to be; and what
+        # is typed for either.
+        self.is_opening = self.is_late = self.is_listing = False
         self.held: list[Key] = []
         # What opens one, while it isn't answered; and where it wasn't said yet, since the keeper isn't connected: it may be soon, as where
         # it was launched just before.
@@ -217,8 +222,7 @@ class WindowWishes:
         elif word == "go":
             self.go_by(what)
         elif what == "list":
-            if not commands.choosing_window or not commands.choosing_window.begin():
-                commands.display.tell("the list of windows has no room here", SAID)
+            self.list_all()
         elif commands.link.watches:
             return
         elif what == "new":
@@ -227,6 +231,26 @@ class WindowWishes:
             self.ask_name()
         elif what == "shut":
             self.ask_shut()
+
+    def list_all(self) -> None:
+        """Opens a list of the windows over the pane in focus. While it isn't told yet which that is, as where the person has just come
+        there, the list waits, and keys for it, but no longer than a moment."""
+        commands, waited = self.front.commands, self.is_listing
+        self.is_listing = not waited and commands.awaits_focus()
+        if self.is_listing:
+            self.loop.later("list waits", LISTS, self.list_all)
+            return
+        self.loop.drop("list waits")
+        if not commands.choosing_window or not commands.choosing_window.begin():
+            commands.display.tell(NO_ROOM, SAID)
+        if waited:
+            held, self.held = self.held, []
+            commands.typed(held)
+
+    def told_panes(self) -> None:
+        """Opens a list that waits for what is told of the panes."""
+        if self.is_listing and not self.front.commands.awaits_focus():
+            self.list_all()
 
     def go_by(self, what: str) -> None:
         """Goes to the next window, the one before in order, the last one, or that of a number."""
@@ -332,9 +356,9 @@ class WindowWishes:
             self.front.display.end_told()
 
     def takes(self, commands: Commands, keys: list[Key]) -> bool:
-        """Takes keys that aren't for the window whose commands these are: for one that is being opened, or for that where the person went.
-        Tells whether they were taken."""
-        if self.is_opening:
+        """Takes keys that aren't for the window whose commands these are: for one that is being opened, for a list, or for that where the
+        person went. Tells whether they were taken."""
+        if self.is_opening or self.is_listing:
             self.hold(keys)
         elif commands is not self.front.commands:
             self.front.commands.typed(keys)

@@ -19,8 +19,10 @@ NO_ZOOM = f"{ZOOMED} {NONE}"
 # So many sizes are asked for in one zoom at most.
 MOST_ASKED = 8
 
-# So many seconds after a front end left that had made a zoom the session has taken what that typed last.
-LEFT = 0.5
+# So many seconds after a front end left that had made a zoom the session has taken what that typed last, also on a busy machine; and after
+# so many nothing comes of it any more.
+LEFT = 2.0
+OVER = 10.0
 
 
 class ZoomNote(namedtuple("ZoomNote", "size asked")):
@@ -57,9 +59,9 @@ class NotedZoom:
     def __init__(self) -> None:
         self.maker = 0
         self.note: ZoomNote | None = None
-        # The session's size, where it is known; and whether all is taken that one typed who has left.
+        # The session's size, where it is known; and whether nothing comes any more of what one typed who has left.
         self.size: Size | None = None
-        self.is_taken = False
+        self.is_over = False
 
     def take(self, number: int, line: str) -> bool:
         """Takes a line of the terminal of a number, and tells whether it is one of a zoom. Of another's that is there nobody tells that it
@@ -70,7 +72,7 @@ class NotedZoom:
             return False
         if note or self.maker in (0, number):
             self.maker, self.note = number if note else 0, note
-            self.is_taken = False
+            self.is_over = False
         return True
 
     def leave(self, number: int) -> bool:
@@ -82,12 +84,12 @@ class NotedZoom:
     def sized(self, size: Size | None) -> bool:
         """Takes note of the session's size, and tells whether the zoom is noted no more for that."""
         self.size = size
-        return self.is_taken and self.end_left()
+        return self.is_over and self.end_left()
 
     def end_left(self) -> bool:
-        """Has a zoom be noted no more whose maker has left, now that all is taken that he typed, where the session has no size of it; and
-        tells whether that is so."""
-        self.is_taken = not self.maker
+        """Has a zoom be noted no more whose maker has left, now that nothing comes of it, where the session has no size of it; and tells
+        whether that is so."""
+        self.is_over = not self.maker
         if self.maker or not self.note or self.size is None or self.size in self.note.asked:
             return False
         self.note = None

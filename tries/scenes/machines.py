@@ -53,11 +53,11 @@ def relay_ends(front_ends, relay, near, far):
     check("SIGTERM ends relay with status 143", comes(lambda: relay.poll() == 143), relay.returncode)
     check("and leaves no socket", not (near / "clients").exists() and not (near / "session").exists(), list(near.iterdir()))
     # A front end may take seconds for coming up.
-    alone = subprocess.Popen(tool("relay", "--alone", "5", "--dir", str(near), "-", *far), stdout=subprocess.PIPE)
+    alone = subprocess.Popen(tool("relay", "--alone", "8", "--dir", str(near), "-", *far), stdout=subprocess.PIPE)
     alone.stdout.readline()
     front_end = Outer(tool("attach", str(near)))
     front_end.shows("silent")
-    time.sleep(11)
+    time.sleep(14)
     check("a relay that is to end alone stays while a front end is there", alone.poll() is None, alone.returncode)
     front_end.type(b"\x02d")
     check("and ends with status 0 after the last has left", front_end.ends() and comes(lambda: alone.poll() == 0), alone.returncode)

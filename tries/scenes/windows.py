@@ -157,7 +157,9 @@ def window_kills(folder):
     outer, paths = two_windows(folder)
     os.kill(window_process(2, "server"), signal.SIGKILL)
     outer.type(b"")
-    check("the one before is shown", outer.status("window 2 is gone") and outer.status("[1] 1:"), outer.rows)
+    # The keeper tells of that end too, which may come before the line of the front end is written.
+    is_told = outer.was_told("window 2 is gone", "window 2: its server was killed, or has failed")
+    check("the one before is shown", is_told and outer.status("[1] 1:"), lambda: (outer.rows(), bytes(outer.written[-3000:])))
     outer.type(b"here")
     check("and typed in", comes(lambda: typed_in(paths[0]) == "here"), typed_in(paths[0]))
     keeper = noted(SESSION)["shells"][0]
@@ -165,8 +167,9 @@ def window_kills(folder):
     check("another keeper comes", comes(lambda: noted(SESSION)["shells"][0] != keeper), lambda: noted(SESSION))
     check("a window has a new shell", outer.shows("a new shell"), outer.rows)
     check("one more is opened", comes(lambda: outer.type(b"\x02c") or outer.status("[1] 1:sh- 2:sh*", 3)), outer.rows)
+    begin = len(outer.written)
     outer.type(b"exit\r")
-    check("a shell's end is its window's", outer.status("window 2 is gone") and outer.status("[1] 1:sh*"), outer.rows)
+    check("a shell's end is its window's", outer.was_told("window 2 is gone", begin=begin) and outer.status("[1] 1:sh*"), outer.rows)
     outer.type(b"exit\r")
     check("that of the last is the session's", outer.ends() and outer.process.returncode == 0, outer.rows)
     check("which is told", b"[the session has ended]" in outer.written, bytes(outer.written[-80:]))

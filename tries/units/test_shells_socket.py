@@ -13,7 +13,7 @@ from roam_live.program import begun
 from roam_live.shells import LONGEST_LINE, MEETS_AGAIN, MOST_PEERS, MOST_WAITING, ShellsSocket
 from roam_live.shells_link import KNOWS, ShellsLink
 from roam_live.unmet import MEETS, TICKS, ticks
-from roam_live.zoom_notes import LEFT, ZoomNote
+from roam_live.zoom_notes import OVER, ZoomNote
 
 A, B = "here:/dev/pts/1 24 80 edits", "there:/dev/pts/2 12 40 watches"
 
@@ -412,8 +412,8 @@ class Links(Sockets):
         self.assertEqual(read_now(late).splitlines(), [b"zoomed none", b"others 1"])
 
     def test_zoom_left(self):
-        """Who is killed before all of his zoom was taken, or before he told that it is over, leaves none behind: half a second later it is
-        noted no more where the window has another size."""
+        """Who is killed before all of his zoom was taken, or before he told that it is over, leaves none behind: some seconds later it is
+        noted no more where the window has another size; but not sooner, since what he typed may come late."""
         for size, told in (((24, 80), b"zoomed none\nothers 0\n"), ((48, 160), b""), (None, b"")):
             one, other = self.connect(f"here {A}\n".encode()), self.connect(f"here {B}\nwho\n".encode())
             self.say(one, b"zoom 24 80 48 160\n")
@@ -421,7 +421,11 @@ class Links(Sockets):
             one.close()
             self.loop.turns(3)
             self.assertIn(b"zoomed 0 24 80 48 160\nothers 0\n", read_now(other))
-            self.now += LEFT
+            self.socket.sized((24, 90))
+            self.socket.sized(size)
+            self.loop.turns(3)
+            self.assertEqual(read_now(other), b"")
+            self.now += OVER
             self.loop.turns(3)
             self.assertEqual(read_now(other), told, size)
             self.socket.sized((48, 160))

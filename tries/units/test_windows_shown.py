@@ -10,7 +10,7 @@ from roam_live.front_end import FrontEnd
 from roam_live.keys import acts_of_bytes
 from roam_live.program import Fault
 from roam_live.choosing import WINDOWS_LINE
-from roam_live.window_wishes import DROPPED, EARLIER, FAR, LATE, NOT_AWAITED, OPENING, OPENS, SMALL, TAKES_LONG
+from roam_live.window_wishes import DROPPED, EARLIER, FAR, LATE, LISTS, NO_ROOM, NOT_AWAITED, OPENING, OPENS, SMALL, TAKES_LONG
 from test_display import PlayedPanes, painting, places
 from test_front_end import AnySession
 
@@ -607,6 +607,25 @@ class Named(Windows):
         self.assertEqual([line.rstrip() for line in self.emulated.lines()][:2], ["1:sh*", ""])
         self.type(b"qz")
         self.assertEqual(self.typed[1], "yz")
+
+
+    def test_list_awaited(self):
+        """Just behind a switch the list waits until it is told where the panes are, and keys for it do; no longer than a moment, and then they
+        are typed."""
+        self.tell_list()
+        told = self.windows[2].told
+        for is_told in (True, False):
+            self.windows[2].told = None
+            with mock.patch.object(PlayedPanes, "awaited", True):
+                self.type(b"\x022\x02wk\r")
+                self.type(b"x")
+                self.assertEqual((self.front.number, self.typed[2], self.front.display.told), (2, "", ""))
+                self.windows[2].told = told if is_told else None
+                self.now += 0 if is_told else LISTS
+                self.front.commands.told()
+                self.turn()
+            self.assertEqual((self.front.number, self.typed), (1, {1: "x", 2: ""}) if is_told else (2, {1: "x", 2: "kx"}))
+            self.assertEqual((self.front.display.told, self.front.windows.held), ("" if is_told else NO_ROOM, []))
 
 
 class Pointed(Windows):
