@@ -471,7 +471,7 @@ second waits
 first writes \u{1b}c
 pane 1 gives \u{1b}c
 beside 1060
-second reads modes 1 1/shape 1 1 0/
+second reads modes 1 1/shape 1 1 0/title 1 1 /
 pane 1 lives 2
 beside 1080
 second waits
