@@ -13,7 +13,8 @@ from scenes.machines import ssh_words
 ON = {"ROAM_CLIPBOARD": "on"}
 CLIP = b"\x1b]52;c;%s\x07"
 
-# A program that writes a file's bytes to its pane, cut anywhere, and notes all that it is sent until nothing came for a second.
+# A program that writes a file's bytes to its pane, cut anywhere, and notes all that it is sent until nothing came for a second. What they
+# left is reset then, and a title said, which RIS among them may have taken back.
 WRITES = """\
 import os, random, select, sys, termios, tty
 text, noted = open(sys.argv[1], "rb").read(), b""
@@ -27,7 +28,7 @@ while text:
     while select.select([0], [], [], 0 if text else 1)[0]:
         noted += os.read(0, 4096)
 open(sys.argv[2], "wb").write(noted)
-os.write(1, b"\\030\\033\\\\\\033c")
+os.write(1, b"\\030\\033\\\\\\033c\\033]2;left\\007")
 termios.tcsetattr(0, termios.TCSAFLUSH, before)
 """
 
