@@ -141,8 +141,10 @@ def far_windows(folder):
     check("a window that is shut gives way to the one before", outer.shows("again"), outer.rows)
     for number in (1, 2):
         subprocess.run(tool("mux", "kill", "-f", f"other:{number}"), env=there, check=True)
+    # What is typed before that is told here was typed in the window that is gone.
+    check("also where it was the relay's own", outer.status("[1] 3:"), outer.rows)
     outer.type(b"echo la''st\r")
-    check("also where it was the relay's own", outer.shows("last") and outer.status("[1] 3:"), outer.rows)
+    check("and the one before takes what is typed", outer.shows("last"), outer.rows)
     subprocess.run(tool("mux", "kill", "-f", "other"), env=there, check=True)
     is_told = outer.ends() and outer.process.returncode == 0 and outer.shows("[the session has ended]")
     check("the session's end is told here", is_told, outer.rows)
