@@ -125,7 +125,15 @@ class Copying:
         if self.is_connecting():
             self.loop.later("copy connects", CONNECTS, lambda: self.ask_connected(opening, kept))
         else:
-            kept.snapshot(self.pane, self.life, lambda snapshot: self.lent(opening, snapshot))
+            kept.snapshot(self.pane, self.life, lambda snapshot: self.answered(opening, kept, snapshot))
+
+    def answered(self, opening: int, kept: RowsLink, snapshot: Snapshot | None) -> None:
+        """Takes what the keeper answers. Where the connection was lost instead, as by a relay that goes another way, it is asked again once
+        there is another."""
+        if snapshot is None and self.is_connecting():
+            self.ask_connected(opening, kept)
+        else:
+            self.lent(opening, snapshot)
 
     def lent(self, opening: int, snapshot: Snapshot | None) -> None:
         """Takes a snapshot; None where none is lent."""

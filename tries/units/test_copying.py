@@ -249,6 +249,25 @@ class Opened(Copied):
         self.passes(person, 1)
         self.assertEqual(self.kept.asked, [])
 
+    def test_connection_cut(self):
+        """Where the connection is lost before a snapshot is lent it is asked for again once there is another; not longer than for one."""
+        for is_late in (False, True):
+            person = self.person(opens=False)
+            self.kept.is_quick = self.kept.lends = False
+            person.types(b"\x02[gj")
+            before = len(person.link.acts)
+            self.shells.connects = True
+            self.kept.answers()
+            self.passes(person, LENDS if is_late else 0.3)
+            self.assertEqual(person.commands.copying.is_on(), not is_late)
+            self.kept.is_quick = self.kept.lends = True
+            self.shells.connects = False
+            self.passes(person, 0.3)
+            if is_late:
+                self.assertEqual((person.link.acts[before:], person.commands.copying.is_on()), (["view 500", "view -1"], False))
+            else:
+                self.assertEqual(self.spot(person), (1001, 0))
+
     def test_odd_snapshot(self):
         """A snapshot without a screen, or with one that no pane can have, is none."""
         for screen in ([], [b" x"] * 201):
