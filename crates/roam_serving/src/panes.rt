@@ -240,8 +240,8 @@ impl Panes {
     }
 
     /// What goes on to a pane's terminal of what its program wrote: how many bytes of `buf` it fills from the front, none where all that
-    /// came waits, as while a frame is open. A peer is taken where there is none, and let go where it is gone; one that comes to a pane that
-    /// isn't there waits.
+    /// came waits, as while a frame is open. A peer is taken where there is none, and let go where it is gone; one that comes to a pane
+    /// that isn't there waits.
     pub(crate) fn read(
         &mut self,
         registry: &Registry,
