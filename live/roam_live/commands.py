@@ -504,6 +504,8 @@ class Commands:
             self.copying.add(*begins)
         elif places and places.focus:
             self.copying.open(places.focus, lambda: self.scroll_back(wish), *begins)
+        elif self.awaits_focus():
+            self.copying.await_focus(lambda: self.scroll_back(wish), *begins)
         else:
             self.scroll_back(wish)
 

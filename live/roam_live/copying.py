@@ -110,13 +110,33 @@ class Copying:
         self.events.extend(begins)
         self.ask_snapshot(kept)
 
-    def ask_snapshot(self, kept: RowsLink) -> None:
-        """Asks for a snapshot."""
+    def await_focus(self, instead: Callable[[], object], *begins: CopyEvent) -> None:
+        """Opens it in the pane in focus once that is told, as where a relay goes another way; where it isn't in time something else is done
+        instead."""
+        self.close()
+        from roam_live.copy_keys import KeyPairs
+
+        self.pane, self.instead, self.pairs = 0, instead, KeyPairs()
+        self.events.extend(begins)
+        self.begin_opening()
+
+    def find_focus(self) -> None:
+        """Opens it in the pane in focus, where that is told by now."""
+        places = self.commands.places()
+        if places and places.focus:
+            self.open(places.focus, self.instead, *self.events)
+
+    def begin_opening(self) -> int:
+        """Waits for what opens it, no longer than for a snapshot; tells its number."""
         self.opening += 1
         opening, self.is_opening = self.opening, True
         self.loop.later("copy opens", LENDS, lambda: self.lent(opening, None))
         self.asking.tell_later()
-        self.ask_connected(opening, kept)
+        return opening
+
+    def ask_snapshot(self, kept: RowsLink) -> None:
+        """Asks for a snapshot."""
+        self.ask_connected(self.begin_opening(), kept)
 
     def ask_connected(self, opening: int, kept: RowsLink) -> None:
         """Asks for it once the keeper is connected, where that may be soon."""
@@ -181,7 +201,7 @@ class Copying:
         if not self.is_on():
             return
         kept, display = self.kept(), self.commands.display
-        if kept:
+        if kept and self.pane:
             kept.release(self.pane, self.life)
         was_shown, self.mode = self.mode is not None, None
         self.is_opening = False
@@ -201,6 +221,9 @@ class Copying:
         """Goes by where the panes are now: the end of its pane ends it, and another size has its rows laid out anew."""
         panes = self.commands.panes
         if not self.is_on() or not panes.places:
+            return
+        if not self.pane:
+            self.find_focus()
             return
         if panes.making(self.pane) != f"{self.pane} {self.life}":
             self.close()

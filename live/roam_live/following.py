@@ -303,6 +303,8 @@ class PanesFollower:
         self.told, self.places, self.aside, self.focus_modes = ToldPanes(), None, ("", 0), []
         self.loop.drop("panes stand")
         if was_told:
+            # A relay that goes another way cuts what it carries, which is there again in a moment.
+            self.awaited_until = self.loop.clock() + AWAITED
             self.changed()
         if following.faults >= TRIES and following.is_gone and self.folder:
             self.say(UNTOLD if os.path.exists(os.path.join(self.folder, "bells")) else NOR_BELLS)

@@ -249,6 +249,23 @@ class Opened(Copied):
         self.passes(person, 1)
         self.assertEqual(self.kept.asked, [])
 
+    def test_focus_awaited(self):
+        """Where it isn't told yet where the panes are that is waited for; not longer than for a snapshot."""
+        for is_late in (False, True):
+            person = self.person(opens=False)
+            told, person.panes.place.told, person.panes.awaited = person.panes.place.told, None, True
+            self.assertEqual(person.types(b"\x02[gj"), [])
+            before = len(person.link.acts)
+            self.passes(person, LENDS if is_late else 0.3)
+            self.assertEqual(person.commands.copying.is_on(), not is_late)
+            person.panes.place.told = told
+            person.commands.told()
+            self.passes(person, 0.3)
+            if is_late:
+                self.assertEqual((person.link.acts[before:], person.commands.copying.is_on()), (["view 500", "view -1"], False))
+            else:
+                self.assertEqual((self.spot(person), person.link.acts[before:]), ((1001, 0), []))
+
     def test_connection_cut(self):
         """Where the connection is lost before a snapshot is lent it is asked for again once there is another; not longer than for one."""
         for is_late in (False, True):
