@@ -193,7 +193,8 @@ def copy_as_tmux(folder):
             outer.status("[0/", 3)
             for group in keys:
                 outer.type(group)
-                time.sleep(0.04)
+                # An escape that is read with what stands behind it is another key.
+                time.sleep(0.3 if group == b"\x1b" else 0.04)
             comes(lambda begin=begin: clip(outer, begin) is not None, 1 if wanted else 0.2)
             found = clip(outer, begin)
             kind = "as it differs from tmux" if (table, name) in KNOWN else "as tmux"
