@@ -279,10 +279,17 @@ class Commands:
         if self.moved_to is not None or word in ("split", "close") or (pane in others if word == "focus" else others):
             self.moved_to, self.moved_from = pane, places
 
+    def is_moved(self, now: Places, before: Places) -> bool:
+        """Whether it is told where the focus is that this person moved. Where it goes to a pane that is known the size of one doesn't tell
+        that: it may come of what was typed before."""
+        if now.focus == self.moved_to or now.focus != before.focus:
+            return True
+        return set(now.rects) != set(before.rects) if self.moved_to else now.rects != before.rects
+
     def told(self) -> None:
         """Takes note that something is told of the panes: where the focus is now, if that or a pane is new."""
         now, before = self.panes.places, self.moved_from
-        if now is None or before is None or now.focus == self.moved_to or (now.focus, now.rects) != (before.focus, before.rects):
+        if now is None or before is None or self.is_moved(now, before):
             self.moved_to = None
         if self.given == self.session_size():
             self.forget_given()

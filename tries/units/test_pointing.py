@@ -216,6 +216,15 @@ class Programs(Pointed):
         self.assertEqual(self.points(person, (0, 1, 41)), [("focus 2", "\x1b[<0;1;1M")])
         self.assertEqual(report_of(report(0, 1, 41).decode()).col, 41)
 
+    def test_own_focus_kept(self):
+        """The size of a pane, which may come of what was typed before, doesn't tell where the focus is that this person put elsewhere."""
+        person = self.person({})
+        person.types(b"\x02q2")
+        person.tell(PANES._replace(rects={**PANES.rects, 1: PANES.rects[1]._replace(rows=5)}))
+        self.assertEqual(person.commands.places().focus, 2)
+        person.tell(PANES._replace(focus=2))
+        self.assertIsNone(person.commands.moved_to)
+
 
 class Own(Pointed):
     """What is pointed at where roam has the mouse itself."""
