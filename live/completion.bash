@@ -129,13 +129,14 @@ _roam() {
         return
     fi
     case ${COMP_WORDS[1]} in
-    serve) words="--dir --port --session --turns --help" ;;
+    serve) words="--dir --port --session --turns --as-meant --help" ;;
     attach) words="--dir --port --session --client --keys --acts --terminals --wire --watch --turns --help" ;;
     show) words="--rows --cols --help" ;;
+    rows) words="--as-meant --help" ;;
     world) words="--help" ;;
-    *) words="mux serve attach show world --help --version" ;;
+    *) words="mux serve attach show rows world --help --version" ;;
     esac
-    [ "$COMP_CWORD" -gt 1 ] || words="mux serve attach show world --help --version"
+    [ "$COMP_CWORD" -gt 1 ] || words="mux serve attach show rows world --help --version"
     case ${COMP_WORDS[COMP_CWORD - 1]} in
     --dir) _roam_folder "$word" "" ;;
     --keys | --acts | --terminals) mapfile -t COMPREPLY < <(compgen -f -- "$word") ;;

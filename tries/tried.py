@@ -237,12 +237,13 @@ class Outer:
         return comes(lambda: self.rows()[row][col:].startswith(text), seconds)
 
     def status(self, text, seconds=WAIT, end=""):
-        """Whether the last row comes to begin with a text, and to end in another. What is painted above it may come before or after that."""
+        """Whether the last row comes to begin with a text, and to end in another. What is painted above it may come before or after
+        that."""
         return comes(lambda: self.rows()[-1].startswith(text) and self.rows()[-1].endswith(end), seconds)
 
     def was_told(self, *texts, begin=0):
-        """Whether one of these lines comes to be written behind so many bytes: it stands for a moment, and may be gone before it is looked at
-        again."""
+        """Whether one of these lines comes to be written behind so many bytes: it stands for a moment, and may be gone before it is looked
+        at again."""
         return comes(lambda: any(self.written.find(text.encode(), begin) >= 0 for text in texts))
 
     def settled(self, row):

@@ -5,9 +5,9 @@ import os
 import time
 
 from roam_live.loops import comes
-from roam_live.presence import CLIENT, CLIENTS, presence_in
+from roam_live.presence import CLIENT, CLIENTS, MOST_ATTENDED, number_in, presence_in
 from roam_live.program import Fault, Lines, connected_in, read, reason
-from roam_live.window_lines import (GONE, LONGEST_BYTES, LONGEST_NAME, OPENED, WINDOW, WINDOWS, name_in, name_word)
+from roam_live.window_lines import GONE, LONGEST_BYTES, LONGEST_NAME, MOST_WINDOWS, OPENED, WINDOW, WINDOWS, name_in, name_word
 from roam_live.words import printable
 
 TYPE_CHECKING = False
@@ -22,6 +22,9 @@ ANSWERS = 12.0
 
 # So many seconds terminals that are told to leave have for that.
 LEAVES = 5.0
+
+# A number of what is told has so many digits at most: it may come from another machine.
+MOST_DIGITS = 20
 
 BAD_LINE = "bad line"
 EARLIER = "session {}: what keeps its shells is an earlier roam's, and has one window"
@@ -74,30 +77,37 @@ class WindowsAsked:
                 return
 
     def clients(self) -> list[list[str]]:
-        """The words of the lines that tell which terminals are there, as far as they can be such."""
+        """The words of the lines that tell which terminals are there, as far as they can be such, and of no more than can be there."""
         self.say(CLIENTS)
         found: list[list[str]] = []
         while True:
             words = self.until(CLIENT, CLIENTS)
             if words[0] == CLIENTS:
                 return found
-            if len(words) == 8 and all(word.isascii() and word.isdigit() for word in (words[1], *words[5:7])):
-                if presence_in([*words[2:5], words[7]]):
-                    found.append(words)
+            if tells_terminal(words) and len(found) < MOST_ATTENDED:
+                found.append(words)
+
+
+def tells_terminal(words: list[str]) -> bool:
+    """Whether a line has the words of a terminal: its number, the terminal itself, its window and since when it is there."""
+    numbers = [words[1], *words[5:7]] if len(words) == 8 else [""]
+    is_numbered = all(word.isascii() and word.isdigit() and len(word) <= MOST_DIGITS for word in numbers)
+    return is_numbered and presence_in([*words[2:5], words[7]]) is not None
 
 
 def windows_of(session: FolderSession) -> list[tuple[int, str]]:
     """The windows of a session by their numbers, with the names that they have; an earlier roam's has one."""
     asked = WindowsAsked(session)
-    found: list[tuple[int, str]] = []
+    found: dict[int, str] = {}
     asked.say(WINDOWS)
     try:
         while True:
             words = asked.until(WINDOW, WINDOWS)
             if words[0] == WINDOWS:
-                return found
-            if len(words) == 3 and words[1].isascii() and words[1].isdigit():
-                found.append((int(words[1]), name_in(words[2]) or ""))
+                return list(found.items())
+            number = number_in(words[1], MOST_WINDOWS) if len(words) == 3 else 0
+            if number:
+                found[number] = name_in(words[2]) or ""
     except Fault:
         if session.number:
             raise
@@ -125,13 +135,14 @@ def new_window(session: FolderSession, name: str) -> int:
     asked = WindowsAsked(session)
     asked.say("open {} {}".format(*(places.size() if places else (24, 80))))
     words = asked.until(OPENED)
-    if len(words) != 2 or not words[1].isascii() or not words[1].isdigit():
+    number = number_in(words[1], MOST_WINDOWS) if len(words) == 2 else 0
+    if not number:
         raise Fault(f"session {session.whole_session().name}: no window is opened: {printable(' '.join(words[2:]))}")
     if name:
         asked.say(WINDOWS)
         asked.until(WINDOWS)
-        asked.rename(int(words[1]), name)
-    print(f"{session.whole_session().name}:{int(words[1])}")
+        asked.rename(number, name)
+    print(f"{session.whole_session().name}:{number}")
     return 0
 
 

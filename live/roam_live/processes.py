@@ -21,9 +21,10 @@ if TYPE_CHECKING:
     # What JSON has of a note, of which `is_note` says what may be one.
     State = dict[str, Any]
 
-# How long a process has for what it brings, and how long for its end.
+# How long a process has for what it brings, and how long for its end: longer than a keeper takes, which waits a second and a half for the
+# ends of windows, and then a second for those who write rows down.
 START_WAIT = 10.0
-END_WAIT = 2.0
+END_WAIT = 3.0
 
 # So many seconds who listens at a socket of the folder has for taking a connection, by which it is known.
 ASK_WAIT = 0.5

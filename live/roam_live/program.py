@@ -137,6 +137,11 @@ def is_id(word: str) -> bool:
     return 1 <= len(word) <= 16 and all(letter in "0123456789abcdefABCDEF" for letter in word)
 
 
+def is_port(word: str) -> bool:
+    """Whether a word is the number of a port: 1 to 65535."""
+    return word.isascii() and word.isdigit() and len(word) <= 5 and 1 <= int(word) <= 65535
+
+
 # What the system tells of who is at the other end of a Unix socket: the process, its user and its group.
 CREDENTIALS = struct.Struct("3i")
 
@@ -412,7 +417,7 @@ class Home:
         """That of the words of a command line: DIR, or PORT SESSION; None where they are neither."""
         if len(words) == 1:
             return cls(folder=os.path.abspath(words[0]))
-        if len(words) == 2 and words[0].isdigit() and 1 <= int(words[0]) <= 65535 and is_id(words[1]):
+        if len(words) == 2 and is_port(words[0]) and is_id(words[1]):
             return cls(port=int(words[0]), session=words[1])
         return None
 

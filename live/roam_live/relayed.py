@@ -24,7 +24,7 @@ from roam_live.streams import BYTES, CARRIES, PipeStreams
 
 # Version 1 didn't compress.
 VERSION = 2
-GREETING = re.compile(rb"(?:^|\n)roam-relay (\d+) ([0-9a-f]{1,16}|-)\r?\n")
+GREETING = re.compile(rb"(?:^|\n)roam-relay (\d{1,9}) ([0-9a-f]{1,16}|-)\r?\n")
 HEADER = struct.Struct(">HH")
 COUNT = struct.Struct(">cQ")
 

@@ -33,8 +33,10 @@ MOST_SAID = 200
 BATCH = 1 << 14
 GATHERS = 0.01
 
-# A pipe to it and from it holds so many bytes, where the system allows that.
-PIPE_SIZE = 1 << 20
+# A pipe to it and from it holds so many bytes, and one for its words so many, where the system allows that; and the call of Linux that
+# says so, F_SETPIPE_SZ, which Python names from 3.10 on.
+PIPE_SIZE, SAID_SIZE = 1 << 20, 1 << 12
+SETS_SIZE = 1031
 
 # It prints no more: so many seconds it has for ending then, and so often it is looked whether it did.
 ENDS = 1.0
@@ -133,7 +135,7 @@ def spawned(words: list[str]) -> tuple[int, list[int]]:
     for end in (to_it, from_it, said):
         os.set_blocking(end, False)
         with contextlib.suppress(OSError):
-            fcntl.fcntl(end, fcntl.F_SETPIPE_SZ, PIPE_SIZE if end != said else 1 << 12)
+            fcntl.fcntl(end, SETS_SIZE, PIPE_SIZE if end != said else SAID_SIZE)
     return process, [to_it, from_it, said]
 
 

@@ -16,7 +16,7 @@ if TYPE_CHECKING:
     from roam_live.terminal import Size
 
     # What is called with a snapshot; None where none can be had.
-    Told = Callable[[Snapshot | None], object]
+    Told = Callable[["Snapshot | None"], object]
 
 # So many bytes wait for the filter before no pane is read, until half of them do; and so many seconds a pane isn't read for that.
 QUEUE = 1 << 18

@@ -444,8 +444,9 @@ class ShellsSocket:
             self.is_new = self.is_new or peer.presence is not None
 
     def close(self) -> None:
-        """Closes the socket, and removes it."""
+        """Closes the socket, and removes it: what is told last, as that a pane is gone, goes as far as it is taken."""
         for peer in list(self.peers):
+            write(peer.end.fileno(), peer.waiting)
             self.drop(peer)
         if self.listener:
             self.listener.close()

@@ -26,10 +26,12 @@ if TYPE_CHECKING:
 # What a window is: about to be there, there, or about to be gone.
 OPENING, THERE, ENDING = "opening", "there", "ending"
 
-# So often it is looked whether what was begun is there, or has ended, and so many seconds it has for that.
+# So often it is looked whether what was begun is there, or has ended, and so many seconds it has for that; and all windows of a session
+# together have so many for their ends.
 STEP = 0.004
 OPENS = 10.0
 ENDS = 1.0
+ALL_END = 1.5 * ENDS
 
 # So many seconds after somebody asked for windows, or one was opened, a server is spawned that stands ready for the next.
 READY = 1.0
@@ -382,7 +384,7 @@ class Windows:
         self.end_spare()
         for window in [one for one in self.windows.values() if one.state != ENDING]:
             self.end(window, is_meant=True)
-        end = self.loop.clock() + 1.5 * ENDS
+        end = self.loop.clock() + ALL_END
         while self.windows and self.loop.clock() < end:
             self.loop.turn()
         with contextlib.suppress(OSError):

@@ -36,7 +36,8 @@ termios.tcsetattr(0, termios.TCSAFLUSH, before)
 # what asks it for its colours.
 WRITTEN = re.compile(
     r"[^\x00-\x1f\x7f-\x9f]|[\r\n\x07\x08\x0f]|\x1b(?:[78=>M]|\(B|\[(?:[0-9;]*[HmKJrABCDLMPXSTGd@b]|\??(?:25|7|1049|2004|1|5|6|4|20)[hl]"
-    r"|\?100[0236][hl]|[0-6] q|2[23];2t|\?4m|>4;2m|>4m)|\]2;[^\x00-\x1f\x7f-\x9f]{0,200}\x07|\]52;c;[A-Za-z0-9+/]*=?=?\x07|\]1[01];\?\x1b\\)")
+    r"|\?100[0236][hl]|[0-6] q|2[23];2t|\?4m|>4;2m|>4m)|\]2;[^\x00-\x1f\x7f-\x9f]{0,200}\x07|\]52;c;[A-Za-z0-9+/]*=?=?\x07"
+    r"|\]1[01];\?\x1b\\)")
 
 
 def writes(folder, outer, text):

@@ -5,7 +5,7 @@ import subprocess
 import time
 
 from copied import CASES, KNOWN, TEXT, copied_by_roam
-from tried import SESSION, Outer, check, comes, is_part_of, noted, said, scene, told_cells, tool
+from tried import SESSION, WAIT, Outer, check, comes, is_part_of, noted, said, scene, told_cells, tool
 from roam_live.asides import CLIP_BEGIN, CLIP_END
 from scenes.machines import ssh_words
 from scenes.mouse import points
@@ -26,6 +26,12 @@ def begins(environment=None, text="seq 3000"):
 def stays(outer, rows, seconds=0.5):
     """Whether a terminal shows the same rows for a while, but for its last."""
     return not comes(lambda: outer.rows()[:-1] != rows[:-1], seconds)
+
+
+def counts(rows):
+    """Whether rows are numbers, each one more than the one before."""
+    numbers = [row.strip() for row in rows]
+    return all(number.isdigit() for number in numbers) and all(int(one) + 1 == int(other) for one, other in zip(numbers, numbers[1:]))
 
 
 def buffers():
@@ -107,7 +113,8 @@ def copy_meanwhile(folder):
     outer.type(b"\x02[")
     outer.status("[0/")
     outer.type(b"500k")
-    check("rows of before are shown", outer.shows("2501"), outer.rows)
+    # Of what is painted the first row may come before the others.
+    check("rows of before are shown", outer.shows("2501") and comes(lambda: counts(outer.rows()[:-1])), outer.rows)
     shown = outer.rows()
     for name, command, text in (("the other screen", "printf '\\033[?1049hoth''er'; sleep 2; printf '\\033[?1049l'", "other"),
                                 ("a clear", "printf '\\033[2J\\033[3J\\033[Hcle''ar\\n'", "clear"),
@@ -190,18 +197,18 @@ def copy_as_tmux(folder):
             # What is copied behind another text is known by that.
             wanted = last + wanted if wanted and name == "A" else wanted
             outer.type(b"\x1d[")
-            outer.status("[0/", 3)
+            outer.status("[0/")
             for group in keys:
                 outer.type(group)
                 # An escape that is read with what stands behind it is another key.
                 time.sleep(0.3 if group == b"\x1b" else 0.04)
-            comes(lambda begin=begin: clip(outer, begin) is not None, 1 if wanted else 0.2)
+            comes(lambda begin=begin: clip(outer, begin) is not None, WAIT if wanted else 0.2)
             found = clip(outer, begin)
             kind = "as it differs from tmux" if (table, name) in KNOWN else "as tmux"
             check(f"{table}: {name} copies {kind}", found == wanted, (found, wanted))
             last = found or last
             outer.type(b"\x03")
-            comes(lambda: "copy mode" not in outer.rows()[-1], 3)
+            comes(lambda: "copy mode" not in outer.rows()[-1])
         subprocess.run(tool("mux", "kill", "-f", SESSION), check=True)
 
 

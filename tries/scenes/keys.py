@@ -65,7 +65,8 @@ def all_panes(folder):
 
 @scene
 def extended(folder):
-    """A terminal is asked to tell keys with all that is held, programs that asked for that have them so, and it tells keys as before then."""
+    """A terminal is asked to tell keys with all that is held, programs that asked for that have them so, and it tells keys as before
+    then."""
     outer = Outer(tool("mux", SESSION))
     check("a session has a pane", outer.status("[1]"), outer.rows)
     check("the terminal is asked", outer.written.find(b"\x1b[?4m\x1b[>4;2m\x1b[?1049h") >= 0, bytes(outer.written[:200]))

@@ -27,10 +27,11 @@ def relay(folder):
     front_ends = [Outer(tool("attach", *more, str(near))) for more in ([], ["--watch"])]
     outer.type(b"clear; echo thr''ough\r")
     check("two front ends are shown the session through it", all(one.shows("through") for one in front_ends), front_ends[1].rows)
+    # How the keypad is each who comes is told: by it they are known to follow the bells, of which one that has rung isn't told.
+    outer.type(b"printf '\\033='\r")
+    check("and told how its keypad is", all(comes(lambda one=one: b"\x1b=" in one.written) for one in front_ends), front_ends[1].rows)
     outer.type(b"printf '\\a'\r")
     check("and hear its bells", all(comes(lambda one=one: b"\x07" in one.written) for one in front_ends), front_ends[1].rows)
-    outer.type(b"printf '\\033='\r")
-    check("and how its keypad is", all(comes(lambda one=one: b"\x1b=" in one.written) for one in front_ends), front_ends[1].rows)
     outer.type(b"printf '\\033>'\r")
     os.kill(children(process.pid)[0], signal.SIGKILL)
     front_ends[0].type(b"echo kil''led\r")
@@ -131,8 +132,8 @@ def far_windows(folder):
     outer.type(b"\x02cecho fo''urth\r")
     check("one is opened there, and takes what is typed behind", outer.shows("fourth"), outer.rows)
     outer.type(b"\x022echo ag''ain\r\x024echo ther''e\r")
-    check("keys behind a switch in one piece go to the new window", outer.shows("there") and not any("again" in row for row in outer.rows()),
-          outer.rows)
+    is_there = outer.shows("there") and not any("again" in row for row in outer.rows())
+    check("keys behind a switch in one piece go to the new window", is_there, outer.rows)
     name = next(path.name for path in pathlib.Path(os.environ["XDG_RUNTIME_DIR"], "roam").glob("ssh:*"))
     told = said("capture", f"{name}:2")
     check("and those before to the other", told[0] == 0 and "again" in told[1], told)
@@ -259,7 +260,8 @@ def far_sizes(folder):
     first.type(b"\x02d")
     first.ends()
     alone = Outer(words)
-    check("it grows for a larger terminal alone", alone.shows("11 40") and alone.status("[1] 1:") and "fits" not in alone.rows()[-1], alone.rows)
+    is_grown = alone.shows("11 40") and alone.status("[1] 1:") and "fits" not in alone.rows()[-1]
+    check("it grows for a larger terminal alone", is_grown, alone.rows)
     small = Outer(words, size=(12, 40))
     is_part = fits(small) and small.shows("$ ")
     check("and isn't made smaller again", is_part and listed()[1:4] == ["24", "by", "80"], (small.rows(), listed()))
@@ -270,7 +272,8 @@ def far_sizes(folder):
 
 @scene
 def far_alone(folder):
-    """A lone terminal of another machine's session that is drawn smaller has that follow; beside a second one, here or there, it doesn't."""
+    """A lone terminal of another machine's session that is drawn smaller has that follow; beside a second one, here or there, it
+    doesn't."""
     folder = folder / "alone"
     folder.mkdir()
     far = folder / "far"

@@ -293,8 +293,8 @@ def told(folder):
     outer.shows("$ ")
     means = "means nothing; C-b ? shows the keys"
     outer.type(b"\x02x")
-    check("the last pane's close is the session's end, and asked for", outer.status("shut window 1 and end the session, whose last it is? y"),
-          outer.rows)
+    asked = "shut window 1 and end the session, whose last it is? y"
+    check("the last pane's close is the session's end, and asked for", outer.status(asked), outer.rows)
     outer.type(b"n")
     for keys, text in ((b"\x02Z", f"C-b Z {means}"), (b"\x02\x01", f"C-b C-a {means}")):
         outer.type(keys)

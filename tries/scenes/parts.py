@@ -6,7 +6,8 @@ import subprocess
 import time
 
 from tried import (
-    KEEPS_NONE, Outer, check, comes, connected, is_part_of, listed, noted, part_at, said, scene, shown_above, terminals_of, told_cells, tool)
+    KEEPS_NONE, Outer, check, comes, connected, is_part_of, listed, noted, part_at, said, scene, shown_above, terminals_of, told_cells,
+    tool)
 from emulated import Emulated
 from roam_live.cells import Style
 from roam_live.program import is_listened, program

@@ -126,16 +126,17 @@ def paste_speed(folder):
     subprocess.run(tool("mux", "kill", "-f", "other"), check=True)
 
 
-def is_in_order(got, texts, keys):
-    """Whether bytes are a terminal's keys and pastes in their order, with another's keys between and in none of them."""
+def out_of_order(got, texts, keys):
+    """What of a terminal's keys and pastes doesn't come next, and the bytes that do; nothing where all come in their order, with another's
+    keys between and in none of them."""
     place = 0
     for text, key in zip(texts, keys):
         for part in (key, text):
             found = got.find(part, place)
             if found < 0 or got[place:found].strip(b".,"):
-                return False
+                return f"{key!r}, {len(text)} bytes: {part[:80]!r} isn't next in {got[max(0, place - 80) : place + 200]!r}"
             place = found + len(part)
-    return not got[place:].strip(b".,")
+    return repr(got[place:]) if got[place:].strip(b".,") else ""
 
 
 @scene
@@ -155,14 +156,18 @@ def paste_order(folder):
         before = path.stat().st_size
         texts = [bytes(chance.choices(range(0x30, 0x7A), k=chance.choice((20, 100, 700)))) for _ in range(PASTES)]
         keys = [f"<{number}>".encode() for number in range(PASTES)]
-        for text, key in zip(texts, keys):
+        for number, (text, key) in enumerate(zip(texts, keys)):
             types.type(key + pasted(text))
             others.type(b"." if types is outer else b",")
             time.sleep(0.02)
+            # More than 64 texts that wait at the keeper are refused, and that is told: on a busy machine so many can.
+            if number % 32 == 31:
+                comes(lambda before=before, key=key: key in path.read_bytes()[before:], 60)
         types.type(b"<end>")
         comes(lambda: path.read_bytes().rstrip(b".,").endswith(b"<end>"), 60)
         got = path.read_bytes()[before:]
-        check(f"{PASTES} pastes {name}, in order and in one piece each", is_in_order(got, [*texts, b""], [*keys, b"<end>"]), got[-3000:])
+        odd = out_of_order(got, [*texts, b""], [*keys, b"<end>"])
+        check(f"{PASTES} pastes {name}, in order and in one piece each", not odd, lambda odd=odd: (odd, types.rows()[-1]))
         is_all = comes(lambda: sum(map(path.read_bytes()[before:].count, (b".", b","))) == PASTES)
         check("and every key beside them", is_all, got.count(b"."))
     outer.type(b"\x02d")

@@ -108,8 +108,8 @@ def frames(folder):
     check("and the rest", outer.shows("half whole", 3), outer.rows)
     check("and what comes behind it", outer.shows("done", 3), outer.rows)
     many = folder / "many"
-    many.write_text("i=0; while [ $i -lt 200 ]; do printf '\\033[?2026h\\033[H%s\\033[K\\033[?2026l' $i; i=$((i+1)); done; echo; echo al''l\n",
-                    encoding="utf-8")
+    many.write_text("i=0; while [ $i -lt 200 ]; do printf '\\033[?2026h\\033[H%s\\033[K\\033[?2026l' $i; i=$((i+1)); done; echo; "
+                    "echo al''l\n", encoding="utf-8")
     outer.type(f"clear; sh {many}\r".encode())
     check("of many frames the last stays", outer.shows("199") and outer.shows("all"), outer.rows)
 

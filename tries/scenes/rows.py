@@ -73,6 +73,15 @@ def run(outer, line, text, seconds=60):
     return outer.shows(text, seconds)
 
 
+def run_long(outer, line, text, seconds=60):
+    """The same, however long it takes, while rows come: a machine that does much else is slow."""
+    before, is_shown = -1, run(outer, line, text, seconds)
+    while not is_shown and count_of()[1] != before:
+        before = count_of()[1]
+        is_shown = outer.shows(text, seconds)
+    return is_shown
+
+
 @scene
 def kept_rows(folder):
     """The last 10,000 rows, whole and in order; a search in them; capture with its options, and CSI 3 J."""
@@ -89,9 +98,10 @@ def kept_rows(folder):
     check(f"one that finds nothing in {best * 1000:.1f} ms", best < SEARCHED, best)
     status, told, why = said("capture", "-S", "-5", "-E", "-1", f"{SESSION}.1")
     check("capture prints the last of them", (status, told) == (0, "".join(f"{row}\n" for row in rows[-5:])), (told, why))
-    whole = said("capture", "-S", "-", SESSION)[1].splitlines()
-    shown = [row.rstrip() for row in outer.rows()[:-1]]
-    check("capture -S - prints all and the screen", [row.rstrip() for row in whole] == rows + shown[: len(whole) - KEPT], whole[-30:])
+    status, told, why = said("capture", "-S", "-", SESSION)
+    whole, shown = told.splitlines(), [row.rstrip() for row in outer.rows()[:-1]]
+    is_all = status == 0 and [row.rstrip() for row in whole] == rows + shown[: len(whole) - KEPT]
+    check("capture -S - prints all and the screen", is_all, (status, why, whole[-30:]))
     check("capture -S 0 -E 1 prints rows of the screen", said("capture", "-S", "0", "-E", "1", SESSION)[1].splitlines() == shown[:2])
     check_forms(outer)
     run(outer, "printf '\\033[3J'", "emptied")
@@ -171,7 +181,7 @@ def filter_fed(folder):
     before = grown(keeper())
     begin = time.monotonic()
     line = "y" * 60
-    check("a gigabyte is written", run(outer, f"clear; yes {line} | head -c {GIGABYTE}; echo; seq 1 100", "written", 300), outer.rows)
+    check("a gigabyte is written", run_long(outer, f"clear; yes {line} | head -c {GIGABYTE}; echo; seq 1 100", "written"), outer.rows)
     print(f"        in {time.monotonic() - begin:.0f} s", flush=True)
     check("the last rows are kept", comes(lambda: in_order(kept()[-200:], line, "50")), lambda: kept()[-9:])
     first, end = count_of()

@@ -19,17 +19,21 @@ TOP = pathlib.Path(__file__).resolve().parents[2]
 
 # Words, and what they ask for: acts, a wish, and a text.
 ASKED = (
-    ("splitw -h", [], "split right", ""), ("splitw", [], "split down", ""), ("split-window -v -c #{pane_current_path}", [], "split down", ""),
+    ("splitw -h", [], "split right", ""), ("splitw", [], "split down", ""),
+    ("split-window -v -c #{pane_current_path}", [], "split down", ""),
     ("select-pane -t 3", ["focus 3"], "", ""), ("select-pane -t :.+", ["next"], "", ""), ("selectp -t :.2", ["focus 2"], "", ""),
     ("selectw -t :3", [], "go 3", ""), ("select-window -t +", [], "go next", ""), ("select-window -n", [], "go next", ""),
     ("resizep -L 5", [], "border left", "5"), ("resizep -D", [], "border down", "1"), ("selectl even-horizontal", [], "even", ""),
-    ("send-keys ls Enter", ["char 6c", "char 73", "key return"], "", ""), ("send C-c", ["char 3"], "", ""), ("send -l Up", ["char 55", "char 70"], "", ""),
+    ("send-keys ls Enter", ["char 6c", "char 73", "key return"], "", ""), ("send C-c", ["char 3"], "", ""),
+    ("send -l Up", ["char 55", "char 70"], "", ""),
     ("display hello there", [], "tell", "hello there"), ("run -b ls", [], "run", "ls"), ("renamew", [], "window name", ""),
     ("rename-window my own", [], "window name", "my own"), ("send-prefix", [], "prefix", ""),
 )
 WRONG = (("kill-pane -t 3", "kill-pane: it has no -t here"), ("killw -a", "killw: it has no -a here"),
-         ("neww -c /tmp", "neww: -c has #{pane_current_path} alone here"), ("nosuch", "nosuch is no command of roam"), ("splitw -Q", "splitw: it has no -Q here"), ("selectw -t 100", "selectw: 100 is no number from 1 to 99"),
-         ("selectp -t 0", "selectp: 0 is no number from 1 to 9"), ("resizep", "resizep: it has -L, -R, -U, -D or -Z"), ("killp x", "killp: it has no word x"),
+         ("neww -c /tmp", "neww: -c has #{pane_current_path} alone here"), ("nosuch", "nosuch is no command of roam"),
+         ("splitw -Q", "splitw: it has no -Q here"), ("selectw -t 100", "selectw: 100 is no number from 1 to 99"),
+         ("selectp -t 0", "selectp: 0 is no number from 1 to 9"), ("resizep", "resizep: it has -L, -R, -U, -D or -Z"),
+         ("killp x", "killp: it has no word x"),
          ("display", "display: it has a text behind it"), ("\x1b[2J", "?[2J is no command of roam"))
 
 
@@ -56,12 +60,14 @@ class Table(unittest.TestCase):
         """Each key behind the prefix stands for a command, and the help has it."""
         wishes = {**WISHES, **BORDERS, **BINDINGS}
         self.assertEqual(len(wishes), len(DEFAULT_KEYS))
-        self.assertEqual((wishes["%"], wishes["up"], wishes["prev"], wishes[" "], wishes["\x1a"], wishes["C-left"], wishes["o"], wishes["0"], wishes["/"]),
-                         ("split right", "up", "copy page", "even", "suspend", "border left", "next", "go 10", "copy search"))
+        keys = ("%", "up", "prev", " ", "\x1a", "C-left", "o", "0", "/")
+        self.assertEqual([wishes[key] for key in keys],
+                         ["split right", "up", "copy page", "even", "suspend", "border left", "next", "go 10", "copy search"])
         left = " ".join(line[:11] for line in HELP.split("\n")) + " q and a digit arrows C-arrows [ PgUp /  1 to 9 0 '"
         for name in DEFAULT_KEYS:
             told = {"PPage": "PgUp", **{side: "arrows" for side in ("Up", "Down", "Left", "Right")}}.get(name, name)
-            told = "C-arrows" if name[:2] == "C-" and name[2:] in ("Up", "Down", "Left", "Right") else "1 to 9" if name.isdigit() and name != "0" else told
+            told = "C-arrows" if name in ("C-Up", "C-Down", "C-Left", "C-Right") else told
+            told = "1 to 9" if name.isdigit() and name != "0" else told
             self.assertIn(told, left.split(" ") if " " not in told else left, name)
 
     def test_pages(self):
@@ -96,7 +102,8 @@ class Bound(unittest.TestCase):
         """A key of the root table needs no prefix; an unbound table has nothing but what is bound again."""
         own = {("root", "f5"): Binding([["next-window"]], False), ("prefix", "all"): None, ("prefix", "v"): Binding([["kill-pane"]], True)}
         self.assertEqual(self.asked(own, b"\x1b[15~a"), [([], "own root f5"), (["char 61"], "")])
-        self.assertEqual([wish for _, wish in self.asked(own, b"\x02d\x02vv\x02\x02")], ["", "unknown", "", "own prefix v", "own prefix v", "", "unknown"])
+        wishes = ["", "unknown", "", "own prefix v", "own prefix v", "", "unknown"]
+        self.assertEqual([wish for _, wish in self.asked(own, b"\x02d\x02vv\x02\x02")], wishes)
         self.assertEqual(self.asked({("root", "C-a"): None}, b"\x01"), [([], "")])
 
     def test_names(self):
@@ -116,8 +123,9 @@ class Line(Case):
     def test_edited(self):
         """Lines before are had by arrows, and names are completed as far as there is one way."""
         line = CommandLine(deque(["one", "two"]))
-        for name, text in (("up", "two"), ("up", "one"), ("up", "one"), ("down", "two"), ("down", ""), ("n", "n"), ("e", "ne"), ("\t", "ne"),
-                           ("w", "new"), ("\t", "new"), ("-", "new-"), ("\t", "new-window "), ("\x15", ""), ("é", "é"), ("\x7f", "")):
+        for name, text in (("up", "two"), ("up", "one"), ("up", "one"), ("down", "two"), ("down", ""), ("n", "n"), ("e", "ne"),
+                           ("\t", "ne"), ("w", "new"), ("\t", "new"), ("-", "new-"), ("\t", "new-window "), ("\x15", ""), ("é", "é"),
+                           ("\x7f", "")):
             line.edit(name)
             self.assertEqual(line.text, text, name)
         line.text = "next; ren"

@@ -56,6 +56,16 @@ class Completion(unittest.TestCase):
             self.assertEqual(completed("_roam_mux", "mux", "buffer", word, ""), ["main", "work"])
             self.assertEqual(completed("_roam_mux", "mux", "buffer", word, "main", ""), [])
 
+    def test_program(self):
+        """Each command of the program that roam(1) names is offered, and behind it each of its options."""
+        page = pathlib.Path(TOOLS.parent, "docs/man/roam.1").read_text(encoding="utf-8")
+        synopsis = page[page.index(".SH SYNOPSIS") : page.index(".SH DESCRIPTION")].replace("\\-", "-")
+        commands = synopsis.split(".B roam ")[1:]
+        self.assertEqual(completed("_roam", "roam", ""), ["mux", *(one.split()[0] for one in commands), "--help", "--version"])
+        for one in commands:
+            options = [word for word in one.replace('"', " ").split() if word.startswith("--")]
+            self.assertCountEqual(completed("_roam", "roam", one.split()[0], ""), [*options, "--help"])
+
     def test_every_act(self):
         """Each act that roam(1) lists is offered."""
         page = pathlib.Path(TOOLS.parent, "docs/man/roam.1").read_text(encoding="utf-8")

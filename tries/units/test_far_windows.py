@@ -145,7 +145,8 @@ class Numbers(Case):
         peers.last[0] = 300
         self.assertEqual(peers.number("old"), 301)
         peers.use_windows()
-        self.assertEqual((forgotten, peers.number("a"), peers.number("b", 2), peers.number("c", 2), peers.number("a")), ([301], 1, 513, 514, 1))
+        numbers = [peers.number("a"), peers.number("b", 2), peers.number("c", 2), peers.number("a")]
+        self.assertEqual((forgotten, numbers), ([301], [1, 513, 514, 1]))
         peers.last[2] = (2 << 8) + 255
         self.assertEqual((peers.number("d", 2), peers.number("e", 99)), (515, 25345))
         peers.drop_window(2)
@@ -164,6 +165,7 @@ class Names(Case):
             raise FileNotFoundError(name)
 
         streams = Streams(StillLoop(), opens)
-        for name in ("panes", "w/2/shells", "w/99/bells", "w/0/panes", "w/100/panes", "w/2/clients", "w/2/../panes", "w/2/w/3/panes", "clients"):
+        for name in ("panes", "w/2/shells", "w/99/bells", "w/0/panes", "w/100/panes", "w/2/clients", "w/2/../panes", "w/2/w/3/panes",
+                     "clients"):
             streams.opened(Carried(1), name)
         self.assertEqual(opened, ["panes", "w/2/shells", "w/99/bells"])

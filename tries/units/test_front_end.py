@@ -596,6 +596,9 @@ class Mouse(Fronts):
         self.patch_of(self.front.link, "part")
         for way in [*ways, lambda: self.patch_of(self.front, "turn", side_effect=ValueError)]:
             self.front.left = None
+            if self.front.link.peer:
+                self.front.loop.remove(self.front.link)
+                self.front.link.close()
             self.connect()
             self.assertIn(mouse.ASKED["motion"], self.ask("motion sgr"))
             way()
@@ -654,8 +657,8 @@ class Clipboard(Fronts):
         self.place.told = PANES
         self.front_of()
         clip = b"\x1b]52;c;YQ==\x07"
-        for typed, made in ((b"", b""), (b"y", clip), (b"\x02q2", clip), (b"x", b""), (b"\x02q1y", clip), (b"\x02o", clip), (b"\x1b[A", b""),
-                            (b"\x02q1\x1b[200~y\x1b[201~", clip)):
+        for typed, made in ((b"", b""), (b"y", clip), (b"\x02q2", clip), (b"x", b""), (b"\x02q1y", clip), (b"\x02o", clip),
+                            (b"\x1b[A", b""), (b"\x02q1\x1b[200~y\x1b[201~", clip)):
             self.type(typed)
             self.shown()
             self.assertEqual(self.set("YQ=="), made, typed)

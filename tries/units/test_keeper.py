@@ -610,6 +610,17 @@ class Rows(Keeper):
         self.assertEqual(self.keeper.common.run(), 0)
         self.assertEqual(read_now(one), b"rows 1 4 0 1 5\n out\nlog 1 4 end\n")
 
+    def test_last_blank(self):
+        """Where a pane shows nothing he is told its end, although nothing comes behind the screen that tells so."""
+        self.begin()
+        self.made[0].send(b"out")
+        one = self.connected("shells", b"log 1 4 0\n")
+        self.turn()
+        self.keeper.is_over = True
+        self.fake.prints(b"screen 0 2 4\n \n \n")
+        self.assertEqual(self.keeper.common.run(), 0)
+        self.assertEqual(read_now(one), b"log 1 4 end\n")
+
     def test_last_waits(self):
         """For what a filter doesn't tell then it isn't waited long."""
         self.begin()

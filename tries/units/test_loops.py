@@ -57,6 +57,15 @@ class Ends(Case):
         waiting.clear()
         self.assertEqual(self.turn(), ["read"])
 
+    def test_unwanted(self):
+        """What isn't wanted ends no wait: bytes at an end that is only written."""
+        one, other = self.pair()
+        self.loop.add(one, self.named("read"), self.named("written"), hears=lambda: False, has_more=lambda: True)
+        while ready(one, WRITE, 0):
+            one.send(bytes(65536))
+        other.send(b"x")
+        self.assertEqual((self.turn(), self.loop.found), ([], 0))
+
     def test_gone(self):
         """What is done at one end may let another go, and itself; nothing more is done there then."""
         (one, other), (two, there) = self.pair(), self.pair()

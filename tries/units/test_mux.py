@@ -7,7 +7,9 @@ import types
 from unittest import mock
 
 from aids import Case, loaded
-from roam_live import asked_rows, brought, captures, choices, front_end, giving, remote, sending, sessions, targets
+from roam_live import (asked_command, asked_rows, asked_windows, brought, captures, choices, front_end, giving, remote, sending, sessions,
+                       targets)
+from roam_live.own_settings import OWN, settings_path
 from roam_live.places import Places, Rect
 from roam_live.program import Fault
 from roam_live.relayed import greeting
@@ -32,7 +34,8 @@ class Mux(Case):
         self.is_terminal = True
         self.patch_of(mux.os, "isatty", lambda end: self.is_terminal)
         self.runs, self.done = set(), []
-        for name in ("launch", "spawn_shells", "demand_terminals", "demand_shells", "demand_ready", "note_found", "kill", "end_all", "tidy"):
+        for name in ("launch", "spawn_shells", "demand_terminals", "demand_shells", "demand_ready", "note_found", "kill", "end_all",
+                     "tidy"):
             self.patch_each(name, self.does(name))
         self.patch_each("find", lambda session: session.name in self.runs)
         self.patch_each("runs", lambda session, role=None: session.name in self.runs)
@@ -153,6 +156,31 @@ class Attaches(Mux):
         self.refuses("C-a d, typed in the front end, detaches it; the session goes on", "detach")
 
 
+    def test_alone(self):
+        """With -d all others are told to leave before; of those that don't it is told."""
+        self.runs.add("main")
+        with mock.patch.object(asked_windows, "detach_others", side_effect=[0, 2]) as others:
+            self.assertEqual((self.mux("attach", "-d", "main"), self.said.getvalue()), (7, ""))
+            self.assertEqual((self.mux("attach", "-d", "main"), others.call_args[0][0].name), (7, "main"))
+            self.is_terminal = False
+            with self.assertRaises(Fault):
+                self.mux("attach", "-d", "main")
+        self.assertEqual((others.call_count, self.said.getvalue()),
+                         (2, "mux: session main: 2 of the terminals there don't leave, as where they are stopped\n"))
+
+    def test_settings(self):
+        """It is told where the settings are looked for, and each line of them that isn't done, with status 1."""
+        self.environment(XDG_CONFIG_HOME=str(self.base), HOME=str(self.base))
+        self.addCleanup(choices.choose_by_file, {})
+        self.patch_of(OWN, "found", None)
+        self.assertEqual((self.mux("settings"), self.text.getvalue()), (0, f"{settings_path()}, which isn't there\n"))
+        pathlib.Path(settings_path()).parent.mkdir()
+        for text, status, lines in (("set -g mouse on\n", 0, ""), ("foo\x1b\n", 1, "roam.conf:1: foo? isn't there in roam\n")):
+            pathlib.Path(settings_path()).write_text(text, encoding="utf-8")
+            self.text.truncate(0), self.text.seek(0)
+            self.assertEqual((self.mux("settings"), self.text.getvalue()), (status, f"{settings_path()}\n{lines}"))
+
+
 class Starts(Mux):
     """`new`, `kill`, `send` and `capture`."""
 
@@ -183,6 +211,34 @@ class Starts(Mux):
         self.assertEqual(self.done, [("end_all", "main"), ("tidy", "main")])
         self.runs.add("main")
         self.assertEqual(self.mux("kill", "-f", "main"), 0)
+
+    def test_window(self):
+        """A window is shut in the same way."""
+        self.runs.add("main")
+        with mock.patch.object(asked_windows, "shut", return_value=5) as shuts:
+            self.is_terminal = False
+            self.refuses("window main runs vi in pane 1; `mux kill -f main` shuts it", "kill", "main:2")
+            self.is_terminal = True
+            for answer, status in (("n\n", 1), ("y\n", 5)):
+                with mock.patch("sys.stdin") as asked:
+                    asked.readline.return_value = answer
+                    self.assertEqual(self.mux("kill", "main:2"), status)
+            self.assertEqual((self.mux("kill", "-f", "main:2"), shuts.call_count, shuts.call_args[0][0].name), (5, 2, "main"))
+        self.assertEqual(self.said.getvalue(), "window main runs vi in pane 1; shut it? [y/N] " * 2)
+        self.assertEqual(self.done, [])
+
+    def test_asked_of_windows(self):
+        """What is asked of a session's windows, or done there by a command, has the session and the words."""
+        self.runs.add("main")
+        for words, does, behind in ((("list-windows", "main"), "list_windows", ()), (("clients", "main"), "list_clients", ()),
+                                    (("new-window", "main"), "new_window", ("",)),
+                                    (("new-window", "-n", "a b", "main"), "new_window", ("a b",)),
+                                    (("rename-window", "main:2", "a b"), "rename", ("a b",)), (("rename-window", "main"), "rename", ("",))):
+            with mock.patch.object(asked_windows, does, return_value=6) as done:
+                self.assertEqual((self.mux(*words), done.call_args[0][0].name, done.call_args[0][1:]), (6, "main", behind), words)
+        with mock.patch.object(asked_command, "run", return_value=4) as runs:
+            self.assertEqual((self.mux("cmd", "main.2", "split-window", "-h"), runs.call_args[0][1:]), (4, (2, ["split-window", "-h"])))
+        self.refuses("a command stands behind the session", "cmd", "main")
 
     def test_not_ended(self):
         self.runs.add("main")
@@ -494,8 +550,8 @@ class Words(Mux):
         page = PAGE.read_text(encoding="utf-8")
         for word in mux.WORDS:
             self.assertRegex(page, rf"\b{word}\b")
-        self.assertEqual(list(mux.WORDS), "attach new detach ls list list-windows new-window rename-window clients watch kill send paste capture log "
-                         "buffer env cmd settings ssh far help".split())
+        self.assertEqual(list(mux.WORDS), "attach new detach ls list list-windows new-window rename-window clients watch kill send paste "
+                         "capture log buffer env cmd settings ssh far help".split())
 
     def test_ssh_words(self):
         asked = mux.asked_by("ssh", ["-p", "22", "--far", "f", "there"])

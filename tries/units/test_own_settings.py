@@ -88,7 +88,8 @@ class Own(Case):
         other = self.folder / "other.conf"
         other.write_text("set -g mouse off\nbind y next-window\nfoo\n")
         OWN.add(str(other))
-        self.assertEqual((choices.chosen_prefix(), choices.wants_mouse(), OWN.line()), ("C-a", False, "other.conf:3: foo isn't there in roam"))
+        self.assertEqual((choices.chosen_prefix(), choices.wants_mouse(), OWN.line()),
+                         ("C-a", False, "other.conf:3: foo isn't there in roam"))
         self.assertEqual(sorted(OWN.found.bindings), [("prefix", "x"), ("prefix", "y")])
         OWN.add(str(self.folder / "none"))
         self.assertEqual(OWN.line(), "none: can't be read: No such file or directory")

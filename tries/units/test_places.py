@@ -55,8 +55,8 @@ class Modes(Case):
         """A title and a shape are the newest that are told of this making of the pane."""
         told = ToldPanes()
         steps = [("shape 1 1 4", ("", 0)), ("title 1 1 e697a5", ("", 0)), ("1 1 1 23 80 1", ("\u65e5", 4)), ("focus 1", ("\u65e5", 4)),
-                 ("shape 1 1 0", ("\u65e5", 0)), ("title 1 1 ff41", ("\ufffdA", 0)), ("title 1 1 ", ("", 0)), ("title 1 1 1b5d", ("\x1b]", 0)),
-                 ("shape 1 1 6", ("\x1b]", 6)), ("1 1 1 23 80 2", ("", 0)), ("title 1 2 41", ("A", 0))]
+                 ("shape 1 1 0", ("\u65e5", 0)), ("title 1 1 ff41", ("\ufffdA", 0)), ("title 1 1 ", ("", 0)),
+                 ("title 1 1 1b5d", ("\x1b]", 0)), ("shape 1 1 6", ("\x1b]", 6)), ("1 1 1 23 80 2", ("", 0)), ("title 1 2 41", ("A", 0))]
         for line, aside in steps:
             self.assertTrue(told.take(line), line)
             self.assertEqual(told.aside(1), aside, line)

@@ -9,7 +9,7 @@ import unittest
 from unittest import mock
 
 from aids import Case, read_now, record
-from roam_live import captures, carriers, ports, processes, sending, sessions
+from roam_live import captures, carriers, ports, processes, sending, sessions, window_shells, windows
 from roam_live.carriers import LONGEST, SHORTEST, Carrier
 from roam_live.links import StartLink
 from roam_live.loops import READ, WRITE
@@ -350,14 +350,15 @@ class Spawned(Based):
         self.assertEqual(self.session_here.said(7), "x" * 500)
 
     def test_ended(self):
-        """SIGTERM ends a process, and SIGKILL one that doesn't end in two seconds."""
+        """SIGTERM ends a process, and SIGKILL one that doesn't end in three seconds, which is more than a keeper needs."""
+        self.assertGreater(processes.END_WAIT, windows.ALL_END + window_shells.LOGS_END)
         self.stop_clock()
         kills, left = self.patch("os.kill"), [7, 7, 7]
         self.patch_of(Processes, "process", lambda session, role: left[0] if left else None)
         kills.side_effect = lambda process, number: left.clear() if number == signal.SIGKILL else None
         self.session_here.end("server")
         self.assertEqual(kills.call_args_list, [mock.call(7, signal.SIGTERM), mock.call(7, signal.SIGKILL)])
-        self.assertTrue(102.0 <= self.now < 102.1)
+        self.assertTrue(103.0 <= self.now < 103.1)
         kills.reset_mock()
         self.session_here.end("server")
         kills.assert_not_called()

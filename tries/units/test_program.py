@@ -54,7 +54,8 @@ class Homes(Case):
         """DIR, or PORT SESSION; ports are 1 to 65535."""
         for words, told in ((["d"], f"in {os.getcwd()}/d"), (["/x/../y"], "in /y"), (["1", "5e55"], "at port 1"),
                             (["65535", "0"], "at port 65535"), (["0", "5e55"], None), (["65536", "5e55"], None), (["x", "5e55"], None),
-                            (["7", "xyz"], None), ([], None), (["7", "1", "2"], None)):
+                            (["\u00b2", "5e55"], None), (["9" * 5000, "5e55"], None), (["7", "xyz"], None), ([], None),
+                            (["7", "1", "2"], None)):
             home = Home.of(words)
             self.assertEqual(home and str(home), told, words)
         home = Home.of(["9", "5e55"])

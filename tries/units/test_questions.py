@@ -28,8 +28,8 @@ class Answered(Case):
             self.assertEqual((question.pane, question.life), (1, 7))
             self.assertEqual(question.answer(colours, True).decode(), wanted, line)
             self.assertEqual(question.answer(colours, False).decode(), wanted if unheld is None else unheld, line)
-        for line in ("", "asks", "asks 1 7", "asks 1 x version", "asks 1 7 name", "asks 1 7 version set", "asks 1 7 pastes bell", "modes 1 7",
-                     "asks 1 7 pastes set set", "asks \u0661 7 version"):
+        for line in ("", "asks", "asks 1 7", "asks 1 x version", "asks 1 7 name", "asks 1 7 version set", "asks 1 7 pastes bell",
+                     "modes 1 7", "asks 1 7 pastes set set", "asks \u0661 7 version"):
             self.assertIsNone(question_in(line), line)
 
     def test_version(self):
@@ -54,8 +54,8 @@ class Told(unittest.TestCase):
         """A colour has four digits a part, whatever it was told by; what is none is nothing."""
         for words, wanted in (("rgb:f/8/0", "ffff/8888/0000"), ("rgb:ff/80/00", "ffff/8080/0000"), ("rgb:fff/800/001", "ffff/8007/0010"),
                               ("rgb:FFFF/0a0B/0000", "ffff/0a0b/0000"), ("rgba:ff/80/00/80", "ffff/8080/0000"), ("rgb:ff/80", ""),
-                              ("rgb:ff/80/00/80", ""), ("rgba:ff/80/00", ""), ("rgb:fffff/0/0", ""), ("rgb://", ""), ("", ""), ("#ffffff", ""),
-                              ("rgb:+f/0/0", ""), ("rgb:0x/0/0", "")):
+                              ("rgb:ff/80/00/80", ""), ("rgba:ff/80/00", ""), ("rgb:fffff/0/0", ""), ("rgb://", ""), ("", ""),
+                              ("#ffffff", ""), ("rgb:+f/0/0", ""), ("rgb:0x/0/0", "")):
             self.assertEqual(colour_of(words), wanted, words)
         self.assertEqual([told_in(text) for text in ANSWERS], [("foreground", "ffff/ffff/ffff"), ("background", "1e1e/1e1e/2e2e")])
         self.assertEqual([told_in(text) for text in ("\x1b]10;rgb:a\x07", "\x1b]12;rgb:f/f/f\x07", "x")], [None] * 3)
@@ -65,9 +65,9 @@ class Told(unittest.TestCase):
         """Lines tell them, the last holds, and others are none."""
         colours = Colours()
         for line, wanted in (("colour foreground ffff/0000/1111", True), ("colour foreground 0000/0000/1111", True),
-                             ("colour foreground", False),
-                             ("colour cursor ffff/0000/1111", False), ("colour background ff/00/11", False),
-                             ("colour background FFFF/0000/1111", False), ("colour background ffff/0000/1111 x", False), ("colours", False)):
+                             ("colour foreground", False), ("colours", False), ("colour cursor ffff/0000/1111", False),
+                             ("colour background ff/00/11", False), ("colour background FFFF/0000/1111", False),
+                             ("colour background ffff/0000/1111 x", False)):
             self.assertEqual(colours.take(line), wanted, line)
         self.assertEqual(colours.lines(), ["colour foreground 0000/0000/1111"])
 

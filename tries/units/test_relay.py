@@ -170,6 +170,24 @@ class Nears(Ends):
         self.assertIs(self.near.link, self.links[0])
         self.assertEqual((self.near.tries, self.said.getvalue()), ([], ""))
 
+    def test_windows(self):
+        """Windows that are told have a socket each here, and the session is found by one that is there; one that is gone lets its clients
+        go, and no others."""
+        self.answer()
+        self.near.take_windows({2: "abc", 5: "def"})
+        self.assertEqual((self.near.session, self.near.peers.has_windows), ("abc", True))
+        clients = {}
+        for number in (2, 5):
+            clients[number] = socket.socket(socket.AF_UNIX, socket.SOCK_STREAM)
+            self.addCleanup(clients[number].close)
+            clients[number].connect(str(self.folder / f"w/{number}/clients"))
+            self.turn(2)
+        self.near.take_windows({5: "def"})
+        self.assertEqual((self.near.session, (self.folder / "session").read_text(encoding="utf-8")), ("def", "def\n"))
+        self.assertEqual((list(self.near.window_of.values()), clients[2].recv(1)), ([5], b""))
+        self.near.take_windows({})
+        self.assertEqual(list(self.near.window_of.values()), [5])
+
     def test_carries(self):
         """Datagrams go both ways, each to its own client."""
         self.answer()
@@ -581,7 +599,7 @@ class Fars(Ends):
         (self.source, self.said_end), (heard, self.target) = self.pipe(), self.pipe()
         self.other = Other(heard)
         self.patch_of(far, "RelayStream", side_effect=lambda _, __, session: RelayStream(self.source, self.target, session))
-        self.patch_of(far.os, "set_blocking")
+        self.set_blocking = self.patch_of(far.os, "set_blocking")
         self.far = self.far_end()
         self.said = self.heard()
 
@@ -606,7 +624,8 @@ class Fars(Ends):
         self.far.turn()
 
     def test_greets(self):
-        """It greets with the session, where that is known, else with none."""
+        """It greets with the session, where that is known, else with none; it waits neither for what it reads nor for what it writes."""
+        self.assertEqual(self.set_blocking.call_args_list, [mock.call(0, False), mock.call(1, False)])
         self.far.turn()
         self.assertEqual(read_now(self.other.end), b"roam-relay 2 -\n" + packed((0, CARRIES)))
         one = self.far_end(session="5e55")
@@ -693,6 +712,21 @@ class Fars(Ends):
             with self.assertRaises(ends.Ended) as way:
                 self.far.turn()
             self.assertEqual((way.exception.args, self.other.frames()[-1]), ((0,), (0, told)))
+
+    def test_heir(self):
+        """Once the server of its own window has ended it goes on with another that is there; where none is it tells the end."""
+        servers = [self.pipe() for _ in range(2)]
+        self.patch_of(far, "opened_process", side_effect=[os.dup(reader) for reader, _ in servers])
+        heir = mock.Mock(process=mock.Mock(return_value=77), ending=mock.Mock(return_value=("", 0)))
+        self.far.windows.heir = mock.Mock(side_effect=[heir, None])
+        self.far.follow_server(5)
+        ended(servers[0][1])
+        self.far.turn()
+        self.assertEqual((self.far.place, far.opened_process.call_args_list), (heir, [mock.call(5), mock.call(77)]))
+        ended(servers[1][1])
+        with self.assertRaises(ends.Ended):
+            self.far.turn()
+        self.assertEqual(self.other.frames()[-1], (0, ENDED))
 
     def test_shells(self):
         """Where it knows the server it sees the end of what keeps the shells."""
@@ -821,8 +855,9 @@ class Streams(Ends):
             self.assertEqual(str(fault.exception), told)
 
     def test_noise(self):
-        """Before its greeting the other end may say 65,536 bytes."""
-        self.assertEqual(self.received(b"x" * 65535 + b"\n"), [])
+        """Before its greeting the other end may say 65,536 bytes, as one with a version that can't be."""
+        unknown = b"\nroam-relay " + b"9" * 5000 + b" 5e55\n"
+        self.assertEqual(self.received(b"x" * (65536 - len(unknown)) + unknown), [])
         self.assertEqual((self.received(greeting("abc")), self.receiver.session), ([], "abc"))
 
     def test_gone(self):
@@ -945,6 +980,7 @@ class Words(Ends):
         port = "a port is 1 to 65535, or - where the folder of --dir has the socket"
         for words, wrong in (
             (["--dir", folder, "-", "ssh"], ""), (["0", "ssh"], ""), (["65535", "ssh"], ""), (["65536", "ssh"], port), (["x", "ssh"], port),
+            (["\u00b2", "ssh"], port), (["9" * 5000, "ssh"], port),
             (["--far", "0"], port), (["--far", "1"], ""), (["-", "ssh"], "without a port the folder of --dir has the socket"),
             (["--alone", "9", "0", "ssh"], "front ends are noted in the folder of --dir"), (["0"], "the command is missing"),
             (["--far", "1", "ssh"], "no command follows the port of --far"), (["--far", "--session", "5e55", "1"], ""),

@@ -1,13 +1,17 @@
 """The filter of rows as a process: records to it and from it, cut anywhere, and its end in each way."""
+import fcntl
 import os
 import signal
 import sys
 import time
+import types
 
 from aids import Case, StillLoop
 from filtered import FAKE, played
+from roam_live import row_filter
 from roam_live.loops import Loop
-from roam_live.row_filter import BATCH, ENDS, GATHERS, LONGEST_LINE, MOST_RECORD, BadRecord, RowFilter, RowRecords, spawned
+from roam_live.row_filter import (BATCH, ENDS, GATHERS, LONGEST_LINE, MOST_RECORD, PIPE_SIZE, SAID_SIZE, BadRecord, RowFilter, RowRecords,
+                                  spawned)
 
 PRINTED = b"rows 0 2 7\n a\n+bc\nlost 3 17\ncleared 1023\nscreen 2 0 0\nrows 1 1 2\n \nscreen 4 1 9\n \x1b[1mrow\n"
 RECORDS = [("rows", 0, 2, b" a\n+bc\n"), ("lost", 3, 17, b""), ("cleared", 1023, 0, b""), ("screen", 2, 0, b""), ("rows", 1, 1, b" \n"),
@@ -181,6 +185,17 @@ class Spawned(Case):
         with self.assertRaises(OSError):
             self.spawn(["/no/such/program"])
         self.assertEqual(os.listdir("/proc/self/fd"), before)
+
+    def test_pipes(self):
+        """Its pipes hold what is said of them, also by a Python that names no such call."""
+        self.patch_of(row_filter, "fcntl", types.SimpleNamespace(fcntl=fcntl.fcntl))
+        process, ends = spawned([sys.executable, "-S", "-E", "-c", ""])
+        os.waitpid(process, 0)
+        # F_GETPIPE_SZ of Linux.
+        sizes = [fcntl.fcntl(end, 1032) for end in ends]
+        for end in ends:
+            os.close(end)
+        self.assertEqual((sizes[2], max(sizes[:2]) <= PIPE_SIZE), (SAID_SIZE, True))
 
     def test_descriptors(self):
         """A process has its three ends and no other of this one, and isn't taken for a program of a pane."""

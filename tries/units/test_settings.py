@@ -241,8 +241,8 @@ class Lines(unittest.TestCase):
         """Keys by their names."""
         for name, wanted in (("a", "a"), ("A", "A"), ("C-a", "C-a"), ("C-A", "C-a"), ("^a", "C-a"), ("M-S-x", "M-S-x"),
                              ("S-M-Up", "M-S-up"), ("C-M-Left", "C-M-left"), ("-", "-"), ("NPage", "pagedown"), ("F12", "f12"),
-                             ("C--", "C--"), ("M-", None), ("F13", "f13"), ("F21", None), ("", None), ("\x1b", None), ("MouseUp1Status", None),
-                             ("\u00e9", "\u00e9"), ("^", "^")):
+                             ("C--", "C--"), ("M-", None), ("F13", "f13"), ("F21", None), ("", None), ("\x1b", None),
+                             ("MouseUp1Status", None), ("\u00e9", "\u00e9"), ("^", "^")):
             if wanted is None:
                 self.assertRaises(BadWord, key_named, name)
             else:

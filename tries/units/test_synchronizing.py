@@ -76,7 +76,8 @@ class Person(Attached):
                                       "key up ; focus 3"])
         self.switch()
         self.types(b"c")
-        self.assertEqual((self.heard[1:], self.guessed, self.commands.display.panes_label()), (["char 63"], ["never", "adaptive"], " 1  2 [3]"))
+        self.assertEqual((self.heard[1:], self.guessed, self.commands.display.panes_label()),
+                         (["char 63"], ["never", "adaptive"], " 1  2 [3]"))
 
     def test_commands(self):
         """What isn't a key goes where it always does: the prefix moves the focus, and the keys behind wait until that is told."""
@@ -108,6 +109,16 @@ class Person(Attached):
         self.person.loop.turn()
         self.assertEqual(self.person.said(), ["char 61 ; char 62 ; focus 1 ; char 61 ; char 62 ; focus 2"])
 
+    def test_many(self):
+        """What a command types is typed in all panes, however much it is, in order."""
+        self.begin(2)
+        self.switch()
+        acts = [f"char {letter:x}" for letter in range(0x61, 0x61 + 20)]
+        self.commands.type_key(acts)
+        self.commands.synchronizing.settle()
+        found, behind = typed_in([line.split(" ; ") for line in self.person.said()], 2)
+        self.assertEqual((found, behind), ({1: acts, 2: acts}, {2}))
+
     def test_awaited(self):
         """In a window whose panes aren't told yet keys wait until they are."""
         self.begin(2)
@@ -126,9 +137,11 @@ class Person(Attached):
         self.begin(1)
         self.switch()
         self.types(b"a")
-        self.assertEqual(self.heard, ["char 61"])
+        self.assertEqual((self.heard, self.commands.synchronizing.pasted_in()), (["char 61"], []))
         self.begin(2)
+        self.assertEqual(self.commands.synchronizing.pasted_in(), [])
         self.switch()
+        self.assertEqual(self.commands.synchronizing.pasted_in(), [2, 1])
         self.types(b"\x02z")
         self.heard.clear()
         self.types(b"a")

@@ -31,9 +31,11 @@ class Names(unittest.TestCase):
         for word, target in (
             ("main", ("main", None, 0)), ("main.2", ("main", None, 2)), ("main:3", ("main", 3, 0)), ("main:12.2", ("main", 12, 2)),
             ("ssh:a.b.2:work.9", ("ssh:a.b.2:work", None, 9)), ("ssh:h.1:work", ("ssh:h.1:work", None, 0)),
-            ("ssh:h:2", ("ssh:h:2", None, 0)), ("ssh:h:work:2.3", ("ssh:h:work", 2, 3)), ("ssh:h:w:0123abcd", ("ssh:h:w:0123abcd", None, 0)),
-            ("ssh:h:w:0123abcd:99", ("ssh:h:w:0123abcd", 99, 0)), ("", ("", None, 0)), (":", ("", None, 0)), (".1", ("", None, 1)),
-            (":4.1", ("", 4, 1)), *((word, (word, None, 0)) for word in ("a.0", "a.10", "a:0", "a:100", "a:1:2", "a.1:2", "a:\u0661", "ssh:h"))
+            ("ssh:h:2", ("ssh:h:2", None, 0)), ("ssh:h:work:2.3", ("ssh:h:work", 2, 3)),
+            ("ssh:h:w:0123abcd", ("ssh:h:w:0123abcd", None, 0)), ("ssh:h:w:0123abcd:99", ("ssh:h:w:0123abcd", 99, 0)),
+            ("", ("", None, 0)), (":", ("", None, 0)), (".1", ("", None, 1)),
+            (":4.1", ("", 4, 1)),
+            *((word, (word, None, 0)) for word in ("a.0", "a.10", "a:0", "a:100", "a:1:2", "a.1:2", "a:\u0661", "ssh:h"))
         ):
             self.assertEqual(target_of(word), Target(*target), word)
 

@@ -6,7 +6,8 @@ from unittest import mock
 
 from aids import Case, read_now
 from roam_live import asked_windows, programs, sessions, targets
-from roam_live.asked_windows import WindowsAsked, check_title, detach_others, list_clients, windows_of
+from roam_live.asked_windows import (WindowsAsked, check_title, detach_others, is_there, list_clients, list_windows, new_window, rename,
+                                     shut, windows_of)
 from roam_live.places import Places, Rect
 from roam_live.program import Fault, begun, end_words
 from roam_live.sessions import VERSION, FolderSession, Window, WindowedSession, session_named, window_in
@@ -126,6 +127,113 @@ class Found(Sessions):
         self.assertEqual(os.listdir(self.base / "main"), [])
 
 
+class Launched(Sessions):
+    """How they are launched and ended, by processes that don't run here."""
+
+    def setUp(self):
+        super().setUp()
+        self.spawned, self.waits, self.ended, self.refused = [], [], [], ""
+        self.patch_of(sessions, "program", return_value="/roam")
+        self.patch_of(FolderSession, "spawned", lambda session, role, words: self.spawn(session, role, words))
+        self.patch_of(FolderSession, "wait_for", lambda session, role, before, test: self.waits.append((role, test)))
+        self.patch_of(FolderSession, "end", lambda session, role: self.ended.append((session.name, role)))
+        (self.base / "new").mkdir(mode=0o700)
+        self.new = session_named("new")
+
+    def spawn(self, session, role, words):
+        """Notes what is spawned, but what can't be."""
+        if role == self.refused:
+            raise Fault("it can't be had")
+        self.spawned.append((role, words))
+        session.state[role] = self.own
+
+    def test_launched(self):
+        """What keeps the windows is spawned first, and waits for the server of the first, in a folder of its own."""
+        self.new.launch(["vi", "x"])
+        folder = self.base / "new/w/1"
+        self.assertEqual(self.spawned, [
+            ("shells", [str(sessions.TOOLS / "pane_shells"), "--windows", "--first", str(self.base / "new"), "vi", "x"]),
+            ("server", ["/roam", "serve", "--as-meant", "--dir", str(folder)])])
+        self.assertEqual((self.new.state, folder.stat().st_mode & 0o777, folder.parent.stat().st_mode & 0o777),
+                         ({"version": WINDOWS_VERSION, "command": ["vi", "x"], "shells": self.own}, 0o700, 0o700))
+        role, test = self.waits[0]
+        self.assertEqual((role, test()), ("server", False))
+        (folder / "session").touch()
+        self.assertFalse(test())
+        self.listening(folder / "clients")
+        self.assertTrue(test())
+
+    def test_half_way(self):
+        """Where the server can't be had all that was spawned is ended."""
+        self.refused = "server"
+        with self.assertRaisesRegex(Fault, "^it can't be had$"):
+            self.new.launch()
+        self.assertEqual(self.ended, [("new", "server"), ("new", "terminals"), ("new", "shells"), ("new:1", "server"),
+                                      ("new:1", "terminals")])
+
+    def test_kept(self):
+        """What keeps the windows is spawned where it doesn't run, and waited for until one is there, or a command has ended it."""
+        session = self.session()
+        session.demand_shells()
+        self.assertEqual(self.spawned, [])
+        self.noted("main", shells=[1, 1], command=["vi"])
+        session.read()
+        words = [str(sessions.TOOLS / "pane_shells"), "--windows", str(self.base / "main"), "vi"]
+        for demands in (session.demand_shells, session.window(2).demand_shells, session.revive_shells, session.window(7).revive_shells):
+            demands()
+            self.assertEqual(self.spawned.pop(), ("shells", words))
+            self.noted("main", shells=[1, 1], command=["vi"])
+            session.read()
+        self.assertEqual([(role, test()) for role, test in self.waits], [("shells", False)] * 2)
+        self.listening(self.base / "main/w/7/shells")
+        self.assertTrue(self.waits[0][1]())
+        self.new.own = {"shells": mock.Mock()}
+        for ended, is_over in ((None, False), (1, False), (0, True)):
+            self.new.own["shells"].poll.return_value = ended
+            self.new.demand_ready()
+            self.assertEqual(self.waits[-1][1](), is_over)
+
+    def test_revived(self):
+        """Nobody waits for another that spawns it, and one that has ended isn't begun again."""
+        session = self.session()
+        self.noted("main", shells=[1, 1])
+        session.read()
+        lock = session.taken_lock(True)
+        self.assertFalse(session.revive_shells())
+        os.close(lock)
+        for number in (2, 7):
+            self.noted("main", number, server=[1, 1])
+        self.assertEqual((session.revive_shells(), self.spawned), (False, []))
+
+    def test_answers(self):
+        """Where its note is lost it is known by who answers at the socket of a window."""
+        session = self.session()
+        self.noted("main")
+        session.read()
+        self.patch_of(sessions, "command_of", return_value=["vi"])
+        self.listening(self.base / "main/w/7/shells")
+        self.assertTrue(session.find() and session.is_found)
+        self.assertEqual(session.state, {"version": WINDOWS_VERSION, "command": ["vi"], "shells": self.own})
+
+    def test_ends(self):
+        """The keeper is ended before what it left, and the windows that run are noted before."""
+        session = self.session()
+        session.end_all()
+        roles = [(f"main:{number}", role) for number in (2, 5, 7) for role in ("server", "terminals")]
+        self.assertEqual(self.ended, [("main", "shells"), *roles])
+        self.assertEqual((self.base / "main/ended").read_text(encoding="ascii"), f"{end_words(*self.own)}\n" * 2)
+
+    def test_no_own(self):
+        """A window is opened by what keeps it, and what runs in its panes is known by that."""
+        window = self.session().window(7)
+        with self.assertRaisesRegex(Fault, "^session main: what keeps its windows opens them$"):
+            window.launch()
+        with mock.patch.object(programs, "busy_panes", return_value={1: "vi"}) as busy:
+            self.assertEqual((window.busy(), busy.call_args), ({1: "vi"}, mock.call(os.getpid(), str(window.folder))))
+            self.noted("main", shells=[1, 1])
+            self.assertEqual(window.busy(), {})
+
+
 class Named(Sessions):
     """What words mean in a pane."""
 
@@ -201,7 +309,8 @@ class Asked(Sessions):
         self.keeper = None
 
     def comes(self, peer, seconds):
-        """Has the keeper tell what it answers next."""
+        """Has the keeper tell what it answers next, to who waits for it no longer than he may."""
+        self.assertTrue(peer.fileno() >= 0 and 0 <= seconds <= asked_windows.ANSWERS)
         self.keeper = self.keeper or self.taken(self.listener)
         if self.answers:
             self.keeper.send(self.answers.pop(0))
@@ -209,20 +318,98 @@ class Asked(Sessions):
 
     def test_windows(self):
         """Lines are taken in any pieces, and those that can't be are nothing."""
-        self.answers = [b"window 1 -\nwin", b"dow 2 6162\nwindow x -\nwindow 3\nactivity 2\n", b"windows 2\n"]
+        odd = b"window x -\nwindow 3\nwindow \xc2\xb2 -\nwindow " + b"9" * 5000 + b" -\nwindow 100 -\n"
+        self.answers = [b"window 1 -\nwin", b"dow 2 61\nactivity 2\n", odd, b"window 2 6162\n", b"windows 2\n"]
         self.assertEqual(windows_of(self.window), [(1, ""), (2, "ab")])
         self.assertEqual(read_now(self.keeper), b"windows\n")
+
+    def test_listed(self):
+        """Each window has a line: its name, its size, its panes, and what runs there."""
+        wide = Places({1: Rect(1, 1, 23, 39), 2: Rect(1, 41, 23, 40)}, 2)
+        for number, places, busy, line in ((2, PLACES, {1: "vi"}, " 2 a?b              24 by 80     1 pane, vi in pane 1"),
+                                           (7, wide, {}, " 7 -                24 by 80     2 panes"),
+                                           (7, None, None, " 7 -                -            ? panes")):
+            self.answers, self.keeper = [b"window %d %s\nwindows 1\n" % (number, b"61e282ac62" if number == 2 else b"-")], None
+            self.patch_of(FolderSession, "places", lambda session: places)
+            self.patch_of(Window, "busy", lambda session: busy)
+            list_windows(self.window)
+            self.assertEqual(self.text.getvalue().splitlines()[-1], line.replace("a?b", "a\u20acb"))
+
+    def test_opened(self):
+        """A window is opened of the size of that at which it is asked for, and has a name where one is given."""
+        self.patch_of(FolderSession, "places", lambda session: Places({1: Rect(1, 1, 29, 100)}, 1))
+        self.answers = [b"opened 4\n"]
+        self.assertEqual(new_window(self.window, ""), 0)
+        self.assertEqual((read_now(self.keeper), self.text.getvalue()), (b"open 30 100\n", "main:4\n"))
+        self.patch_of(FolderSession, "places", lambda session: None)
+        self.answers, self.keeper = [b"opened 5\n", b"windows 0\n", b"window 5 6162\n"], None
+        self.assertEqual(new_window(self.window, "ab"), 0)
+        self.assertEqual((read_now(self.keeper), self.text.getvalue()), (b"open 24 80\nwindows\nname 5 6162\n", "main:4\nmain:5\n"))
+        for told, why in ((b"none a\x1bb is full", "a\\?b is full"), (b"100", ""), (b"9" * 5000, ""), (b"x", ""), (b"4 5", "5")):
+            self.answers, self.keeper = [b"opened " + told + b"\n"], None
+            with self.assertRaisesRegex(Fault, f"^session main: no window is opened: {why}$"):
+                new_window(self.window, "")
+
+    def test_renamed(self):
+        """It is waited until that window is told to have the name; one that is gone has none."""
+        self.answers = [b"window 2 -\nwindows 1\n", b"window 7 63\ngone 7\n", b"window 2 6162\n"]
+        self.assertEqual((rename(self.window, "ab"), self.answers), (0, []))
+        self.assertEqual(read_now(self.keeper), b"windows\nname 2 6162\n")
+        self.answers, self.keeper = [b"windows 1\n", b"gone 2\n"], None
+        with self.assertRaisesRegex(Fault, "^session main has no window 2$"):
+            rename(self.window, "")
+        self.assertEqual(read_now(self.keeper), b"windows\nname 2 -\n")
+
+    def begin_shutting(self, *answers):
+        """The keeper answers that anew."""
+        self.answers, self.keeper = [b"windows 1\n", *answers], None
+
+    def test_shut(self):
+        """It is waited until nothing of the window is there, for so long."""
+        self.stop_clock()
+        self.begin_shutting(b"gone 2\n")
+        there = self.patch_of(asked_windows, "is_there", side_effect=[True, False])
+        self.assertEqual((shut(self.window), there.call_args), (0, mock.call(self.window, os.getpid())))
+        self.assertEqual(read_now(self.keeper), b"windows\nshut 2\n")
+        self.begin_shutting(b"gone 2\n")
+        self.patch_of(asked_windows, "is_there", return_value=True)
+        with self.assertRaisesRegex(Fault, "^window main:2 doesn't end$"):
+            shut(self.window)
+        self.assertAlmostEqual(self.now, 112.0, 1)
+
+    def test_shut_last(self):
+        """Where it was the last the keeper may end before it tells that; where the window runs it is told that nobody answers."""
+        self.patch_of(asked_windows, "comes", lambda peer, seconds: bool(self.answers) and self.comes(peer, seconds))
+        self.patch_of(asked_windows, "is_there", return_value=False)
+        self.begin_shutting()
+        self.patch_of(Window, "runs", return_value=False)
+        self.assertEqual(shut(self.window), 0)
+        self.begin_shutting()
+        self.patch_of(Window, "runs", return_value=True)
+        with self.assertRaisesRegex(Fault, "what keeps its shells doesn't answer$"):
+            shut(self.window)
+
+    def test_there(self):
+        """A window is there while its server and its folder are; another's server, of the same number, isn't it."""
+        self.assertTrue(is_there(self.window, os.getpid()))
+        self.assertTrue(is_there(self.window, None))
+        self.assertFalse(is_there(self.window, os.getpid() + 1))
+        os.rename(self.window.folder, self.base / "elsewhere")
+        self.assertFalse(is_there(self.window, os.getpid()))
 
     def test_earlier(self):
         """An earlier keeper has one window."""
         self.answers = [b"bad line\n"]
         with self.assertRaisesRegex(Fault, "^session main:2: what keeps its shells is an earlier roam's, and has one window$"):
             windows_of(self.window)
+        self.answers, self.keeper, self.window.number = [b"bad line\n"], None, 0
+        self.assertEqual(windows_of(self.window), [(1, "")])
 
     def test_clients(self):
         """Terminals are told a line each; what a keeper tells is made harmless."""
-        self.answers = [b"client 3 a:/dev/pts/1 24 80 2 0 edits\nclient 4 b\x1b[c 24 80 2 0 edits\nclient 5 b 24 80 2 99999999999999999999 watches\n"
-                        b"client 6 x\nclients 4\n"]
+        self.answers = [b"client 3 a:/dev/pts/1 24 80 2 0 edits\nclient 4 b\x1b[c 24 80 2 0 edits\n"
+                        b"client 5 b 24 80 2 99999999999999999999 watches\nclient 6 x\n"
+                        b"client 7 b 24 80 2 " + b"9" * 5000 + b" edits\nclients 4\n"]
         with mock.patch.dict(os.environ, TZ="UTC"):
             time.tzset()
             list_clients(self.window)

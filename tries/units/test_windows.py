@@ -132,12 +132,12 @@ class Fronts(Played):
         self.assertIn(b"runs 1 sh\n", read_now(one))
 
     def test_leave_others(self):
-        """All terminals are told to leave, of each window, but the one that says it; a terminal that is on its way to another window is there
-        twice, and one who watches has nobody leave."""
+        """All terminals are told to leave, of each window, but the one that says it; a terminal that is on its way to another window is
+        there twice, and one who watches has nobody leave."""
         self.opened()
         self.opened((24, 80))
-        own, also, other, watcher = (self.asker(window, f"here {name} 24 80 {kind}\n".encode())
-                                     for window, name, kind in ((1, "a", "edits"), (2, "a", "edits"), (2, "b", "edits"), (1, "c", "watches")))
+        there = ((1, "a", "edits"), (2, "a", "edits"), (2, "b", "edits"), (1, "c", "watches"))
+        own, also, other, watcher = (self.asker(window, f"here {name} 24 80 {kind}\n".encode()) for window, name, kind in there)
         for one in (own, also, other, watcher):
             read_now(one)
         self.assertEqual(self.said_by(watcher, b"leave others\n"), b"bad line\n")
@@ -170,6 +170,13 @@ class Opened(Played):
         self.servers[2].send(b"1 1 1 30 100 4\n")
         self.turns()
         self.assertEqual(sizes.call_args[0][1:], (30, 100))
+
+    def test_small(self):
+        """No window is opened that is smaller than a session may be."""
+        self.opened()
+        for place, (size, least) in enumerate((((1, 120), (4, 120)), ((40, 1), (40, 8))), 2):
+            self.opened(size)
+            self.assertEqual(self.taken(self.servers[place, "terminals"]).recv(100), "size {} {}\n".format(*least).encode())
 
     def test_seen_size(self):
         """The keeper knows a window's size by its panes, while it follows them."""
@@ -494,8 +501,9 @@ class Ended(Played):
         self.turns()
         self.alive.discard(2001)
         self.turns(3)
-        self.assertEqual((self.killed[:3], sorted(self.windows.windows)), ([(2000, signal.SIGTERM), (72, signal.SIGHUP), (72, signal.SIGCONT)]
-                         if self.killed[0][0] == 2000 else [(72, signal.SIGHUP), (72, signal.SIGCONT), (2000, signal.SIGTERM)], [1]))
+        first = [(2000, signal.SIGTERM)] if self.killed[0][0] == 2000 else []
+        hung_up = [(72, signal.SIGHUP), (72, signal.SIGCONT)]
+        self.assertEqual((self.killed[:3], sorted(self.windows.windows)), ([*first, *hung_up, (2000, signal.SIGTERM)][:3], [1]))
         self.assertEqual((self.path(2, "").exists(), (self.folder / "ended").read_text(encoding="ascii")), (False, "2000 1\n"))
         self.assertFalse(self.common.is_over)
 
@@ -572,7 +580,8 @@ class TakenOver(Played):
         self.path(5, "name").write_text("6162\n", encoding="ascii")
         self.alive |= {5000, 7001}
         self.windows.take_over()
-        self.assertEqual((sorted(self.windows.windows), numbers_in(str(self.folder / "w")), self.killed), ([5], [5], [(7001, signal.SIGKILL)]))
+        numbers = numbers_in(str(self.folder / "w"))
+        self.assertEqual((sorted(self.windows.windows), numbers, self.killed), ([5], [5], [(7001, signal.SIGKILL)]))
         for name in ("panes", "p1"):
             self.servers[name] = self.listening(self.path(5, name))
         self.turns(2)
@@ -623,8 +632,8 @@ class Noted(Case):
         processes = WindowProcesses(str(folder), 4)
         processes.make_folder()
         told = folder / "told"
-        process = processes.spawn(SERVER, ["/bin/sh", "-c", f"echo $ROAM_PANE. > {told}.new; mv {told}.new {told}; cat {processes.path('state.json')}"
-                                           f" > {told}; exec sleep 60"])
+        does = f"echo $ROAM_PANE. > {told}.new; mv {told}.new {told}; cat {processes.path('state.json')} > {told}; exec sleep 60"
+        process = processes.spawn(SERVER, ["/bin/sh", "-c", does])
         self.addCleanup(os.waitpid, process, 0)
         self.addCleanup(os.kill, process, signal.SIGKILL)
         while not told.exists() or b"}" not in told.read_bytes():

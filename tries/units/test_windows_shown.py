@@ -1,13 +1,16 @@
 """A person's front end of a session with windows, whose starts and keeper are played: where what is typed goes, and what is asked for."""
 import os
+import pathlib
 import pty
 from unittest import mock
 
 from aids import Case, StillLoop, closed, read_now, record
 from emulated import Emulated
-from roam_live import front_end, terminal, visits
+from roam_live import command_runner, front_end, terminal, visits
+from roam_live.choices import choose_by_file
 from roam_live.front_end import FrontEnd
 from roam_live.keys import acts_of_bytes
+from roam_live.own_settings import OWN, settings_path
 from roam_live.program import Fault
 from roam_live.choosing import WINDOWS_LINE
 from roam_live.window_wishes import DROPPED, EARLIER, FAR, LATE, LISTS, NO_ROOM, NOT_AWAITED, OPENING, OPENS, SMALL, TAKES_LONG
@@ -59,7 +62,7 @@ class Windows(Case):
         self.addCleanup(self.give_back, kept, slave)
         os.set_blocking(self.master, False)
         self.patch_of(front_end, "woken", return_value=self.pipe()[0])
-        self.patch_of(front_end, "brings_to", return_value=[])
+        self.brings = self.patch_of(front_end, "brings_to", return_value=[])
         self.patch_of(front_end, "PanesFollower", lambda folder, loop, changed, tells: self.played(folder))
         self.loop = StillLoop(lambda: self.now)
         self.front = self.front_of()
@@ -223,12 +226,45 @@ class Switches(Windows):
         there = [number for number, _ in self.starts.values()]
         self.assertEqual((there, self.keepers[0][0].recv(99), self.front.parting.visits), ([2], b"", {}))
 
+    def test_lost(self):
+        """Where the start of a window that was left ends, another has what was typed there and hasn't gone; else nothing is waited for."""
+        self.type(b"\x022\x021")
+        self.type(b"ab\x022", paints=False)
+        visit = self.front.parting.visits[1]
+        self.front.parting.lost(visit)
+        self.assertEqual((visit.link.peer, "connect 1" in self.loop.due), (None, False))
+        self.turn()
+        self.assertEqual(list(self.front.parting.visits), [])
+        self.type(b"\x021")
+        self.type(b"d\x022", paints=False)
+        visit = self.front.parting.visits[1]
+        visit.link.waiting += b"char 63\n"
+        self.front.parting.lost(visit)
+        self.assertIn("connect 1", self.loop.due)
+        self.front.parting.settle()
+        self.assertEqual(list(self.front.parting.visits), [1])
+        with mock.patch.object(visit.keeper, "connect", return_value=(0.5, "no start")) as fails:
+            self.now += 0.5
+            self.turn()
+            self.assertEqual((fails.call_count, visit.link.peer), (1, None))
+        self.now += 0.5
+        self.turn(8)
+        self.assertEqual((self.typed[1], list(self.front.parting.visits), self.loop.due.get("connect 1")), ("abdc", [], None))
+
     def test_there_is_none(self):
         """A window that isn't there is told of, and what stands behind that is typed where the person is."""
         self.type(b"\x025ab")
         self.assertEqual((self.typed[1], self.rows()[1]), ("ab", "there is no window 5"))
         self.type(b"\x02lcd")
         self.assertEqual((self.typed[1], self.rows()[1]), ("abcd", "there is no last window"))
+
+    def test_order(self):
+        """C-b n and C-b p go round the windows in the order of their numbers."""
+        for number in (3, 5):
+            self.add(number)
+        for keys in (b"\x02na", b"\x02nb", b"\x02nc", b"\x02nd", b"\x02pe", b"\x02pf", b"\x02pg", b"\x02ph"):
+            self.type(keys)
+        self.assertEqual(self.typed, {1: "dh", 2: "ag", 3: "bf", 5: "ce"})
 
     def test_not_had(self):
         """A window of which the system refuses what is needed isn't gone to: all stays as it is, and says why."""
@@ -610,8 +646,8 @@ class Named(Windows):
 
 
     def test_list_awaited(self):
-        """Just behind a switch the list waits until it is told where the panes are, and keys for it do; no longer than a moment, and then they
-        are typed."""
+        """Just behind a switch the list waits until it is told where the panes are, and keys for it do; no longer than a moment, and then
+        they are typed."""
         self.tell_list()
         told = self.windows[2].told
         for is_told in (True, False):
@@ -644,6 +680,70 @@ class Pointed(Windows):
         self.front.display.end_told()
         self.type(b"\x1b[<0;5;23M\x1b[<0;5;23m")
         self.assertEqual((self.front.number, self.typed[2]), (2, "xy"))
+
+
+class Brought(Windows):
+    """What an attach brings."""
+
+    def test_asked(self):
+        """It goes by the session, and by whether a person watches alone."""
+        self.brings.assert_called_once_with(self.place, False)
+        self.front_of(watches=True)
+        self.brings.assert_called_with(self.place, True)
+
+
+class Settings(Windows):
+    """A settings file that is read while a person is there."""
+
+    def setUp(self):
+        self.environment(XDG_CONFIG_HOME=str(self.made_folder()), ROAM_PREFIX=None, ROAM_GUESS=None, ROAM_MOUSE=None)
+        self.addCleanup(choose_by_file, {})
+        self.patch_of(OWN, "found", None)
+        super().setUp()
+        self.file = pathlib.Path(settings_path())
+        self.file.parent.mkdir()
+
+    def read(self, text):
+        """Has the file say this, and be read."""
+        self.file.write_text(text, encoding="utf-8")
+        self.front.read_settings()
+        self.turn()
+
+    def test_read(self):
+        """What it says holds at once, and it is told that it was read, or what of it isn't done."""
+        self.read("set -g prefix C-a\nbind y select-window -t 2\nset -g mouse on\n")
+        self.assertEqual((self.front.display.told, self.front.commands.pointing.is_on), ("roam.conf was read", True))
+        self.type(b"\x02a\x01yb")
+        self.assertEqual((self.front.number, self.typed), (2, {1: "\x02a", 2: "b"}))
+        other = self.made_folder() / "other.conf"
+        other.write_text("set -g mouse off\nfoo\n", encoding="utf-8")
+        self.front.runner.typed(f"source-file {other}")
+        self.assertEqual((self.front.display.told, self.front.commands.pointing.is_on, self.front.prefix),
+                         ("other.conf:2: foo isn't there in roam", False, "C-a"))
+        self.read("")
+        self.assertEqual((self.front.prefix, self.front.commands.typing.own), ("C-b", {}))
+
+    def test_refused(self):
+        """Where a variable can't be gone by that is told, and the prefix stays."""
+        with mock.patch.dict(os.environ, ROAM_PREFIX="nosuch"):
+            self.read("set -g mouse on\n")
+        self.assertEqual((self.front.prefix, self.front.commands.pointing.is_on), ("C-b", False))
+        self.assertIn("nosuch", self.front.display.told)
+
+    def test_row(self):
+        """The last row goes and comes by it."""
+        for text, is_hidden in (("set -g status off", True), ("set -g status off", True), ("set -g status on", False)):
+            self.read(f"{text}\n")
+            self.assertEqual(self.front.display.is_row_hidden, is_hidden)
+
+    def test_runs(self):
+        """What it has the shell run is run as it is read, and keys that it binds do all that they are bound to."""
+        with mock.patch.object(command_runner, "ShellRun") as runs:
+            runs.return_value.has_ended.return_value = True
+            self.read("run-shell 'echo one'\nbind y { run-shell two ; select-window -t 2 }\n")
+            self.assertEqual([one.args[1] for one in runs.call_args_list], ["echo one"])
+            self.type(b"\x02yx")
+            self.assertEqual(([one.args[1] for one in runs.call_args_list], self.typed[2]), (["echo one", "two"], "x"))
 
 
 class Hidden(Windows):

@@ -410,8 +410,8 @@ class Noted(Zoomed):
             self.assertEqual((self.session.places().size(), self.person.shells.zooms[-1:]), (after, ["None"]), key)
 
     def test_anothers(self):
-        """A zoom of somebody else, to a size of one that was left and is noted still, isn't taken for that: the keeper tells of it by another
-        way than the panes are told, maybe later."""
+        """A zoom of somebody else, to a size of one that was left and is noted still, isn't taken for that: the keeper tells of it by
+        another way than the panes are told, maybe later."""
         note = ZoomNote((24, 80), ((48, 160),))
         for told, after in ((False, (24, 80)), (True, (48, 160))):
             self.attach(self.grid(), shells=PlayedShells(True))

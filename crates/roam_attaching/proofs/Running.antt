@@ -14,7 +14,7 @@ use Rattle.roam_turns.specs.Painting.{Led}
 use Rattle.roam_turns.specs.Parts.{Makes}
 use Rattle.roam_turns.specs.Turns.{AttachTurn, Types}
 use Rattle.roam_turns.specs.declared.outer.Noted.{Noted}
-use Rattle.roam_terminals.specs.Silence.{due_of, notice_of}
+use Rattle.roam_outer_terminal.specs.Silence.{due_of, notice_of}
 use Rattle.roam_attaching.specs.declared.client_ports.ClientPorts.{ClientPorts}
 use Rattle.roam_typing.specs.declared.typing.ActLines.{ActLines}
 use Rattle.roam_typing.specs.declared.typing.Stream.{Stream}

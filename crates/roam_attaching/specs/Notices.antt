@@ -1,9 +1,9 @@
 -- How a run ends, and when its outer terminal is given up.
 use Rattle.std.specs.Prelude.{ℕ, ◌-◌, nat_le, Bool, true, false, Option, Some, None, if◌then◌else◌}
-use Rattle.roam_terminals.specs.Silence.{end_of}
-use Rattle.roam_terminals.specs.declared.silence.Silence.{Silence}
-use Rattle.roam_terminals.specs.declared.silence.End.{End}
-use Rattle.roam_terminals.specs.declared.silence.End.TheVariants.{Gone}
+use Rattle.roam_outer_terminal.specs.Silence.{end_of}
+use Rattle.roam_outer_terminal.specs.declared.silence.Silence.{Silence}
+use Rattle.roam_outer_terminal.specs.declared.silence.End.{End}
+use Rattle.roam_outer_terminal.specs.declared.silence.End.TheVariants.{Gone}
 
 -- what was heard of it where it is seen to have ended, or not
 abbrev pub end_by : Bool → Silence → End

@@ -14,7 +14,7 @@ use Rattle.roam_wire.specs.declared.versions.Version.TheVariants.{One, Two}
 use Rattle.roam_attaching.specs.declared.client_ports.ClientPorts.{ClientPorts}
 use Rattle.roam_attaching.specs.declared.attaching.Home.{Home}
 use Rattle.roam_attaching.specs.declared.attaching.Home.TheVariants.{Port, Folder}
-use Rattle.roam_terminals.specs.Silence.{notice_of}
+use Rattle.roam_outer_terminal.specs.Silence.{notice_of}
 use Rattle.roam_typing.specs.declared.typing.ActLines.{ActLines}
 use Rattle.roam_typing.specs.declared.typing.Stream.{Stream}
 use Rattle.roam_typing.specs.declared.typing.Stream.TheVariants.{Absent, Open, Ended, Spoiled, SpoiledLast}

@@ -1,11 +1,11 @@
 //! `roam attach`: a client start round its socket and the outer terminal.
-ghost use Rattle.std.specs.Prelude.{◌≡◌, ◌⊎◌, ◌+◌, ◌-◌, ◌<◌, [], ◌&&◌, ℕ, true, false, Option, None, Some, Ok, All, IfErr, IfOk, OnOk, IsOkUnless};
+ghost use Rattle.std.specs.Prelude.{◌≡◌, ◌⊎◌, ◌+◌, ◌-◌, ◌<◌, [], ◌&&◌, ℕ, true, false, Option, None, Some, Ok, Err, All, is_some, IfErr, IfOk, OnOk, IsOkUnless};
 ghost use Rattle.roam_acts.specs.Acts.{IsInRange};
 ghost use Rattle.roam_turns.specs.Painting.{IsBehind};
 ghost use Rattle.roam_attaching.specs.Notices.{end_by};
 ghost use Rattle.roam_attaching.specs.Runs.{IsHanded, IsOver, IsPending, IsSettled, Painted, RunsOn, TakesTurn, Tells, Turn, home_of, is_two, longest_end, painted_by, seen_at};
 ghost use Rattle.roam_turns.specs.declared.outer.Noted.{Noted};
-ghost use Rattle.roam_attaching.specs.Ways.{has_ended};
+ghost use Rattle.roam_attaching.specs.Ways.{IsWayTo, has_ended};
 ghost use Rattle.roam_typing.specs.Typing.{refused_at};
 ghost use Rattle.roam_typing.specs.declared.typing.Stream.TheVariants.{Ended};
 
@@ -18,8 +18,8 @@ use roam_cells::Fault;
 use roam_faults::RunFault;
 use roam_hub::{Addr, Client};
 use roam_numbers::id;
+use roam_outer_terminal::End;
 use roam_sockets::{Moments, loopback, random_id};
-use roam_terminals::End;
 use roam_turns::{Outer, attach_turn};
 use roam_typing::{Typist, acts_of};
 use roam_wire::Version;
@@ -102,6 +102,7 @@ fn acts_for<R: Files + AllocGlobal>(rt: &R, attach: &Attach<'_>) -> Result<Vec<A
     ensures faults { IfErr result (λ fault. (fault ≡ RunFault.Core Fault.OutOfMemory) ⊎ (fault ≡ RunFault.Read)
         ⊎ ((k : ℕ) × (fault ≡ RunFault.Act (k + 1)))) }
     ensures in_range { IfOk result (λ acts. All IsInRange acts.items) }
+    ensures watches { attach.now.watches ≡ true → IfOk result (λ acts. acts.items ≡ []) }
 {
     match attach.typed {
         Typed::File(path) if !attach.watches => acts_in(rt, path),
@@ -165,6 +166,7 @@ pub fn client_for<R: Files + RandomSource + AllocGlobal>(
     ensures id { IfOk result (λ client. (id : ℕ) → attach.now.client ≡ Some id → client.id ≡ id) }
     ensures version { IfOk result (λ client. client.kept.version ≡ attach.now.version) }
     ensures watches { IfOk result (λ client. client.kept.watches ≡ (attach.now.watches && is_two attach.now.version)) }
+    ensures read { result ≡ Err RunFault.Read → (attach.now.session ≡ None) ⊎ (attach.now.client ≡ None) }
     ensures faults { IfErr result (λ fault. (fault ≡ RunFault.Core Fault.OutOfMemory) ⊎ (fault ≡ RunFault.Read)) }
 {
     let session = session_for(rt, attach)?;
@@ -266,6 +268,7 @@ fn is_over<C: Clock + Drop, W: Write + Drop, T: Read>(
 // How a run ends that was not broken off.
 fn ended<C: Clock + Drop, W: Write + Drop>(ports: &ClientPorts<C, W>) -> Result<End, RunFault>
     ensures fault { IsOkUnless result RunFault.Write }
+    ensures failed { IfErr result (λ _. (is_some ports.now.failing ≡ true) ⊎ (ports.now.connection.waits.unread ≡ true)) }
     ensures well { IfOk result (λ _. (ports.now.failing ≡ None) × (ports.now.connection.waits.unread ≡ false)) }
     ensures heard { IfOk result (λ end. end ≡ end_by (has_ended ports.now.connection.way) ports.now.silence) }
 {
@@ -301,6 +304,9 @@ pub fn follow<C: Clock + Drop, W: Write + Drop, T: Read>(
     ensures faults { IfErr result (λ fault. (fault ≡ RunFault.Core Fault.OutOfMemory) ⊎ (fault ≡ RunFault.Write)
         ⊎ ((k : ℕ) × (fault ≡ RunFault.Act k)
         × (refused_at typist.new.lines.stream typist.new.lines.waiting.items ≡ Some k))) }
+    // It is broken off by what can't be shown only where that failed last, or nobody reads it any more.
+    ensures written { result ≡ Err RunFault.Write
+        → (is_some ports.new.failing ≡ true) ⊎ (ports.new.connection.waits.unread ≡ true) }
     ensures broken_off { IfErr result (λ fault. (fault ≡ RunFault.Core Fault.OutOfMemory) ⊎ ((turns : ℕ) × (noted : Option Noted)
         × RunsOn (home_of attach.now.home) (T.remaining typist.old.reader) (T.remaining typist.new.reader)
         typist.old.lines typist.new.lines (painted_by W.contents None ports.old) (painted_by W.contents noted ports.new)
@@ -329,6 +335,7 @@ fn connection_for<'r, R: Net + Clock + AllocGlobal>(
     rt: &'r R,
     attach: &Attach<'_>,
 ) -> Result<Connection<&'r R>, RunFault>
+    ensures way { IfOk result (λ connection. IsWayTo attach.now.home connection.way) }
     ensures faults { IfErr result (λ fault. (fault ≡ RunFault.Core Fault.OutOfMemory) ⊎ (fault ≡ RunFault.Bind)
         ⊎ (fault ≡ RunFault.Connect)) }
 {
@@ -345,6 +352,7 @@ fn ports_for<'r, R: Net + Clock + AllocGlobal, W: Write + Drop>(
     attach: &Attach<'_>,
     outer: W,
 ) -> Result<ClientPorts<&'r R, W>, RunFault>
+    ensures way { IfOk result (λ ports. IsWayTo attach.now.home ports.connection.way) }
     ensures faults { IfErr result (λ fault. (fault ≡ RunFault.Core Fault.OutOfMemory) ⊎ (fault ≡ RunFault.Bind)
         ⊎ (fault ≡ RunFault.Connect)) }
 {

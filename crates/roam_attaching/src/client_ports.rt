@@ -1,16 +1,17 @@
 //! The ports of a client start over sockets. What they carried isn't told.
 ghost use Rattle.std.specs.Prelude.{◌≡◌, ◌⊎◌, ◌↔◌, IsTrue, ◌-◌, ◌≤◌, [], ◌∷◌, ℕ, true, false, length, is_some, None, Some, IfOk, IfSome, IsSome, IfErr};
 ghost use Rattle.std.specs.Io.KnownBytes.{Appends, Keeps};
-ghost use Rattle.roam_terminals.specs.Silence.{due_of, is_over, end_of, notice_of};
+ghost use Rattle.roam_outer_terminal.specs.Silence.{due_of, is_over, end_of, notice_of};
 ghost use Rattle.roam_attaching.specs.Notices.{failing_after, has_given_up};
 ghost use Rattle.roam_sockets.specs.declared.moments.Moments.{Moments};
-ghost use Rattle.roam_attaching.specs.Ways.{has_ended};
+ghost use Rattle.roam_attaching.specs.Ways.{Goes, MoreGoes, Sends, StillWaits, has_ended};
 
 use crate::connecting::Connection;
 use mio::net::UnixStream;
+use roam_frames::Stream;
 use roam_hub::Addr;
+use roam_outer_terminal::{End, Silence, notice};
 use roam_sockets::SHORT_WAIT;
-use roam_terminals::{End, Silence, notice};
 use roam_turns::Ports;
 use std::alloc::Global;
 use std::io::Write;
@@ -117,6 +118,10 @@ impl<R: Clock + Drop, W: Write + Drop> ClientPorts<R, W> {
     pub fn rest(&mut self)
         ensures quiet { self.new.connection.waits.quiet ≡ true }
         ensures waited { IfSome self.new.connection.waits.longest (λ long. (self.old.connection.waits.quiet ≡ true) × (long ≡ SHORT_WAIT)) }
+        // It waits where nothing came, but where more goes at once.
+        ensures busy { self.old.connection.waits.quiet ≡ true → self.new.connection.waits.longest ≡ None
+            → MoreGoes ⟦<UnixStream as Stream>⟧.answers self.old.connection.way self.new.connection.way }
+        ensures goes { Goes ⟦<UnixStream as Stream>⟧.answers self.old.connection.moment self.old.connection.way self.new.connection.way }
         ensures others { self.new ≡ record self.old { connection = self.new.connection } }
         ensures connection { self.new.connection
             ≡ record self.old.connection { waits = self.new.connection.waits; way = self.new.connection.way } }
@@ -126,6 +131,7 @@ impl<R: Clock + Drop, W: Write + Drop> ClientPorts<R, W> {
 
     /// Sends what waits to go, as much as goes now, and doesn't wait.
     pub fn flush(&mut self)
+        ensures goes { Goes ⟦<UnixStream as Stream>⟧.answers self.old.connection.moment self.old.connection.way self.new.connection.way }
         ensures others { self.new ≡ record self.old { connection = self.new.connection } }
         ensures connection { self.new.connection ≡ record self.old.connection { way = self.new.connection.way } }
     {
@@ -212,6 +218,7 @@ impl<R: Clock + Drop, W: Write + Drop> Ports for ClientPorts<R, W> {
         ensures heard { IfSome result (λ _. self.new.silence ≡ record self.old.silence { heard = Some self.old.silence.moment }) }
         ensures unheard { result ≡ None → self.new.silence ≡ self.old.silence }
         ensures stirs { IfSome result (λ _. self.new.connection.waits.quiet ≡ false) }
+        ensures waiting { StillWaits self.old.connection.way self.new.connection.way }
         ensures written { Keeps (W.contents self.old.outer) (W.contents self.new.outer) }
         ensures notice { self.new.silence.told ≡ self.old.silence.told }
     {
@@ -221,6 +228,7 @@ impl<R: Clock + Drop, W: Write + Drop> Ports for ClientPorts<R, W> {
     }
 
     fn send(&mut self, to: Addr, bytes: &[u8]) -> bool
+        ensures sends { Sends self.old.connection.moment to self.old.connection.way self.new.connection.way bytes.now result }
         ensures written { Keeps (W.contents self.old.outer) (W.contents self.new.outer) }
         ensures notice { self.new.silence.told ≡ self.old.silence.told }
     {

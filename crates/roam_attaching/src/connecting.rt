@@ -1,6 +1,6 @@
 //! The way of a client start to its server, the clock and the wait. What they carried isn't told.
 ghost use Rattle.std.specs.Prelude.{◌≡◌, ◌⊎◌, ◌≤◌, ℕ, true, false, length, None, Some, IfOk, IfSome, IfErr};
-ghost use Rattle.roam_attaching.specs.Ways.{AllWent, IsFrom, MoreGoes, has_ended};
+ghost use Rattle.roam_attaching.specs.Ways.{AllWent, Goes, IsFreshStream, IsFreshUdp, IsFrom, MoreGoes, Sends, StillWaits, has_ended};
 
 use mio::event::Source;
 use mio::net::UnixStream;
@@ -33,6 +33,7 @@ impl Way {
     fn receive(&mut self, buf: &mut [u8]) -> Option<(Addr, usize)>
         ensures within { IfSome result (λ r. r.1 ≤ length buf.new) }
         ensures from { IfSome result (λ r. IsFrom self.old r.0) }
+        ensures waiting { StillWaits self.old self.new }
     {
         match self {
             Way::Udp(udp) => udp.receive(buf),
@@ -44,7 +45,9 @@ impl Way {
     }
 
     // Sends a datagram at a moment, and tells whether it went or waits to go.
-    fn send(&mut self, to: Addr, bytes: &[u8], now: u64) -> bool {
+    fn send(&mut self, to: Addr, bytes: &[u8], now: u64) -> bool
+        ensures sends { Sends now to self.old self.new bytes.now result }
+    {
         match self {
             Way::Udp(udp) => udp.send(to, bytes, now),
             Way::Stream(carrier) => carrier.send(bytes),
@@ -55,6 +58,7 @@ impl Way {
     fn flush(&mut self, now: u64) -> bool
         ensures all { result ≡ true → AllWent ⟦<UnixStream as Stream>⟧.answers self.old self.new }
         ensures more { result ≡ false → MoreGoes ⟦<UnixStream as Stream>⟧.answers self.old self.new }
+        ensures goes { Goes ⟦<UnixStream as Stream>⟧.answers now self.old self.new }
     {
         match self {
             Way::Udp(udp) => udp.flush(now),
@@ -90,6 +94,8 @@ impl<R: Clock + Drop> Connection<R> {
         moments: Moments<R>,
     ) -> Result<Connection<R>, RunFault>
         ensures moments { IfOk result (λ connection. (connection.moments ≡ moments) × (connection.moment ≡ 0)) }
+        ensures waits { IfOk result (λ connection. (connection.waits.quiet ≡ true) × (connection.waits.unread ≡ false)) }
+        ensures way { IfOk result (λ connection. IsFreshUdp connection.way) }
         ensures faults { IfErr result (λ fault. (fault ≡ RunFault.Bind) ⊎ (fault ≡ RunFault.Core Fault.OutOfMemory)) }
     {
         let waits = Waits::new(net, alloc)?;
@@ -111,6 +117,8 @@ impl<R: Clock + Drop> Connection<R> {
         moments: Moments<R>,
     ) -> Result<Connection<R>, RunFault>
         ensures moments { IfOk result (λ connection. (connection.moments ≡ moments) × (connection.moment ≡ 0)) }
+        ensures waits { IfOk result (λ connection. (connection.waits.quiet ≡ true) × (connection.waits.unread ≡ false)) }
+        ensures way { IfOk result (λ connection. IsFreshStream connection.way) }
         ensures faults { IfErr result (λ fault. (fault ≡ RunFault.Connect) ⊎ (fault ≡ RunFault.Bind)
             ⊎ (fault ≡ RunFault.Core Fault.OutOfMemory)) }
     {
@@ -187,6 +195,7 @@ impl<R: Clock + Drop> Connection<R> {
         // It waits where nothing came, but where more goes at once.
         ensures busy { self.old.waits.quiet ≡ true → self.new.waits.longest ≡ None
             → MoreGoes ⟦<UnixStream as Stream>⟧.answers self.old.way self.new.way }
+        ensures goes { Goes ⟦<UnixStream as Stream>⟧.answers self.old.moment self.old.way self.new.way }
         ensures others { self.new ≡ record self.old { waits = self.new.waits; way = self.new.way } }
     {
         if !self.way.flush(self.moment) {
@@ -197,6 +206,7 @@ impl<R: Clock + Drop> Connection<R> {
 
     /// Sends what waits to go, as much as goes now, and doesn't wait.
     pub fn flush(&mut self)
+        ensures goes { Goes ⟦<UnixStream as Stream>⟧.answers self.old.moment self.old.way self.new.way }
         ensures others { self.new ≡ record self.old { way = self.new.way } }
     {
         // What doesn't go now goes later.
@@ -208,6 +218,7 @@ impl<R: Clock + Drop> Ports for Connection<R> {
     fn now(&mut self) -> u64
         ensures set { (moment : ℕ) → self.old.moments ≡ Moments.Set moment → result ≡ moment }
         ensures moment { self.new.moment ≡ result }
+        ensures others { self.new ≡ record self.old { moments = self.new.moments; moment = result } }
     {
         self.moment = self.moments.now();
         self.moment
@@ -217,13 +228,17 @@ impl<R: Clock + Drop> Ports for Connection<R> {
         ensures within { IfSome result (λ r. r.1 ≤ length buf.new) }
         ensures from { IfSome result (λ r. IsFrom self.old.way r.0) }
         ensures stirs { IfSome result (λ _. self.new.waits.quiet ≡ false) }
+        ensures waiting { StillWaits self.old.way self.new.way }
     {
         let came = self.way.receive(buf)?;
         self.waits.stir();
         Some(came)
     }
 
-    fn send(&mut self, to: Addr, bytes: &[u8]) -> bool {
+    fn send(&mut self, to: Addr, bytes: &[u8]) -> bool
+        ensures sends { Sends self.old.moment to self.old.way self.new.way bytes.now result }
+        ensures others { self.new ≡ record self.old { way = self.new.way } }
+    {
         self.way.send(to, bytes, self.moment)
     }
 

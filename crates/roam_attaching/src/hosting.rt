@@ -1,6 +1,7 @@
 //! A client start that stays while outer terminals come and go at its socket.
-ghost use Rattle.std.specs.Prelude.{◌≡◌, ◌≢◌, ◌⊎◌, min, true, None, IfErr, IfSome};
-ghost use Rattle.roam_attaching.specs.Ways.{MoreGoes};
+ghost use Rattle.std.specs.Prelude.{◌≡◌, ◌≢◌, ◌⊎◌, ◌≤◌, ℕ, length, min, true, false, None, IfErr, IfSome};
+ghost use Rattle.roam_attaching.specs.Ways.{Goes, IsFrom, MoreGoes, Sends, StillWaits, has_ended};
+ghost use Rattle.roam_sockets.specs.declared.moments.Moments.{Moments};
 ghost use Rattle.roam_sockets.specs.Waits.{wait_until};
 
 use crate::connecting::Connection;
@@ -9,8 +10,9 @@ use roam_cells::Fault;
 use roam_faults::RunFault;
 use roam_frames::Stream;
 use roam_hub::{Addr, Client};
+use roam_outer_terminal::{End, Opaque};
 use roam_sockets::{listen, wait_until};
-use roam_terminals::{Door, End, Listening, Opaque, SharedStart, run_shared};
+use roam_terminals::{Door, Listening, SharedStart, run_shared};
 use roam_turns::Ports;
 use std::alloc::Global;
 use std::fs::{Files, remove_file};
@@ -25,15 +27,25 @@ struct Doorway<R> {
 }
 
 impl<R: Clock + Drop> Ports for Doorway<R> {
-    fn now(&mut self) -> u64 {
+    fn now(&mut self) -> u64
+        ensures set { (moment : ℕ) → self.old.connection.moments ≡ Moments.Set moment → result ≡ moment }
+        ensures moment { self.new.connection.moment ≡ result }
+    {
         self.connection.now()
     }
 
-    fn receive(&mut self, buf: &mut [u8]) -> Option<(Addr, usize)> {
+    fn receive(&mut self, buf: &mut [u8]) -> Option<(Addr, usize)>
+        ensures within { IfSome result (λ r. r.1 ≤ length buf.new) }
+        ensures from { IfSome result (λ r. IsFrom self.old.connection.way r.0) }
+        ensures stirs { IfSome result (λ _. self.new.connection.waits.quiet ≡ false) }
+        ensures waiting { StillWaits self.old.connection.way self.new.connection.way }
+    {
         self.connection.receive(buf)
     }
 
-    fn send(&mut self, to: Addr, bytes: &[u8]) -> bool {
+    fn send(&mut self, to: Addr, bytes: &[u8]) -> bool
+        ensures sends { Sends self.old.connection.moment to self.old.connection.way self.new.connection.way bytes.now result }
+    {
         self.connection.send(to, bytes)
     }
 
@@ -56,7 +68,11 @@ impl<R: Clock + Drop> Ports for Doorway<R> {
 
 impl<R: Clock + Drop> Door<Opaque<UnixStream>> for Doorway<R> {
     // A socket reports once, so there is no wait where one came: others may be there.
-    fn next(&mut self) -> Option<Opaque<UnixStream>> {
+    fn next(&mut self) -> Option<Opaque<UnixStream>>
+        ensures stirs { IfSome result (λ _. self.new.connection.waits.quiet ≡ false) }
+        ensures none { result ≡ None → self.new ≡ self.old }
+        ensures way { self.new.connection.way ≡ self.old.connection.way }
+    {
         let Ok((mut stream, _)) = self.listener.accept() else {
             return None;
         };
@@ -65,13 +81,17 @@ impl<R: Clock + Drop> Door<Opaque<UnixStream>> for Doorway<R> {
         Some(Opaque::new(stream))
     }
 
-    fn has_ended(&mut self) -> bool {
+    fn has_ended(&mut self) -> bool
+        ensures ended { result ≡ has_ended self.old.connection.way }
+        ensures same { self.new ≡ self.old }
+    {
         self.connection.has_ended()
     }
 
     fn rest(&mut self, longest: u64, due: Option<u64>)
         ensures waited { IfSome self.new.connection.waits.longest (λ long. (longest ≢ 0)
             × (long ≡ min longest (wait_until due self.old.connection.moment))) }
+        ensures goes { Goes ⟦<UnixStream as Stream>⟧.answers self.old.connection.moment self.old.connection.way self.new.connection.way }
         // It waits where nothing came, but where more goes at once.
         ensures busy { longest ≢ 0 → self.old.connection.waits.quiet ≡ true → self.new.connection.waits.longest ≡ None
             → MoreGoes ⟦<UnixStream as Stream>⟧.answers self.old.connection.way self.new.connection.way }

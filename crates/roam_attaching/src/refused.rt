@@ -2,8 +2,8 @@
 use crate::attaching::{Attach, Home, Typed};
 use mio::net::UnixStream;
 use roam_faults::RunFault;
+use roam_outer_terminal::End;
 use roam_sockets::try_listen;
-use roam_terminals::End;
 use std::fs::{self, Files};
 use std::io;
 use std::net::Net;

@@ -1,14 +1,2 @@
-mod Answering
-mod Asked
-mod Bound
-mod Bringing
-mod Clipped
-mod Cutting
-mod Framing
-mod Inquired
-mod News
 mod Rung
-mod Seated
-mod Sifting
 mod Turning
-mod Telling

@@ -11,14 +11,13 @@ use Rattle.roam_sockets.specs.Lanes.{SendsTo, is_any_waiting}
 use Rattle.roam_sockets.specs.Waits.{wait_for}
 use Rattle.roam_sockets.specs.declared.clients.Clients.{Clients}
 use Rattle.roam_sockets.specs.declared.udp.Udp.{Udp}
-use Rattle.roam_serving.specs.Clipping.{AreToldClips}
-use Rattle.roam_serving.specs.Questioning.{AreToldAsks}
-use Rattle.roam_serving.specs.Following.{AreAllTold, ArePanesOf}
-use Rattle.roam_serving.specs.Tellings.{AreToldBeside}
-use Rattle.roam_serving.specs.Moments.{sooner}
-use Rattle.roam_serving.specs.declared.clipping.ClipTimes.{ClipTimes}
-use Rattle.roam_serving.specs.declared.following.Follower.{Follower}
-use Rattle.roam_serving.specs.declared.panes.Pane.{Pane}
+use Rattle.roam_serving.specs.Tellings.{AreToldClips, AreToldAsks, AreToldBeside}
+use Rattle.roam_followers.specs.Following.{AreAllTold}
+use Rattle.roam_serving.specs.Listed.{ArePanesOf}
+use Rattle.roam_pane_sockets.specs.Moments.{sooner}
+use Rattle.roam_serving.specs.declared.tellings.ClipTimes.{ClipTimes}
+use Rattle.roam_followers.specs.declared.following.Follower.{Follower}
+use Rattle.roam_pane_sockets.specs.declared.panes.Pane.{Pane}
 use Rattle.roam_serving.specs.declared.tellings.AsideTimes.{AsideTimes}
 
 -- datagrams are kept back so that they go at a pace

@@ -1,25 +1,28 @@
--- When what stands beside the panes' terminals is told.
-use Rattle.std.specs.Prelude.{ℕ, zero, suc, ◌≡◌, ◌||◌, ◌&&◌, ◌==◌, Bool, true, false, not, List, [], ◌∷◌, Option, Some, None, if◌then◌else◌}
+-- When what stands beside the panes' terminals is told, and texts for the clipboard, and questions.
+use Rattle.std.specs.Prelude.{ℕ, zero, suc, ◌≡◌, ◌||◌, ◌&&◌, ◌==◌, Bool, true, false, not, List, Option, Some, None, if◌then◌else◌}
 use Rattle.std.specs.List.{AllZip}
 use Rattle.roam_pane_list.specs.Besides.{beside_at, in_life}
 use Rattle.roam_pane_list.specs.declared.beside_list.BesideList.{BesideList}
 use Rattle.roam_pane_list.specs.declared.beside_list.BesidePane.{BesidePane}
-use Rattle.roam_serving.specs.Asides.{AreBeside}
-use Rattle.roam_serving.specs.Following.{TellsBeside}
-use Rattle.roam_serving.specs.Moments.{after, is_time}
-use Rattle.roam_serving.specs.declared.following.Follower.{Follower}
-use Rattle.roam_serving.specs.declared.panes.Pane.{Pane}
+use Rattle.roam_pane_list.specs.declared.ask_list.AskList.{AskList}
+use Rattle.roam_pane_list.specs.declared.ask_list.AskPane.{AskPane}
+use Rattle.roam_pane_list.specs.declared.clip_list.ClipList.{ClipList}
+use Rattle.roam_pane_sockets.specs.Besides.{AreBeside}
+use Rattle.roam_followers.specs.Following.{TellsBeside, any_asked}
+use Rattle.roam_pane_sockets.specs.Moments.{after, is_time}
+use Rattle.roam_followers.specs.declared.following.Follower.{Follower}
+use Rattle.roam_pane_sockets.specs.declared.panes.Pane.{Pane}
 use Rattle.roam_serving.specs.declared.tellings.AsideTimes.{AsideTimes}
+use Rattle.roam_pane_sockets.specs.Clips.{AreClips}
+use Rattle.roam_serving.specs.declared.tellings.ClipTimes.{ClipTimes}
+use Rattle.roam_pane_sockets.specs.Questions.{AreAsks}
+use Rattle.roam_followers.specs.Clipping.{TellsEachClips, any_wants}
+use Rattle.roam_followers.specs.Questioning.{TellsAsks}
 
 -- when it is to be looked again: where something might be told now, only once something is new
 abbrev pub again_at : Bool → Option ℕ → ℕ → Option ℕ
 again_at true last pace = None
 again_at false last pace = after last pace
-
--- a program asked for it
-abbrev pub any_asked : {S : Type 0} → List (Follower S) → Bool
-any_asked [] = false
-any_asked (f ∷ fs) = f.aside.is_asked || any_asked fs
 
 -- a bell rang in a pane that is there
 abbrev pub rang_in : Option BesidePane → Option BesidePane → Bool
@@ -54,3 +57,28 @@ pub record AreToldBeside {S : Type 0} (contents : S → Option (List ℕ)) (time
   pub told : any_asked olds ≡ true → is_time times.told moment 20 ≡ true → (now : BesideList)
       × AreBeside (is_time times.rang moment 1000) times.shown panes now × AllZip (TellsBeside contents now panes) olds news
       × (times' ≡ times_told now moment times)
+
+-- what is known once one was told at a moment, or none
+abbrev pub times_clipped : Bool → ℕ → ClipTimes → ClipTimes
+times_clipped any moment t = record {
+  told = if any then Some moment else t.told;
+  due = again_at (is_time t.told moment 1000) t.told 1000;
+}
+
+-- Each program was told which texts are new, no sooner than a second after the last that was told; where nobody wants them nothing was.
+pub record AreToldClips {S : Type 0} (contents : S → Option (List ℕ)) (times times' : ClipTimes) (moment : ℕ) (panes : List Pane)
+    (olds news : List (Follower S)) : Type 0 where
+  pub unwanted : any_wants olds ≡ false → (news ≡ olds) × (times' ≡ record times { due = None })
+  pub told : any_wants olds ≡ true → (now : ClipList) × (any : Bool) × AreClips panes now
+      × TellsEachClips contents (is_time times.told moment 1000) now panes any olds news × (times' ≡ times_clipped any moment times)
+
+-- how many a pane's program has asked, as far as is known
+abbrev pub count_asked : Option AskPane → ℕ
+count_asked None = 0
+count_asked (Some a) = a.asked
+
+-- Each program that asked for that was told what is new of what the panes' programs ask, in its place.
+pub record AreToldAsks {S : Type 0} (contents : S → Option (List ℕ)) (panes : List Pane) (olds news : List (Follower S)) : Type 0 where
+  pub now : AskList
+  pub are : AreAsks panes now
+  pub told : AllZip (TellsAsks contents now panes) olds news

@@ -6,32 +6,29 @@ ghost use Rattle.roam_sockets.specs.Addresses.{number_of};
 ghost use Rattle.roam_sockets.specs.Clients.{Accepts, IsOf, IsQueuedFor};
 ghost use Rattle.roam_sockets.specs.declared.udp.Udp.{Udp as UdpOf};
 ghost use Rattle.roam_sockets.specs.Waits.{wait_for};
-ghost use Rattle.roam_serving.specs.Asking.{HaveAsked, IsAsked, Settles};
-ghost use Rattle.roam_serving.specs.Asks.{count_asked, pane_asks};
-ghost use Rattle.roam_serving.specs.Clipping.{AreToldClips};
-ghost use Rattle.roam_serving.specs.Closing.{GivesOwn, HearsAnswer, own_address};
-ghost use Rattle.roam_serving.specs.Following.{AreAllTold, HaveCome, most_taken, panes_path};
+ghost use Rattle.roam_followers.specs.Asking.{HaveAsked, IsAsked, Settles};
+ghost use Rattle.roam_serving.specs.Tellings.{count_asked, AreToldClips, AreToldBeside, AreToldAsks};
+ghost use Rattle.roam_pane_sockets.specs.Questions.{pane_asks};
+ghost use Rattle.roam_followers.specs.Closing.{GivesOwn, HearsAnswer, own_address};
+ghost use Rattle.roam_followers.specs.Following.{AreAllTold, HaveCome, most_taken, panes_path};
 ghost use Rattle.roam_serving.specs.Rests.{Flushes, SendsBy, is_paced};
-ghost use Rattle.roam_serving.specs.declared.closing.Closer.{Closer as CloserOf};
-ghost use Rattle.roam_serving.specs.Tellings.{AreToldBeside};
-ghost use Rattle.roam_serving.specs.Moments.{sooner, standing};
-ghost use Rattle.roam_serving.specs.Questioning.{AreToldAsks};
-ghost use Rattle.roam_serving.specs.Panes.{IsPortOf, clients_path, paths_of};
-ghost use Rattle.roam_serving.specs.Inflows.{IsFreshInflow};
-ghost use Rattle.roam_serving.specs.Peers.{Asks, Changes, Hears, IsStill, Lives, any_goes_on, frames_until};
-ghost use Rattle.roam_serving.specs.Sieves.{bytes_given};
+ghost use Rattle.roam_followers.specs.declared.closing.Closer.{Closer as CloserOf};
+ghost use Rattle.roam_pane_sockets.specs.Moments.{sooner, standing};
+ghost use Rattle.roam_serving.specs.Ports.{IsPortOf, clients_path};
+ghost use Rattle.roam_pane_sockets.specs.Panes.{paths_of};
+ghost use Rattle.roam_pane_sockets.specs.Inflows.{HandsOn, IsFreshInflow};
+ghost use Rattle.roam_pane_sockets.specs.Peers.{Asks, Changes, HasFreeIn, Hears, IsStill, Lives, any_goes_on, frames_until};
+ghost use Rattle.roam_pane_sockets.specs.Sieves.{CountsSome, bytes_given};
 
-use crate::clipping::ClipTimes;
-use crate::closing::{Closer, OWN};
-use crate::following::Followers;
-use crate::panes::Panes;
-use crate::tellings::{AsideTimes, sooner, standing};
+use crate::tellings::{AsideTimes, ClipTimes};
 use mio::net::UnixStream;
 use roam_cells::Fault;
 use roam_faults::RunFault;
+use roam_followers::{Closer, Followers, OWN};
 use roam_frames::Stream;
 use roam_hub::Addr;
 use roam_pane_list::{AskPane, PaneList};
+use roam_pane_sockets::{Panes, sooner, standing};
 use roam_sockets::{Clients, Moments, Udp, Waits, next_by_turns, wait_for};
 use roam_turns::Ports;
 use std::alloc::Global;
@@ -443,6 +440,7 @@ impl<R: Clock + Drop> ServerPorts<R> {
 fn some_bytes(count: Option<usize>) -> Option<usize>
     ensures some { IfSome result (λ n. (0 < n) × (count ≡ Some n)) }
     ensures same { (buf : List ℕ) → bytes_given result buf ≡ bytes_given count buf }
+    ensures stays { CountsSome count → CountsSome result }
 {
     match count {
         Some(0) => None,
@@ -514,6 +512,10 @@ impl<R: Clock + Drop> Ports for ServerPorts<R> {
         ensures within { IfSome result (λ n. n ≤ length buf.new) }
         // What came in this life of the pane is given piece after piece, as it came or as it is meant, and stands beside its terminal.
         ensures hears { Changes (Hears (is_some result) (bytes_given result buf.new)) pane self.old.panes.all.items
+            self.new.panes.all.items }
+        ensures free { 1 ≤ pane → HasFreeIn self.old.moment (slice_get self.old.panes.all.items (pane - 1)) → 0 < length buf.old
+            → CountsSome result }
+        ensures hands { Changes (λ p q. IfSome result (λ n. HandsOn self.old.moment p.inflow q.inflow n)) pane self.old.panes.all.items
             self.new.panes.all.items }
         ensures stirs { IfSome result (λ _. self.new.waits.quiet ≡ false) }
         ensures still { self.new.waits.quiet ≡ true → 1 ≤ pane → IsStill pane self.old.panes.all.items self.new.panes.all.items }

@@ -4,11 +4,11 @@ ghost use Rattle.roam_session.specs.Lives.{life_of};
 ghost use Rattle.roam_session.specs.Places.{rect_at};
 ghost use Rattle.roam_world.specs.Servers.{Server as ServerOf};
 ghost use Rattle.roam_hub.specs.Servers.{Stands};
-ghost use Rattle.roam_serving.specs.Following.{ArePanesOf, pane_of};
-ghost use Rattle.roam_serving.specs.Peers.{frames_until};
+ghost use Rattle.roam_serving.specs.Listed.{ArePanesOf, pane_of};
+ghost use Rattle.roam_pane_sockets.specs.Peers.{frames_until};
 ghost use Rattle.roam_serving.specs.Rests.{HasRested, HasToldAll};
 ghost use Rattle.roam_serving.specs.Runs.{Serves, ServesTurns};
-ghost use Rattle.roam_serving.specs.Moments.{sooner};
+ghost use Rattle.roam_pane_sockets.specs.Moments.{sooner};
 
 use crate::server_ports::{OwnStart, ServerPorts};
 use mio::net::UnixStream;

@@ -1,11 +1,12 @@
-//! When what stands beside the panes' terminals is told.
+//! When what stands beside the panes' terminals is told, and texts for the clipboard.
 ghost use Rattle.std.specs.Prelude.{◌≡◌, None};
 ghost use Rattle.roam_pane_list.specs.Besides.{nothing_beside};
-ghost use Rattle.roam_serving.specs.Tellings.{has_rung, rang_in, times_told};
-ghost use Rattle.roam_serving.specs.Moments.{after, is_time, sooner, standing};
+ghost use Rattle.roam_pane_sockets.specs.Moments.{after, is_time};
+ghost use Rattle.roam_serving.specs.Tellings.{has_rung, rang_in, times_clipped, times_told};
 
 use roam_acts::limits::PANES_END;
 use roam_pane_list::{BesideList, BesidePane, in_life};
+use roam_pane_sockets::{after, is_time};
 
 /// How many milliseconds lie between what is told of that at least.
 const TELLING: u64 = 20;
@@ -13,8 +14,8 @@ const TELLING: u64 = 20;
 /// How many milliseconds lie between bells at least.
 const RINGING: u64 = 1000;
 
-/// A moment stands still for so many milliseconds at most, while a frame goes on.
-const LONGEST_STAND: u64 = 50;
+/// How many milliseconds lie between texts for the clipboard at least.
+const CLIPPING: u64 = 1000;
 
 /// What was told last of what stands beside the panes' terminals, and when, and when it is to be looked again.
 #[derive(Drop)]
@@ -24,49 +25,6 @@ pub(crate) struct AsideTimes {
     // When a bell was told last.
     rang: Option<u64>,
     due: Option<u64>,
-}
-
-/// Whether so many milliseconds have passed since a moment, if there was one.
-pub(crate) fn is_time(last: Option<u64>, now: u64, pace: u64) -> bool
-    ensures time { result ≡ is_time last now pace }
-{
-    match last {
-        None => true,
-        Some(last) => now.saturating_sub(last) >= pace,
-    }
-}
-
-/// What the moment is where a clock tells this one and it was that one before: that one while a frame goes on, so that no tick makes a
-/// number within it, but not for long.
-pub(crate) fn standing(goes_on: bool, before: u64, now: u64) -> u64
-    ensures standing { result ≡ standing goes_on before now }
-{
-    if goes_on && now.saturating_sub(before) < LONGEST_STAND {
-        before
-    } else {
-        now
-    }
-}
-
-/// The sooner of two moments, if there is any.
-pub(crate) fn sooner(one: Option<u64>, other: Option<u64>) -> Option<u64>
-    ensures sooner { result ≡ sooner one other }
-{
-    match (one, other) {
-        (None, other) => other,
-        (one, None) => one,
-        (Some(one), Some(other)) => Some(one.min(other)),
-    }
-}
-
-/// So many milliseconds after a moment, if there was one.
-pub(crate) fn after(last: Option<u64>, pace: u64) -> Option<u64>
-    ensures after { result ≡ after last pace }
-{
-    match last {
-        None => None,
-        Some(last) => Some(last.saturating_add(pace)),
-    }
 }
 
 // Whether a bell rang in a pane that is there.
@@ -165,5 +123,59 @@ impl AsideTimes {
         };
         self.shown = *now;
         self.told = Some(moment);
+    }
+}
+
+/// When a program was told one last, and when it is to be looked again.
+#[derive(Drop)]
+pub(crate) struct ClipTimes {
+    told: Option<u64>,
+    due: Option<u64>,
+}
+
+impl ClipTimes {
+    /// None was told.
+    pub(crate) fn new() -> ClipTimes
+        ensures none { result ≡ record { told = None; due = None } }
+    {
+        ClipTimes {
+            told: None,
+            due: None,
+        }
+    }
+
+    /// Whether one may be told at this moment.
+    pub(crate) fn is_time(&self, now: u64) -> bool
+        ensures time { result ≡ is_time self.now.told now 1000 }
+    {
+        is_time(self.told, now, CLIPPING)
+    }
+
+    /// When it is to be looked again, if at a moment.
+    pub(crate) fn due(&self) -> Option<u64>
+        ensures due { result ≡ self.now.due }
+    {
+        self.due
+    }
+
+    /// Nobody wants them.
+    pub(crate) fn rest(&mut self)
+        ensures rests { self.new ≡ record self.old { due = None } }
+    {
+        self.due = None;
+    }
+
+    /// One was told at a moment, or none; where none might be, it is to be looked again once one may.
+    pub(crate) fn tells(&mut self, any: bool, moment: u64)
+        ensures tells { self.new ≡ times_clipped any moment self.old }
+    {
+        self.due = if self.is_time(moment) {
+            None
+        } else {
+            after(self.told, CLIPPING)
+        };
+        if any {
+            self.told = Some(moment);
+        }
     }
 }

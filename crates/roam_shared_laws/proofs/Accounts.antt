@@ -11,23 +11,23 @@ use Rattle.roam_hub.specs.declared.addresses.Addr.{Addr}
 use Rattle.roam_turns.specs.Calls.{PortCall}
 use Rattle.roam_typing.specs.declared.entries.Entry.{Entry}
 use Rattle.roam_typing.specs.Lines.{ended_all}
-use Rattle.roam_terminals.specs.Hearing.{HearsOne, TakesLine}
-use Rattle.roam_terminals.specs.Hearing.TakesLine.{taken, waits, no_memory, looks, untold, refused, nothing, unheard}
-use Rattle.roam_terminals.specs.Painted.{MayPaint}
-use Rattle.roam_terminals.specs.Painted.MayPaint.{painted, told as was_told, not_ready}
+use Rattle.roam_outer_terminal.specs.Hearing.{HearsOne, TakesLine}
+use Rattle.roam_outer_terminal.specs.Hearing.TakesLine.{taken, waits, no_memory, looks, untold, refused, nothing, unheard}
+use Rattle.roam_outer_terminal.specs.Painted.{MayPaint}
+use Rattle.roam_outer_terminal.specs.Painted.MayPaint.{painted, told as was_told, not_ready}
 use Rattle.roam_terminals.specs.Running.{Asks, Came, Comes, IsStep, RunStep, RunsBy, Took}
-use Rattle.roam_terminals.specs.Sharing.{AreEach, HearsAll, Settles, Shared, is_gone, is_let_go, turned_round, who_stay}
-use Rattle.roam_terminals.specs.Terminals.{Stands, Types, is_heard, typed_by}
-use Rattle.roam_terminals.specs.Writing.{TellsSilence, has_gone, is_empty, state_after, unwritten}
-use Rattle.roam_terminals.specs.Writing.{SaysSilence}
-use Rattle.roam_terminals.specs.Writing.SaysSilence.{heard as is_heard_again, silent as is_silent, quiet as is_as_it_was}
-use Rattle.roam_terminals.specs.Writing.TellsSilence.{over as is_told_over, told as is_told_more, quiet as is_quiet, says as in_records}
-use Rattle.roam_terminals.specs.declared.silence.Silence.{Silence}
-use Rattle.roam_terminals.specs.declared.terminal.State.{State}
-use Rattle.roam_terminals.specs.declared.terminal.State.TheVariants.{Here, Gone}
-use Rattle.roam_terminals.specs.declared.terminal.Terminal.{Terminal}
-use Rattle.roam_terminals.proofs.Heard.{watches_read}
-use Rattle.roam_terminals.proofs.Taking.{stands_taken}
+use Rattle.roam_terminals.specs.Sharing.{AreEach, HearsAll, Shared, turned_round, who_stay}
+use Rattle.roam_outer_terminal.specs.Writing.{SaysSilence, Settles, TellsSilence, has_gone, is_empty, state_after, unwritten}
+use Rattle.roam_outer_terminal.specs.Staying.{is_gone, is_let_go}
+use Rattle.roam_outer_terminal.specs.Terminals.{Stands, Types, is_heard, typed_by}
+use Rattle.roam_outer_terminal.specs.Writing.SaysSilence.{heard as is_heard_again, silent as is_silent, quiet as is_as_it_was}
+use Rattle.roam_outer_terminal.specs.Writing.TellsSilence.{over as is_told_over, told as is_told_more, quiet as is_quiet, says as in_records}
+use Rattle.roam_outer_terminal.specs.declared.silence.Silence.{Silence}
+use Rattle.roam_outer_terminal.specs.declared.terminal.State.{State}
+use Rattle.roam_outer_terminal.specs.declared.terminal.State.TheVariants.{Here, Gone}
+use Rattle.roam_outer_terminal.specs.declared.terminal.Terminal.{Terminal}
+use Rattle.roam_outer_terminal.proofs.Heard.{watches_read}
+use Rattle.roam_outer_terminal.proofs.TakenLines.{stands_taken}
 use Rattle.roam_shared_laws.specs.Lines.{Account, AreAccounts, AreActsOf, AreGone, AreThere, GoesOn, IsAccount, IsAt, IsTyped, LinesAreTyped, Typed, acts_of, all_acts, came_in, count_of, lasts}
 use Rattle.roam_shared_laws.specs.Lines.GoesOn.{still, types, turns}
 use Rattle.roam_shared_laws.proofs.Leading.{came_on}

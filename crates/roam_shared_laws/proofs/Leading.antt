@@ -26,22 +26,23 @@ use Rattle.roam_telling.specs.Saying.{texts_of}
 use Rattle.roam_telling.specs.Telling.{TellingView, nothing_told}
 use Rattle.roam_typing.specs.declared.entries.Entry.{Entry}
 use Rattle.roam_typing.specs.declared.entries.Entry.TheVariants.{Acts, Paste, Told, Repaint, Watch, Guess, Look, LookStyled, Show, End}
-use Rattle.roam_terminals.specs.Hearing.{HearsOne, IsRead, IsRefusal, IsRefused, Makes, TakesLine, may_take, over_after, telling_after, waiting_after}
-use Rattle.roam_terminals.specs.Hearing.IsRead.{read, refused as was_refused}
-use Rattle.roam_terminals.specs.Hearing.TakesLine.{taken, waits, no_memory, looks, untold, refused, nothing, unheard}
-use Rattle.roam_terminals.specs.Overlaid.{IsOver, on_show}
-use Rattle.roam_terminals.specs.Painted.{MayPaint, Paints, is_here, is_open, is_ready, shown_of}
-use Rattle.roam_terminals.specs.Painted.MayPaint.{painted, told as was_told, not_ready}
+use Rattle.roam_outer_terminal.specs.Hearing.{HearsOne, IsRead, IsRefusal, IsRefused, Makes, TakesLine, may_take, over_after, telling_after, waiting_after}
+use Rattle.roam_outer_terminal.specs.Hearing.IsRead.{read, refused as was_refused}
+use Rattle.roam_outer_terminal.specs.Hearing.TakesLine.{taken, waits, no_memory, looks, untold, refused, nothing, unheard}
+use Rattle.roam_outer_terminal.specs.Overlaid.{IsOver, on_show}
+use Rattle.roam_outer_terminal.specs.Painted.{MayPaint, Paints, is_here, is_open, is_ready, shown_of}
+use Rattle.roam_outer_terminal.specs.Painted.MayPaint.{painted, told as was_told, not_ready}
 use Rattle.roam_terminals.specs.Running.{Asks, Came, Comes, IsFresh, IsStep, RunStep, RunsBy, Took}
-use Rattle.roam_terminals.specs.Sharing.{AreEach, HearsAll, Settles, Shared, is_gone, turned_round, who_stay}
-use Rattle.roam_terminals.specs.Silence.{notice_of}
-use Rattle.roam_terminals.specs.Writing.{Flushes, SaysSilence, TellsSilence, is_empty}
-use Rattle.roam_terminals.specs.Writing.SaysSilence.{heard as is_heard_again, silent as is_silent, quiet as is_as_it_was}
-use Rattle.roam_terminals.specs.Writing.TellsSilence.{over as is_told_over, told as is_told_more, quiet as is_quiet, says as in_records}
-use Rattle.roam_terminals.specs.declared.silence.Silence.{Silence}
-use Rattle.roam_terminals.specs.declared.terminal.Terminal.{Terminal}
-use Rattle.roam_terminals.proofs.Heard.{taken_outer}
-use Rattle.roam_terminals.proofs.Written.{empty_is}
+use Rattle.roam_terminals.specs.Sharing.{AreEach, HearsAll, Shared, turned_round, who_stay}
+use Rattle.roam_outer_terminal.specs.Writing.{Flushes, SaysSilence, Settles, TellsSilence, is_empty}
+use Rattle.roam_outer_terminal.specs.Staying.{is_gone}
+use Rattle.roam_outer_terminal.specs.Silence.{notice_of}
+use Rattle.roam_outer_terminal.specs.Writing.SaysSilence.{heard as is_heard_again, silent as is_silent, quiet as is_as_it_was}
+use Rattle.roam_outer_terminal.specs.Writing.TellsSilence.{over as is_told_over, told as is_told_more, quiet as is_quiet, says as in_records}
+use Rattle.roam_outer_terminal.specs.declared.silence.Silence.{Silence}
+use Rattle.roam_outer_terminal.specs.declared.terminal.Terminal.{Terminal}
+use Rattle.roam_outer_terminal.proofs.Heard.{taken_outer}
+use Rattle.roam_outer_terminal.proofs.Written.{empty_is}
 use Rattle.roam_shared_laws.specs.Lines.{came_in}
 use Rattle.roam_shared_laws.specs.Paintings.{AreLed, FitsAll, IsFollowed, IsLed, IsNotedOf, IsToldAs, IsOneOf, LeadsAny, PaintingsLead, screens_in}
 use Rattle.roam_shared_laws.proofs.Lists.{noted_of_more, one_of_last, one_of_more}

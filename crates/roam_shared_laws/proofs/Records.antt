@@ -27,11 +27,11 @@ use Rattle.roam_typing.specs.declared.entries.Entry.{Entry}
 use Rattle.roam_typing.specs.declared.entries.Entry.TheVariants.{Acts, Paste, Told, Repaint, Watch, Guess, Look, LookStyled, Show, End}
 use Rattle.roam_typing.specs.declared.showings.Showing.{Showing}
 use Rattle.roam_typing.specs.declared.showings.Showing.TheVariants as showing
-use Rattle.roam_terminals.specs.Hearing.{IsRefusal, shown_then, telling_after}
-use Rattle.roam_terminals.specs.Overlaid.{IsOver}
-use Rattle.roam_terminals.specs.Painted.{TellsAll, TellsIt, TellsNoted, shown_of, shown_screen}
-use Rattle.roam_terminals.specs.Writing.{Flushes}
-use Rattle.roam_terminals.specs.declared.terminal.Terminal.{Terminal}
+use Rattle.roam_outer_terminal.specs.Hearing.{IsRefusal, shown_then, telling_after}
+use Rattle.roam_outer_terminal.specs.Overlaid.{IsOver}
+use Rattle.roam_outer_terminal.specs.Painted.{TellsAll, TellsIt, TellsNoted, shown_of, shown_screen}
+use Rattle.roam_outer_terminal.specs.Writing.{Flushes}
+use Rattle.roam_outer_terminal.specs.declared.terminal.Terminal.{Terminal}
 use Rattle.roam_shared_laws.specs.Paintings.{IsLaidOf, IsLed, IsNotedOf, IsOneOf, IsPartOf, IsToldAs}
 use Rattle.roam_shared_laws.proofs.Lists.{noted_of_more, one_of_last, one_of_more}
 

@@ -10,10 +10,11 @@ use Rattle.roam_turns.specs.Parts.{Makes}
 use Rattle.roam_turns.specs.Turns.{QuietTurn}
 use Rattle.roam_typing.specs.Lines.{ended_all}
 use Rattle.roam_terminals.specs.Running.{Asks, Came, RunStep, RunsBy, Took}
-use Rattle.roam_terminals.specs.Sharing.{Shared, is_gone}
-use Rattle.roam_terminals.specs.Terminals.{Stands, TakesAll, Types}
-use Rattle.roam_terminals.specs.declared.terminal.State.TheVariants.{Gone}
-use Rattle.roam_terminals.specs.declared.terminal.Terminal.{Terminal}
+use Rattle.roam_terminals.specs.Sharing.{Shared}
+use Rattle.roam_outer_terminal.specs.Staying.{is_gone}
+use Rattle.roam_outer_terminal.specs.Terminals.{Stands, TakesAll, Types}
+use Rattle.roam_outer_terminal.specs.declared.terminal.State.TheVariants.{Gone}
+use Rattle.roam_outer_terminal.specs.declared.terminal.Terminal.{Terminal}
 
 -- the streams at whose other ends terminals came, in their order
 abbrev pub came_in : {S : Type 0} → List (RunStep S) → List S

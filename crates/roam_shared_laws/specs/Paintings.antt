@@ -14,10 +14,10 @@ use Rattle.roam_text.specs.Log.{Item}
 use Rattle.roam_turns.specs.Calls.{PortCall}
 use Rattle.roam_turns.specs.Painting.{DisplaysNoted, Fits, ShowsAt}
 use Rattle.roam_turns.specs.declared.outer.Noted.{Noted}
-use Rattle.roam_terminals.specs.Overlaid.{on_show}
+use Rattle.roam_outer_terminal.specs.Overlaid.{on_show}
 use Rattle.roam_terminals.specs.Running.{RunStep, RunsBy}
 use Rattle.roam_terminals.specs.Sharing.{Shared}
-use Rattle.roam_terminals.specs.declared.terminal.Terminal.{Terminal}
+use Rattle.roam_outer_terminal.specs.declared.terminal.Terminal.{Terminal}
 use Rattle.roam_shared_laws.specs.Lines.{came_in}
 
 -- the screens that the start showed after each step of a run

@@ -2,7 +2,7 @@
 ghost use Rattle.roam_shared_laws.specs.Lines.{LinesAreTyped};
 ghost use Rattle.roam_shared_laws.specs.Paintings.{PaintingsLead};
 
-use roam_terminals::Duplex;
+use roam_outer_terminal::Duplex;
 
 /// What was typed at a start in a run are the lines of its terminals: those of each in their order, each once, one terminal's between
 /// another's.

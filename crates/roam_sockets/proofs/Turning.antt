@@ -1,12 +1,13 @@
 -- Client starts are asked one after another, round.
 use Rattle.std.proofs.Common.{◌≡◌, ◌≢◌, ℕ, ◌+◌, ◌<◌, List, Some, get_or, length, slice_get, slice_set, ◌∙◌, sym, ap, subst, inl, inr, arith}
-use Rattle.std.specs.Prelude.{IfSome}
+use Rattle.std.specs.Prelude.{◌⊎◌, true, IfSome}
 use Rattle.std.proofs.lemmas.Bool.{cases_lt, cases_order}
 use Rattle.std.proofs.lemmas.Grind.{common_steps}
 use Rattle.std.proofs.lemmas.List.{get_or-set_same, length-set}
 use Rattle.std.proofs.lemmas.Option.{gets, slice_get-get_or}
-use Rattle.roam_frames.specs.Queues.{IsQueued}
-use Rattle.roam_sockets.specs.Clients.{HasNone, HasNoneAt, IsQueuedAt, place_behind}
+use Rattle.std.specs.List.{All}
+use Rattle.roam_frames.specs.Queues.{IsLost, IsQueued}
+use Rattle.roam_sockets.specs.Clients.{HasNone, HasNoneAt, IsLostAt, IsQueuedAt, place_behind}
 use Rattle.mio.specs.declared.net.uds.stream.UnixStream.{UnixStream}
 use Rattle.roam_sockets.specs.declared.clients.ClientPeer.{ClientPeer}
 
@@ -57,3 +58,33 @@ queued_at all at old new datagram lt queued = record {
   queued = queued;
   others = λ k other. other_place all at k new other;
 }
+
+-- one was lost for it
+pub lost_at : (all : List (ClientPeer UnixStream)) (at : ℕ) (old new : ClientPeer UnixStream) → at < length all
+    → (IsLost (get_or all at old).carrier.queue new.carrier.queue ⊎ (((get_or all at old).carrier.over ≡ true) × (new ≡ get_or all at old)))
+    → IsLostAt all (slice_set all at new) at
+lost_at all at old new lt lost = record {
+  old = get_or all at old;
+  new = new;
+  there = slice_get-get_or all at old lt;
+  then_there = slice_get-get_or (slice_set all at new) at new (omega (arith, lt, length-set all at new)) ∙ ap Some (get_or-set_same all at new new lt);
+  lost = lost;
+  others = λ k other. other_place all at k new other;
+}
+
+-- ---- whose number is another
+
+-- none of the first has a number
+abbrev pub AreOthers : List (ClientPeer UnixStream) → ℕ → ℕ → Type 0
+AreOthers all number count = (k : ℕ) (d : ClientPeer UnixStream) → k < length all → k < count → (get_or all k d).number ≢ number
+
+pub one_other : (all : List (ClientPeer UnixStream)) (number at : ℕ) → AreOthers all number at
+    → ((d : ClientPeer UnixStream) → (get_or all at d).number ≢ number) → AreOthers all number (at + 1)
+one_other all number at others one k d lt less = elim (cases_lt k at) [
+  | inl before ↦ others k d lt before
+  | inr here ↦ let is : at ≡ k = omega arith in subst (λ n. (get_or all n d).number ≢ number) is (one d)
+]
+
+pub all_other : (all : List (ClientPeer UnixStream)) (number : ℕ) → AreOthers all number (length all)
+    → All (λ (peer : ClientPeer UnixStream). peer.number ≢ number) all
+all_other all number others k d lt = others k d lt lt

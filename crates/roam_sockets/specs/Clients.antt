@@ -1,10 +1,11 @@
 -- Client starts that reach a server over streams: each has a number of its own.
-use Rattle.std.specs.Prelude.{◌≡◌, ◌≢◌, ◌⊎◌, ℕ, ◌+◌, ◌-◌, ◌%◌, ◌≤◌, ◌<◌, true, List, [], ◌∷◌, ◌++◌, length, map, slice_get, Option, Some, None, IfSome, IsOk, Bool, not}
-use Rattle.std.specs.List.{AllZip, Contains, filter, range_with_len}
+use Rattle.std.specs.Prelude.{◌≡◌, ◌≢◌, ◌⊎◌, ℕ, ◌+◌, ◌-◌, ◌%◌, ◌≤◌, ◌<◌, true, false, List, [], ◌∷◌, ◌++◌, drop, length, map, slice_get, Option, Some, None, IfSome, IsOk, Bool, not}
+use Rattle.mio.specs.declared.net.uds.stream.UnixStream.{UnixStream}
+use Rattle.std.specs.List.{All, AllZip, Contains, filter, range_with_len}
 use Rattle.roam_hub.specs.declared.addresses.Addr.{Addr}
 use Rattle.roam_frames.specs.declared.frames.Front.TheVariants.{Part}
 use Rattle.roam_frames.specs.Frames.{front_of}
-use Rattle.roam_frames.specs.Queues.{IsQueued}
+use Rattle.roam_frames.specs.Queues.{IsLost, IsQueued, Queued, nothing_queued}
 use Rattle.roam_frames.specs.Streams.{Answer, HasAnswered, HasStopped}
 use Rattle.roam_sockets.specs.Addresses.{address_of}
 use Rattle.roam_sockets.specs.declared.clients.ClientPeer.{ClientPeer}
@@ -18,20 +19,45 @@ most_peers = 96
 abbrev pub numbers_of : {S : Type 0} → List (ClientPeer S) → List ℕ
 numbers_of peers = map (λ peer. peer.number) peers
 
+-- what waits for each of those that are there
+abbrev pub queues_of : {S : Type 0} → List (ClientPeer S) → List Queued
+queues_of peers = map (λ peer. peer.carrier.queue) peers
+
+-- nothing came of one yet, nothing waits for it, and its stream isn't over
+abbrev pub IsFresh : {S : Type 0} → ClientPeer S → Type 0
+IsFresh peer = (peer.carrier.frames ≡ []) × (peer.carrier.queue ≡ nothing_queued) × (peer.carrier.over ≡ false)
+
 -- those that came now stand behind the others under the numbers after the last that was given
 pub record Accepts (old new : Clients) : Type 0 where
   pub rises : old.last ≤ new.last
   pub numbers : numbers_of new.all.items ≡ numbers_of old.all.items ++ range_with_len (old.last + 1) (new.last - old.last)
+
+-- the others are as they were, and of those that came nothing came and for them nothing waits
+pub record HaveCome (old new : Clients) : Type 0 where
+  pub came : List (ClientPeer UnixStream)
+  pub fresh : All IsFresh came
+  pub behind : new.all.items ≡ old.all.items ++ came
 
 -- the same are there, and none came
 pub record Stays (old new : Clients) : Type 0 where
   pub last : new.last ≡ old.last
   pub numbers : numbers_of new.all.items ≡ numbers_of old.all.items
 
--- none came, or one under the next number
+-- none came
+abbrev pub NoneCame : Clients → Clients → Type 0
+NoneCame old new = (new.last ≡ old.last) × (new.all.items ≡ old.all.items)
+
+-- one came, under the next number
+pub record OneCame (old new : Clients) : Type 0 where
+  pub peer : ClientPeer UnixStream
+  pub number : peer.number ≡ old.last + 1
+  pub fresh : IsFresh peer
+  pub last : new.last ≡ old.last + 1
+  pub behind : new.all.items ≡ old.all.items ++ peer ∷ []
+
+-- none came, or one
 abbrev pub AcceptsOne : Clients → Clients → Type 0
-AcceptsOne old new = Stays old new
-    ⊎ ((new.last ≡ old.last + 1) × (numbers_of new.all.items ≡ numbers_of old.all.items ++ (old.last + 1) ∷ []))
+AcceptsOne old new = NoneCame old new ⊎ OneCame old new
 
 -- an address is that of one that is there
 abbrev pub IsOf : Clients → Addr → Type 0
@@ -48,6 +74,11 @@ HasNoneAt all at = IfSome (slice_get all at) HasNone
 -- so many places behind a first one, round
 abbrev pub place_behind : ℕ → ℕ → ℕ → ℕ
 place_behind count first step = (first % count + step) % count
+
+-- each of those that are there was asked, from the one in its turn on, and has none; another time that one is asked first again
+abbrev pub HaveNone : Clients → Clients → Type 0
+HaveNone old new =
+    ((k : ℕ) → k < length old.all.items → HasNoneAt new.all.items (place_behind (length old.all.items) old.turn k)) × (new.turn ≡ old.turn)
 
 -- the one at a place is the next in its turn: all others from the first place on to it have none
 pub record IsNext {S : Type 0} (all : List (ClientPeer S)) (first at : ℕ) : Type 0 where
@@ -76,10 +107,25 @@ pub record IsQueuedAt {S : Type 0} (olds news : List (ClientPeer S)) (at : ℕ) 
   pub queued : IsQueued old.carrier.queue datagram new.carrier.queue
   pub others : (k : ℕ) → k ≢ at → slice_get news k ≡ slice_get olds k
 
+-- a datagram was lost for the one at a place, with those of its instruction that follow it, or its stream is over; and no other changed
+pub record IsLostAt {S : Type 0} (olds news : List (ClientPeer S)) (at : ℕ) : Type 0 where
+  pub old : ClientPeer S
+  pub new : ClientPeer S
+  pub there : slice_get olds at ≡ Some old
+  pub then_there : slice_get news at ≡ Some new
+  pub lost : IsLost old.carrier.queue new.carrier.queue ⊎ ((old.carrier.over ≡ true) × (new ≡ old))
+  pub others : (k : ℕ) → k ≢ at → slice_get news k ≡ slice_get olds k
+
 -- it was for the one of a number
 abbrev pub IsQueuedFor : {S : Type 0} → List (ClientPeer S) → List (ClientPeer S) → Option ℕ → List ℕ → Type 0
 IsQueuedFor olds news None datagram = ⊥
 IsQueuedFor olds news (Some number) datagram = (at : ℕ) × IsPlaceOf olds at number × IsQueuedAt olds news at datagram
+
+-- it was lost for the one of a number, or nobody has it and nothing changed
+abbrev pub IsLostFor : {S : Type 0} → List (ClientPeer S) → List (ClientPeer S) → Option ℕ → Type 0
+IsLostFor olds news None = news ≡ olds
+IsLostFor olds news (Some number) =
+    (All (λ peer. peer.number ≢ number) olds × (news ≡ olds)) ⊎ ((at : ℕ) × IsPlaceOf olds at number × IsLostAt olds news at)
 
 -- what a stream answers to reads and writes, where that is known
 abbrev pub AnswersOf : Type 0 → Type 0
@@ -90,9 +136,11 @@ abbrev pub IsDone : {S : Type 0} → AnswersOf S → ClientPeer S → ClientPeer
 IsDone answers old new =
     HasStopped new.carrier.over new.carrier.queue.waiting (answers old.carrier.stream) (answers new.carrier.stream)
 
--- it was, or some was written
+-- it was, or some was written, from the front on; what came of it stays
 pub record IsFlushed {S : Type 0} (answers : AnswersOf S) (old new : ClientPeer S) : Type 0 where
   pub number : new.number ≡ old.number
+  pub left : (count : ℕ) × (new.carrier.queue.waiting ≡ drop count old.carrier.queue.waiting)
+  pub frames : new.carrier.frames ≡ old.carrier.frames
   pub tried : IsDone answers old new ⊎ HasAnswered IsOk (answers old.carrier.stream) (answers new.carrier.stream)
 
 -- its stream isn't over

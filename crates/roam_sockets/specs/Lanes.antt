@@ -126,8 +126,8 @@ pub record TakesAt (now : ℕ) (to : Addr) (olds news : List Lane) (datagram : L
   pub takes : Takes now old new datagram is_queued before after
   pub set : news ≡ slice_set lanes at new
 
--- or, where there is no memory for a lane, it was handed over at once
+-- or, where none is that of its address and there is no memory for one, it was handed over at once
 abbrev pub SendsTo : ℕ → Addr → List Lane → List Lane → List ℕ → Bool → Option (List Handed) → Option (List Handed) → Type 0
 SendsTo now to olds news datagram result before after =
     TakesAt now to olds news datagram result before after
-    ⊎ ((news ≡ olds) × Hands before after (record { to = to; datagram = datagram } ∷ []))
+    ⊎ (All (λ (lane : Lane). lane.to ≢ to) olds × (news ≡ olds) × Hands before after (record { to = to; datagram = datagram } ∷ []))

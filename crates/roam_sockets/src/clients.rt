@@ -1,8 +1,8 @@
 //! The streams of client starts at a server's socket.
-ghost use Rattle.std.specs.Prelude.{◌≡◌, ◌≢◌, ◌⊎◌, ◌++◌, ◌+◌, ◌<◌, ◌≤◌, ◌^◌, ℕ, [], ◌∷◌, length, slice_get, true, None, IfErr, IfOk, IfSome, OnErr, OnOk, IsOkUnless, string_bytes};
-ghost use Rattle.std.specs.List.{AllZip, Contains};
+ghost use Rattle.std.specs.Prelude.{◌≡◌, ◌≢◌, ◌⊎◌, ◌++◌, ◌+◌, ◌<◌, ◌≤◌, ◌^◌, ℕ, [], ◌∷◌, length, slice_get, true, false, None, IfErr, IfOk, IfSome, OnErr, OnOk, IsOkUnless, string_bytes};
+ghost use Rattle.std.specs.List.{All, AllZip, Contains};
 ghost use Rattle.roam_sockets.specs.Addresses.{address_of, number_of};
-ghost use Rattle.roam_sockets.specs.Clients.{Accepts, AcceptsOne, HasNoneAt, IsDone, IsFlushed, IsInTurn, IsNext, IsOf, IsPlaceOf, IsQueuedAt, IsQueuedFor, KeepsOpen, Stays, most_peers, numbers_of, place_behind};
+ghost use Rattle.roam_sockets.specs.Clients.{Accepts, AcceptsOne, HasNoneAt, HaveCome, HaveNone, IsDone, IsFlushed, IsInTurn, IsLostAt, IsLostFor, IsNext, IsOf, IsPlaceOf, IsQueuedAt, IsQueuedFor, KeepsOpen, NoneCame, OneCame, Stays, most_peers, numbers_of, place_behind, queues_of};
 
 use crate::arrivals::Arrivals;
 use crate::files::listen;
@@ -86,6 +86,7 @@ fn receive_from(
     ensures is { IfSome result (λ r. IfSome (slice_get all.new r.0) (λ peer. r.1 ≡ address_of peer.number)) }
     ensures none { result ≡ None → (k : ℕ) → k < length all.old → HasNoneAt all.new (place_behind (length all.old) first k) }
     ensures stays { numbers_of all.new ≡ numbers_of all.old }
+    ensures queues { queues_of all.new ≡ queues_of all.old }
 {
     let count = all.len();
     for step in 0..count {
@@ -110,6 +111,7 @@ fn receive_at(
     ensures none { result ≡ None → HasNoneAt all.new at }
     ensures others { (k : ℕ) → k ≢ at → slice_get all.new k ≡ slice_get all.old k }
     ensures stays { numbers_of all.new ≡ numbers_of all.old }
+    ensures queues { queues_of all.new ≡ queues_of all.old }
 {
     let peer = &mut all[at];
     let len = peer.carrier.receive(buf)?;
@@ -120,6 +122,7 @@ fn receive_at(
 fn send_at(all: &mut [ClientPeer<UnixStream>], at: usize, bytes: &[u8]) -> bool
     requires within { at < length all.old }
     ensures queued { result ≡ true → IsQueuedAt all.old all.new at bytes.now }
+    ensures lost { result ≡ false → IsLostAt all.old all.new at }
     ensures stays { numbers_of all.new ≡ numbers_of all.old }
 {
     let peer = &mut all[at];
@@ -151,6 +154,7 @@ fn flush_open<S: Stream + Drop>(all: &mut Vec<ClientPeer<S>>) -> bool
 fn place_of(all: &[ClientPeer<UnixStream>], number: u64) -> Option<usize>
     ensures found { IfSome result (λ at. IsPlaceOf all.now at number) }
     ensures within { IfSome result (λ at. at < length all.now) }
+    ensures none { result ≡ None → All (λ peer. peer.number ≢ number) all.now }
 {
     for (at, peer) in all.iter().enumerate() {
         if peer.number == number {
@@ -168,6 +172,7 @@ impl Arrivals for Clients {
         ensures from { IfSome result (λ r. IsOf self.old r.0) }
         ensures turn { IfSome result (λ r. IsInTurn self.old self.new r.0) }
         ensures stays { Stays self.old self.new }
+        ensures none { result ≡ None → HaveNone self.old self.new }
     {
         self.receive(buf)
     }
@@ -183,6 +188,7 @@ impl Clients {
     ) -> Result<Clients, RunFault>
         ensures path { IfOk result (λ clients. clients.path ≡ path) }
         ensures none { IfOk result (λ clients. (clients.all.items ≡ []) × (clients.last ≡ 0)) }
+        ensures fresh { IfOk result (λ clients. (clients.turn ≡ 0) × (clients.is_flushed ≡ true)) }
         ensures faults { IfErr result (λ fault. fault ≡ RunFault.Bind) }
     {
         let Some(mut listener) = listen(rt, path.as_str()) else {
@@ -202,11 +208,11 @@ impl Clients {
     // Adds a stream under the next number. Refuses want of memory; then the stream is closed, and its number goes to none.
     fn add(&mut self, alloc: Global, stream: UnixStream) -> Result<(), Fault>
         requires numbers { self.old.last < 2 ^ 40 }
-        ensures added { OnOk result ((self.new.last ≡ self.old.last + 1)
-            × (numbers_of self.new.all.items ≡ numbers_of self.old.all.items ++ (self.old.last + 1) ∷ [])) }
+        ensures added { OnOk result (OneCame self.old self.new) }
         ensures more { OnOk result (length self.new.all.items ≡ length self.old.all.items + 1) }
         ensures flushed { self.new.is_flushed ≡ self.old.is_flushed }
-        ensures err { OnErr result (Stays self.old self.new × (length self.new.all.items ≡ length self.old.all.items)) }
+        ensures others { self.new ≡ record self.old { all = self.new.all; last = self.new.last } }
+        ensures err { OnErr result (NoneCame self.old self.new) }
         ensures fault { IsOkUnless result Fault.OutOfMemory }
     {
         let number = self.last + 1;
@@ -220,6 +226,7 @@ impl Clients {
     fn take(&mut self, alloc: Global, waits: &Waits, mut stream: UnixStream)
         ensures one { AcceptsOne self.old self.new }
         ensures flushed { self.new.is_flushed ≡ self.old.is_flushed }
+        ensures others { self.new ≡ record self.old { all = self.new.all; last = self.new.last } }
         ensures few { length self.old.all.items ≤ most_peers → length self.new.all.items ≤ most_peers }
     {
         if self.all.len() >= MOST_PEERS || self.last >= NUMBERS_END - 1 {
@@ -233,7 +240,9 @@ impl Clients {
     /// Takes those that wait at the socket; where 96 are there, or 2^40 numbers were given, or memory is wanting, they are closed.
     pub fn accept(&mut self, alloc: Global, waits: &Waits)
         ensures accepts { Accepts self.old self.new }
+        ensures came { HaveCome self.old self.new }
         ensures flushed { self.new.is_flushed ≡ self.old.is_flushed }
+        ensures others { self.new ≡ record self.old { all = self.new.all; last = self.new.last } }
         ensures few { length self.old.all.items ≤ most_peers → length self.new.all.items ≤ most_peers }
     {
         for _ in 0..MOST_PEERS {
@@ -250,6 +259,9 @@ impl Clients {
         ensures from { IfSome result (λ r. IsOf self.old r.0) }
         ensures turn { IfSome result (λ r. IsInTurn self.old self.new r.0) }
         ensures stays { Stays self.old self.new }
+        ensures queues { queues_of self.new.all.items ≡ queues_of self.old.all.items }
+        ensures others { self.new ≡ record self.old { all = self.new.all; turn = self.new.turn } }
+        ensures none { result ≡ None → HaveNone self.old self.new }
     {
         let (at, from, len) = receive_from(&mut self.all, self.turn, buf)?;
         self.turn = at + 1;
@@ -260,7 +272,9 @@ impl Clients {
     /// waits for who is.
     pub fn send(&mut self, to: Addr, bytes: &[u8]) -> bool
         ensures queued { result ≡ true → IsQueuedFor self.old.all.items self.new.all.items (number_of to) bytes.now }
+        ensures lost { result ≡ false → IsLostFor self.old.all.items self.new.all.items (number_of to) }
         ensures stays { Stays self.old self.new }
+        ensures others { self.new ≡ record self.old { all = self.new.all } }
     {
         let Some(number) = number_of(to) else {
             return false;
@@ -276,6 +290,7 @@ impl Clients {
         ensures last { self.new.last ≡ self.old.last }
         ensures keeps { KeepsOpen ⟦<UnixStream as Stream>⟧.answers self.old.all.items self.new.all.items result }
         ensures flushed { self.new.is_flushed ≡ result }
+        ensures others { self.new ≡ record self.old { all = self.new.all; is_flushed = self.new.is_flushed } }
     {
         self.is_flushed = flush_open(&mut self.all);
         self.is_flushed

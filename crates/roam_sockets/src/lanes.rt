@@ -147,6 +147,7 @@ impl<D: DatagramSocket> Paced<D> {
         ensures ready { AreReady to self.old.lanes.items self.new.lanes.items }
         ensures found { IfSome result (λ at. IsLaneAt self.new.lanes.items at to) }
         ensures none { result ≡ None → self.new.lanes.items ≡ self.old.lanes.items }
+        ensures others { result ≡ None → All (λ lane. lane.to ≢ to) self.old.lanes.items }
         ensures socket { self.new.socket ≡ self.old.socket }
     {
         if let Some(at) = place_of(&self.lanes, to) {

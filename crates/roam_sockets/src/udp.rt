@@ -51,6 +51,7 @@ impl Arrivals for Udp {
         ensures within { IfSome result (λ r. r.1 ≤ length buf.new) }
         ensures far { IfSome result (λ r. number_of r.0 ≡ None) }
         ensures port { self.new.port ≡ self.old.port }
+        ensures lanes { self.new.paced.lanes ≡ self.old.paced.lanes }
     {
         self.receive(buf)
     }
@@ -66,6 +67,7 @@ impl Udp {
     /// Binds a port of this machine, any that is free where it is 0. `Bind` where it can't be bound.
     pub fn bind(net: &impl Net, alloc: Global, waits: &Waits, port: u16) -> Result<Udp, RunFault>
         ensures port { IfOk result (λ udp. (port ≡ 0) ⊎ (udp.port ≡ port)) }
+        ensures none { IfOk result (λ udp. udp.paced.lanes.items ≡ []) }
         ensures faults { IfErr result (λ fault. fault ≡ RunFault.Bind) }
     {
         let Ok(mut socket) = UdpSocket::bind(net, socket_addr(loopback(port))) else {
@@ -95,6 +97,7 @@ impl Udp {
         ensures within { IfSome result (λ r. r.1 ≤ length buf.new) }
         ensures far { IfSome result (λ r. number_of r.0 ≡ None) }
         ensures port { self.new.port ≡ self.old.port }
+        ensures lanes { self.new.paced.lanes ≡ self.old.paced.lanes }
     {
         match self.paced.socket().recv_from(buf) {
             Ok((len, SocketAddr::V4(from))) if from.ip().octets()[0] != 0 => {

@@ -9,7 +9,7 @@ use Rattle.roam_screens.specs.Screenshot.{Screenshot}
 use Rattle.roam_turns.specs.Painting.{Follows, IsBehind}
 use Rattle.roam_turns.specs.declared.outer.Noted.{Noted}
 use Rattle.roam_terminals.specs.Sharing.{AreEachBehind}
-use Rattle.roam_terminals.specs.declared.terminal.Terminal.{Terminal}
+use Rattle.roam_outer_terminal.specs.declared.terminal.Terminal.{Terminal}
 
 follows_both : (n n' n'' : ℕ) (s s' s'' : Screenshot) → Follows n s n' s' → Follows n' s' n'' s'' → Follows n s n'' s''
 follows_both n n' n'' s s' s'' h k =
@@ -47,12 +47,6 @@ pub each_last : {S : Type 0} (all : List (Terminal S)) (last : Terminal S) (n : 
     → IsBehind last.outer n s → AreEachBehind (all ++ last ∷ []) n s
 each_last [] last n s h k = each_cons last [] n s k (λ i d lt. absurd (omega (arith, lt)))
 each_last (t ∷ all) last n s h k = each_cons t (all ++ last ∷ []) n s (each_head t all n s h) (each_last all last n s (each_tail t all n s h) k)
-
--- what is shown, or was noted before, is noted
-pub behind_noted : (old new : Option Noted) (n : ℕ) (s : Screenshot)
-    → (new ≡ Some (record { number = n; screen = s })) ⊎ (new ≡ old) → IsBehind old n s → IsBehind new n s
-behind_noted old new n s (inl is) h = subst (λ o. IsBehind o n s) (sym is) (record { rises = omega arith; same = λ e. refl })
-behind_noted old new n s (inr same) h = subst (λ o. IsBehind o n s) (sym same) h
 
 chosen : {X : Type 0} (P : X → Type 0) (bs : List Bool) (xs : List X) → All P xs → All P (items_where_true bs xs)
 chosen P [] xs h = λ k d lt. absurd (omega (arith, lt))

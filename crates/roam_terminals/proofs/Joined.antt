@@ -10,8 +10,8 @@ use Rattle.roam_terminals.specs.Running.{ArriveAll, Arrives, IsFresh, IsStep, Ru
 use Rattle.roam_terminals.specs.Running.Arrives.{let_go, taken_in}
 use Rattle.roam_terminals.specs.Running.RunStep.{Asks, Came, Took}
 use Rattle.roam_terminals.specs.Sharing.{Rounds, Shared, most_terminals}
-use Rattle.roam_terminals.specs.declared.silence.Silence.{Silence}
-use Rattle.roam_terminals.specs.declared.terminal.Terminal.{Terminal}
+use Rattle.roam_outer_terminal.specs.declared.silence.Silence.{Silence}
+use Rattle.roam_outer_terminal.specs.declared.terminal.Terminal.{Terminal}
 
 module _ {S : Type 0} (remaining contents : S → Option (List ℕ)) (to : Addr) where
   abbrev pub Calls : Type 0

@@ -1,7 +1,2 @@
 pub mod Behind
-pub mod Heard
 mod Joined
-pub mod Showing
-pub mod Taking
-pub mod Written
-pub mod Said

@@ -10,12 +10,12 @@ use Rattle.roam_typing.specs.Lines.{nothing_came}
 use Rattle.roam_world.specs.Clients.{moment_of}
 use Rattle.roam_world.specs.Sendings.{is_client_due}
 use Rattle.roam_terminals.specs.Sharing.{Rounds, Shared, most_terminals}
-use Rattle.roam_terminals.specs.Silence.{end_of, wait_of}
-use Rattle.roam_terminals.specs.declared.silence.End.{End}
-use Rattle.roam_terminals.specs.declared.silence.End.TheVariants.{Gone}
-use Rattle.roam_terminals.specs.declared.silence.Silence.{Silence}
-use Rattle.roam_terminals.specs.declared.terminal.State.TheVariants.{Here}
-use Rattle.roam_terminals.specs.declared.terminal.Terminal.{Terminal}
+use Rattle.roam_outer_terminal.specs.Silence.{end_of, wait_of}
+use Rattle.roam_outer_terminal.specs.declared.silence.End.{End}
+use Rattle.roam_outer_terminal.specs.declared.silence.End.TheVariants.{Gone}
+use Rattle.roam_outer_terminal.specs.declared.silence.Silence.{Silence}
+use Rattle.roam_outer_terminal.specs.declared.terminal.State.TheVariants.{Here}
+use Rattle.roam_outer_terminal.specs.declared.terminal.Terminal.{Terminal}
 
 -- a terminal that just came: nothing was read of it, nothing is known of it, and nothing waits
 pub record IsFresh {S : Type 0} (t : Terminal S) : Type 0 where

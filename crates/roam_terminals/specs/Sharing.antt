@@ -10,21 +10,17 @@ use Rattle.roam_turns.specs.Cores.{client_step}
 use Rattle.roam_turns.specs.Painting.{IsBehind}
 use Rattle.roam_turns.specs.Parts.{Makes}
 use Rattle.roam_turns.specs.Turns.{QuietTurn}
-use Rattle.roam_typing.specs.Lines.{front_of}
 use Rattle.roam_typing.specs.declared.entries.Entry.{Entry}
-use Rattle.roam_typing.specs.declared.lines.Front.{Front}
-use Rattle.roam_typing.specs.declared.lines.Front.TheVariants.{Line, Part, TooLong}
-use Rattle.roam_terminals.specs.Hearing.{HearsOne, told_of}
-use Rattle.roam_terminals.specs.Painted.{MayPaint}
-use Rattle.roam_terminals.specs.Silence.{seconds_of}
-use Rattle.roam_terminals.specs.Terminals.{asks_end, has_guesses}
-use Rattle.roam_terminals.specs.Writing.{Flushes, TellsSilence, is_empty}
-use Rattle.roam_terminals.specs.declared.hearing.Taking.{Taking}
-use Rattle.roam_terminals.specs.declared.hearing.Taking.TheVariants as taking
-use Rattle.roam_terminals.specs.declared.silence.Silence.{Silence}
-use Rattle.roam_terminals.specs.declared.terminal.State.{State}
-use Rattle.roam_terminals.specs.declared.terminal.State.TheVariants.{Here, Deaf, Left, Refused, Gone}
-use Rattle.roam_terminals.specs.declared.terminal.Terminal.{Terminal}
+use Rattle.roam_outer_terminal.specs.Hearing.{HearsOne, told_of}
+use Rattle.roam_outer_terminal.specs.Painted.{MayPaint, is_guessing}
+use Rattle.roam_outer_terminal.specs.Silence.{seconds_of}
+use Rattle.roam_outer_terminal.specs.Staying.{is_gone}
+use Rattle.roam_outer_terminal.specs.Terminals.{asks_end}
+use Rattle.roam_outer_terminal.specs.Writing.{Settles, is_empty}
+use Rattle.roam_outer_terminal.specs.declared.hearing.Taking.{Taking}
+use Rattle.roam_outer_terminal.specs.declared.hearing.Taking.TheVariants as taking
+use Rattle.roam_outer_terminal.specs.declared.silence.Silence.{Silence}
+use Rattle.roam_outer_terminal.specs.declared.terminal.Terminal.{Terminal}
 
 -- so many terminals may be there at once
 abbrev pub most_terminals : ℕ
@@ -92,31 +88,7 @@ ending_after false moment ending = ending
 ending_after true moment None = Some moment
 ending_after true moment (Some since) = Some since
 
--- ---- writing
-
--- a terminal was told of a silence or not, and some of what waited for it was written
-pub record Settles {S : Type 0} (remaining contents : S → Option (List ℕ)) (silence : Silence) (old new : Terminal S) : Type 0 where
-  pub told : Terminal S
-  pub tells : TellsSilence silence old told
-  pub flushes : Flushes remaining contents silence.moment told new
-
 -- ---- who stays
-
-abbrev pub is_line : Front → Bool
-is_line (Line n) = true
-is_line Part = false
-is_line TooLong = false
-
--- a terminal is let go: it is, or it left and none of its lines stands whole
-abbrev pub is_let_go : State → List ℕ → Bool
-is_let_go Here kept = false
-is_let_go Deaf kept = false
-is_let_go Left kept = not (is_line (front_of kept))
-is_let_go Refused kept = false
-is_let_go Gone kept = true
-
-abbrev pub is_gone : {S : Type 0} → Terminal S → Bool
-is_gone t = is_let_go t.state t.lines.kept
 
 -- those that stay, in their order
 abbrev pub who_stay : {S : Type 0} → List (Terminal S) → List (Terminal S)
@@ -131,10 +103,6 @@ turned_round xs = drop 1 xs ++ take 1 xs
 -- something waits to be written to one of them
 abbrev pub is_any_waiting : {S : Type 0} → List (Terminal S) → Bool
 is_any_waiting all = list_any (λ t. not (is_empty t.waiting)) all
-
--- something is guessed of what it is to show
-abbrev pub is_guessing : {S : Type 0} → Terminal S → Bool
-is_guessing t = has_guesses t.guessing
 
 -- How many milliseconds may be waited at most, where it is no longer than a wait: a second where something waits to be written; 20 where
 -- something is guessed, since guesses go by and by, but in a silence, in which none is shown.

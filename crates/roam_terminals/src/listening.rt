@@ -5,8 +5,8 @@ ghost use Rattle.roam_turns.specs.Calls.DoorCall.{Came, HasEnded, Rested};
 ghost use Rattle.roam_turns.specs.Calls.PortCall.{Asked};
 
 use crate::running::Door;
-use crate::silence::Silence;
 use roam_hub::Addr;
+use roam_outer_terminal::Silence;
 use roam_turns::Ports;
 
 /// The ports of a client start, which know the moment and when something was heard last. Each call goes to the ports beneath; nothing is

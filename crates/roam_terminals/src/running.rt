@@ -5,11 +5,10 @@ ghost use Rattle.roam_turns.specs.Calls.{Tells};
 ghost use Rattle.roam_turns.specs.Calls.DoorCall.{Came, HasEnded, Rested};
 ghost use Rattle.roam_turns.specs.Calls.PortCall.{Asked};
 
-use crate::duplex::Duplex;
 use crate::listening::Listening;
 use crate::sharing::{LONGEST_END, MOST_TERMINALS, SharedStart};
-use crate::silence::{End, Silence};
 use roam_hub::Addr;
+use roam_outer_terminal::{Duplex, End, Silence};
 use roam_turns::Ports;
 use std::alloc::Global;
 

@@ -2,21 +2,19 @@
 ghost use Rattle.std.specs.Prelude.{◌≡◌, ◌⊎◌, ◌↔◌, ◌<◌, ◌++◌, ◌∷◌, ◌||◌, [], None, length, List, ℕ, OnOk, OnErr, IfErr, IsTrue, is_some};
 ghost use Rattle.std.specs.List.{list_any};
 ghost use Rattle.roam_screens.specs.Screenshot.{Screenshot};
-ghost use Rattle.roam_terminals.specs.Painted.{MayPaint};
+ghost use Rattle.roam_outer_terminal.specs.Painted.{MayPaint, is_guessing};
 ghost use Rattle.roam_terminals.specs.Running.{IsFresh, IsOver};
-ghost use Rattle.roam_terminals.specs.Sharing.{AreEach, AreEachBehind, AreHeard, Rounds, Settles, ending_after, is_any_waiting, is_guessing, most_terminals, turned_round, wait_after, wait_for, who_stay};
-ghost use Rattle.roam_terminals.specs.declared.terminal.Terminal.{Terminal as TerminalOf};
+ghost use Rattle.roam_terminals.specs.Sharing.{AreEach, AreEachBehind, AreHeard, Rounds, ending_after, is_any_waiting, most_terminals, turned_round, wait_after, wait_for, who_stay};
+ghost use Rattle.roam_outer_terminal.specs.Writing.{Settles};
+ghost use Rattle.roam_outer_terminal.specs.declared.terminal.Terminal.{Terminal as TerminalOf};
 ghost use Rattle.roam_turns.specs.Cores.{client_step};
 ghost use Rattle.roam_turns.specs.Parts.{Makes};
 ghost use Rattle.roam_turns.specs.Turns.{QuietTurn};
 
-use crate::duplex::Duplex;
-use crate::hearing::Taking;
 use crate::listening::Listening;
-use crate::silence::Silence;
-use crate::terminal::Terminal;
 use roam_cells::Fault;
 use roam_hub::{Addr, Client};
+use roam_outer_terminal::{Duplex, Silence, Taking, Terminal};
 use roam_turns::{Ports, quiet_turn};
 use std::alloc::Global;
 use std::marker::Model;

@@ -3,7 +3,7 @@
 // README: begin
 use roam_attaching::{Attach, Home, Typed, run_attach};
 use roam_faults::RunFault;
-use roam_terminals::End;
+use roam_outer_terminal::End;
 use roam_wire::Version;
 use std::fs::Files;
 use std::io::Write;

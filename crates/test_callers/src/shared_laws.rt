@@ -1,8 +1,8 @@
 //! A caller of `roam_shared_laws`, as its README shows it (`tools/worked_callers`).
 
 // README: begin
+use roam_outer_terminal::Duplex;
 use roam_shared_laws::laws::{lines_are_typed, paintings_lead};
-use roam_terminals::Duplex;
 
 /// Both laws, of terminals at the other end of such streams.
 pub fn both_laws<S: Duplex>() {

@@ -3,7 +3,8 @@
 // README: begin
 use roam_cells::Fault;
 use roam_hub::{Addr, Client};
-use roam_terminals::{Duplex, Listening, SharedStart};
+use roam_outer_terminal::Duplex;
+use roam_terminals::{Listening, SharedStart};
 use roam_turns::Ports;
 use std::alloc::Global;
 

@@ -1,7 +1,8 @@
 //! Whole runs of a start whose terminal comes to a door in memory, where nobody answers.
 use roam_hub::{Addr, Client};
+use roam_outer_terminal::{End, Opaque};
 use roam_sockets::loopback;
-use roam_terminals::{Door, End, Listening, Opaque, SharedStart, run_shared};
+use roam_terminals::{Door, Listening, SharedStart, run_shared};
 use roam_turns::{MemoryPorts, Ports};
 use std::alloc::Global;
 use std::io;
@@ -10,8 +11,16 @@ use std::test::*;
 
 /// A terminal in memory, which types a text and stays. It takes all that it is painted.
 #[derive(Drop)]
-struct TypedStream<'a> {
+pub struct TypedStream<'a> {
     text: &'a [u8],
+}
+
+impl<'a> TypedStream<'a> {
+    pub fn new(text: &'a str) -> TypedStream<'a> {
+        TypedStream {
+            text: text.as_bytes(),
+        }
+    }
 }
 
 impl<'a> Read for TypedStream<'a> {
@@ -109,9 +118,7 @@ impl Run {
         let mut shared = SharedStart::new(alloc, Client::new(alloc, 1, 0xA1)?);
         let mut door = Listening::new(MemoryDoor {
             ports: MemoryPorts::new(alloc),
-            coming: self.text.map(|text| TypedStream {
-                text: text.as_bytes(),
-            }),
+            coming: self.text.map(|text| TypedStream::new(text)),
             has_ended: self.has_ended,
             rests: 0,
             moment: 0,

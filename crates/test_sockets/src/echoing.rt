@@ -61,6 +61,13 @@ impl Echoing {
         })
     }
 
+    /// It is this moment at the server, and at a start.
+    pub fn set_moment(&mut self, start: &mut MemoryPorts, moment: u64) {
+        self.moment = moment;
+        self.ports.set_moment(moment);
+        start.set_moment(moment);
+    }
+
     /// Two turns of the server, between which its program writes what it read, with the start's datagrams before and the server's behind.
     pub fn meet(&mut self, alloc: Global, start: &mut MemoryPorts) -> Result<(), Fail> {
         self.moment = self.moment.saturating_add(TURN);

@@ -20,9 +20,17 @@ mod peers;
 #[cfg(test)]
 mod programs;
 #[cfg(test)]
+mod reasons;
+#[cfg(test)]
 mod runs;
 #[cfg(test)]
+mod scenes;
+#[cfg(test)]
 mod silence;
+#[cfg(test)]
+mod stories;
+#[cfg(test)]
+mod systems;
 #[cfg(test)]
 mod terminals;
 #[cfg(test)]

@@ -23,7 +23,7 @@ use std::test::*;
 
 /// A server with its ports.
 #[derive(Drop)]
-struct ServerEnd<'a> {
+pub struct ServerEnd<'a> {
     server: Server,
     ports: ServerPorts<&'a HostRuntime>,
 }
@@ -45,7 +45,7 @@ struct Meeting<'a> {
 }
 
 /// The first cell that a start shows is this character.
-fn shows(client: &Client, c: char) -> bool {
+pub fn shows(client: &Client, c: char) -> bool {
     match client.shown().1.at(1, 1) {
         Some(cell) => cell.chars().as_slice() == [c].as_slice(),
         None => false,
@@ -61,8 +61,13 @@ fn asks(alloc: Global, programs: &mut Programs, life: u64) -> bool {
 }
 
 impl<'a> ServerEnd<'a> {
-    // One turn of the server at a moment.
-    fn serves(&mut self, alloc: Global, moment: u64) {
+    /// The port at which it is reached.
+    pub fn port(&self) -> u16 {
+        self.ports.port().unwrap_or(0)
+    }
+
+    /// One turn of the server at a moment.
+    pub fn serves(&mut self, alloc: Global, moment: u64) {
         self.ports.set_moment(moment);
         serve_turn(alloc, &mut self.server, &mut self.ports);
         self.ports.rest(Some(0));
@@ -252,7 +257,7 @@ impl<'a> Meeting<'a> {
             "pane" => Ok(self.has_pane(rest)),
             "meets" => Ok(self.meets(rt.alloc(), programs)),
             "closes" => Ok(self.closes(rt.alloc(), programs)),
-            _ => programs.does(rt, verb, rest),
+            _ => Ok(programs.does(rt, verb, rest)),
         }
     }
 
@@ -293,7 +298,7 @@ fn client_ports<'a>(
 }
 
 /// A server whose panes are in a folder.
-fn server_end<'a>(rt: &'a HostRuntime, folder: &str) -> Result<ServerEnd<'a>, Fail> {
+pub fn server_end<'a>(rt: &'a HostRuntime, folder: &str) -> Result<ServerEnd<'a>, Fail> {
     let own = OwnStart {
         session: 0x5E55,
         id: 0xFF,
@@ -329,7 +334,7 @@ fn meeting_of<'a>(rt: &'a HostRuntime, folder: &str, is_stream: bool) -> Result<
         m.start.client.kept.receiver.newest.state) }
 {
     let home = server_end(rt, folder)?;
-    let port = home.ports.port().unwrap_or(0);
+    let port = home.port();
     Ok(Meeting {
         home,
         start: start_end(rt, folder, is_stream, port)?,
@@ -345,7 +350,7 @@ fn first_wrong<'t>(
 ) -> Result<Option<&'t str>, Fail> {
     create_dir(rt, folder)?;
     let mut meeting = meeting_of(rt, folder, is_stream)?;
-    let mut programs = Programs::new();
+    let mut programs = Programs::new(rt.alloc());
     let undone = meeting.first_undone(rt, &mut programs, lines);
     drop(meeting);
     undone

@@ -6,8 +6,9 @@
 //! there), and how many client starts edit and watch, where that is known; with `beside` and a moment, at which what stands beside the
 //! panes' terminals is told; with `clips` and a moment, at which texts for the clipboard are, or with `asks` and one, at which questions
 //! are; with `moment N is M`: where a clock tells N, the moment is M.
-//! `files are removed` by the ports. `start asks ACT, ACT` or `is quiet`: a datagram of the server's own start comes, with these acts, or
-//! none.
+//! `wait ends` where something came before 20 seconds have passed, `wait lasts` where nothing comes, 50 milliseconds, `wait passes`,
+//! whatever comes. `files are removed` by the ports. `start asks ACT, ACT` or `is quiet`: a datagram of the server's own start comes, with
+//! these acts, or none.
 use crate::acts::has;
 use crate::files::{first_untrue, is_so, ports_for};
 use crate::programs::Programs;
@@ -17,6 +18,12 @@ use roam_serving::ServerPorts;
 use roam_turns::Ports;
 use std::alloc::Global;
 use std::test::*;
+use std::time::Instant;
+
+/// How many milliseconds a wait lasts that nothing ends, where it is to end and where it isn't.
+const LONG: u64 = 20_000;
+
+const SHORT: u64 = 50;
 
 fn lives(ports: &mut ServerPorts<&HostRuntime>, pane: u8, life: &str) -> bool {
     match life.parse::<u64>() {
@@ -179,6 +186,22 @@ fn is_moment(ports: &mut ServerPorts<&HostRuntime>, words: &str) -> bool {
     }
 }
 
+// Whether a wait ends or lasts; long before twenty seconds on the busiest machine, and no time makes one shorter that lasts.
+fn is_wait(
+    rt: &HostRuntime,
+    ports: &mut ServerPorts<&HostRuntime>,
+    words: &str,
+) -> Result<bool, Fail> {
+    let before = Instant::now(rt)?;
+    ports.rest(Some(if words == "ends" { LONG } else { SHORT }));
+    let passed = before.elapsed(rt)?.as_millis();
+    match words {
+        "ends" => Ok(passed < 10_000),
+        "lasts" => Ok(passed >= 40),
+        _ => Ok(words == "passes"),
+    }
+}
+
 fn is_start(alloc: Global, ports: &mut ServerPorts<&HostRuntime>, words: &str) -> bool {
     match words.strip_prefix("asks ") {
         Some(acts) => asks(alloc, ports, acts),
@@ -216,7 +239,8 @@ fn is_done(
         "moment" => Ok(is_moment(ports, words)),
         "files" => are_files(rt, ports, words),
         "start" => Ok(is_start(rt.alloc(), ports, words)),
-        _ => programs.does(rt, who, words),
+        "wait" => is_wait(rt, ports, words),
+        _ => Ok(programs.does(rt, who, words)),
     }
 }
 
@@ -256,7 +280,7 @@ fn first_wrong<'a>(rt: &HostRuntime, story: &'a str) -> Result<Option<&'a str>, 
         return Ok(wrong);
     }
     let mut ports = ports_of(rt, folder)?;
-    first_undone(rt, &mut ports, &mut Programs::new(), lines)
+    first_undone(rt, &mut ports, &mut Programs::new(rt.alloc()), lines)
 }
 
 // The first line of all stories, parted by empty lines, that isn't so.
@@ -279,7 +303,8 @@ fn first_wrong_of<'a>(rt: &HostRuntime, stories: &'a str) -> Result<Option<&'a s
 /// The program of pane 2: the pane isn't there, and the program is handed nothing; it is there as it was; another of its number is there,
 /// and what the first program wrote is never read.
 ///
-/// One peer at a time: that the first program left is read before what the second wrote.
+/// One peer at a time: that the first program left is read before what the second wrote. Those that left before they were taken are let go
+/// at once.
 ///
 /// Bytes as they are meant: whole, cut, more of them than the buffer has room for; what is held back of one life never comes in another.
 ///
@@ -306,6 +331,14 @@ fn first_wrong_of<'a>(rt: &HostRuntime, stories: &'a str) -> Result<Option<&'a s
 /// again. What a start asks for stands behind what wasn't acknowledged, and a start that was let go takes that with it.
 ///
 /// A program says that it is the keeper of shells, and then another one: the first is let go, and the second is told what is new.
+///
+/// Sixty-three programs follow the panes, beside whom a place is the keeper's: another one is told and let go, but if it is the keeper; one
+/// that comes when 65 are there isn't told anything.
+///
+/// Ninety-six client starts are there, and another one is let go.
+///
+/// A wait ends where a pane's program comes, where it takes something, where it writes, where a program comes to follow the panes, and so
+/// with that; it lasts where nothing comes.
 const STORIES: &str = "\
 refused -
 
@@ -315,6 +348,12 @@ refused others
 there others/p5
 gone others/p1
 remove others/p5
+file others/clients
+refused others
+there others/clients
+gone others/p1
+gone others/panes
+remove others/clients
 folder others/p6
 refused others
 folder linked
@@ -324,15 +363,15 @@ link linked/p1
 refused linked
 there linked/p1
 
-folder left
-bound left
-there left/p9
-ports left
-files refused left
-first connects left/p9
+folder unbound
+bound unbound
+there unbound/p9
+ports unbound
+files refused unbound
+first connects unbound/p9
 first waits
 files are removed
-files gone left/p1
+files gone unbound/p1
 
 folder lives
 ports lives
@@ -370,6 +409,15 @@ second waits
 first leaves
 pane 1 gives nothing
 pane 1 gives second
+second leaves
+pane 1 gives nothing
+first connects one/p1
+first leaves
+first connects one/p1
+first leaves
+second connects one/p1
+second writes third
+pane 1 gives third
 files are removed
 
 folder meant
@@ -436,6 +484,73 @@ second reads 1 1 1 22 80 1/
 first connects keepers/panes
 told 1 1 22, none
 first reads 1 1 1 22 80 1/focus 1/
+files are removed
+
+folder places
+ports places
+others 63 places/panes
+told 1 1 23, none
+first connects places/panes
+told 1 1 23, none
+first reads 1 1 1 23 80 1/focus 1/
+first is let go
+first connects places/panes
+first types keeper/
+told 1 1 23, none
+first reads 1 1 1 23 80 1/focus 1/
+first waits
+second connects places/panes
+told 1 1 23, none
+second reads 1 1 1 23 80 1/focus 1/
+second is let go
+others leave
+first leaves
+told 1 1 23, none
+others 65 places/panes
+first connects places/panes
+told 1 1 23, none
+first is let go
+files are removed
+
+folder starts
+ports starts
+others 95 starts/clients
+first connects starts/clients
+told 1 1 23, none
+second connects starts/clients
+told 1 1 23, none
+first waits
+second is let go
+first leaves
+start is quiet
+told 1 1 23, none
+second connects starts/clients
+told 1 1 23, none
+second waits
+files are removed
+
+folder waits
+ports waits
+wait lasts
+pane 1 lives 1
+first connects waits/p1
+wait ends
+pane 1 gives nothing
+wait passes
+wait ends
+wait lasts
+first writes a
+wait ends
+pane 1 gives a
+wait passes
+second connects waits/panes
+wait ends
+told 1 1 23, none
+second reads 1 1 1 23 80 1/focus 1/
+wait ends
+wait lasts
+second types beside/
+wait ends
 files are removed
 
 folder besides
@@ -658,6 +773,11 @@ told 1 1 23, none
 first reads bad line/bad line/last pane/
 second reads 1 1 1 23 80 1/focus 1/
 start is quiet
+first fills 1085
+first types /
+told 1 1 23, none
+first reads bad line/
+told 1 1 23, none
 told 1 1 11, 1 13 11
 second types close 2 1 1/close 1 1/close 2 1/
 first types close 2 1/

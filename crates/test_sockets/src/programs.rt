@@ -3,21 +3,23 @@
 //! `connects PATH` and `leaves`; `writes TEXT`; `types TEXT`, in which `/` is written as the end of a line; `reads TEXT`, just that, where
 //! `/` stands for the end of a line; `sees TEXT`: it reads something in which that stands; `waits`: it is neither let go nor told anything;
 //! `is let go`: there is nothing more for it to read, or what it wrote last was never read; `is let go unread`: what it wrote last was
-//! never read.
+//! never read; `fills N`: it writes so many blanks. `others N PATH`: so many programs more connect there, and stay until `others leave`.
 use mio::net::UnixStream;
+use std::alloc::Global;
 use std::io::{ErrorKind, Read, Write};
 use std::str::from_utf8;
 use std::test::*;
 
-/// Two programs, where they are connected.
+/// Two programs, where they are connected, and others that do nothing.
 #[derive(Drop)]
 pub struct Programs {
     first: Option<UnixStream>,
     second: Option<UnixStream>,
+    others: Vec<UnixStream>,
 }
 
-// Whether bytes are this text.
-fn are(bytes: &[u8], text: &str) -> bool {
+/// Whether bytes are this text, in which `/` stands for the end of a line.
+pub fn are(bytes: &[u8], text: &str) -> bool {
     let ends = bytes
         .iter()
         .map(|byte| if *byte == b'\n' { b'/' } else { *byte });
@@ -63,6 +65,21 @@ fn writes(program: &mut UnixStream, text: &str) -> bool {
     }
 }
 
+// Writes so many blanks.
+fn fills(program: &mut UnixStream, count: &str) -> bool {
+    let blanks = [b' '; 2048];
+    let Ok(count) = count.parse::<usize>() else {
+        return false;
+    };
+    if count > blanks.len() {
+        return false;
+    }
+    match program.write(&blanks[..count]) {
+        Ok(went) => went == count,
+        Err(_) => false,
+    }
+}
+
 // Writes a text, in which `/` stands for the end of a line.
 fn types(program: &mut UnixStream, text: &str) -> bool {
     for byte in text.as_bytes() {
@@ -80,6 +97,7 @@ fn writes_or_reads(program: &mut UnixStream, words: &str) -> bool {
         Some((verb, text)) => match verb {
             "writes" => writes(program, text),
             "types" => types(program, text),
+            "fills" => fills(program, text),
             "reads" => reads(program, text),
             "sees" => sees(program, text),
             _ => false,
@@ -99,40 +117,69 @@ fn is_done(program: &mut UnixStream, words: &str) -> bool {
 }
 
 // Whether a program does this.
-fn is_done_by(
-    rt: &HostRuntime,
-    program: &mut Option<UnixStream>,
-    words: &str,
-) -> Result<bool, Fail> {
+fn is_done_by(rt: &HostRuntime, program: &mut Option<UnixStream>, words: &str) -> bool {
     if words == "leaves" {
         *program = None;
-        return Ok(true);
+        return true;
     }
     if let Some(path) = words.strip_prefix("connects ") {
-        *program = Some(UnixStream::connect(rt, path)?);
-        return Ok(true);
+        *program = UnixStream::connect(rt, path).ok();
+        return program.is_some();
     }
     match program {
-        Some(program) => Ok(is_done(program, words)),
-        None => Ok(false),
+        Some(program) => is_done(program, words),
+        None => false,
     }
 }
 
 impl Programs {
-    pub fn new() -> Programs {
+    pub fn new(alloc: Global) -> Programs {
         Programs {
             first: None,
             second: None,
+            others: Vec::new(alloc),
         }
     }
 
-    /// Whether the first or the second program does this; what neither is named by is not done.
-    pub fn does(&mut self, rt: &HostRuntime, who: &str, words: &str) -> Result<bool, Fail> {
+    // Another program connects to a path, and stays.
+    fn other_connects(&mut self, rt: &HostRuntime, path: &str) -> bool {
+        match UnixStream::connect(rt, path) {
+            Ok(stream) => self.others.push(stream).is_ok(),
+            Err(_) => false,
+        }
+    }
+
+    // So many others connect to a path, or they all leave.
+    fn others_do(&mut self, rt: &HostRuntime, words: &str) -> bool {
+        if words == "leave" {
+            self.others.clear();
+            return true;
+        }
+        let Some((count, path)) = words.split_once(' ') else {
+            return false;
+        };
+        for _ in 0..count.parse::<u8>().unwrap_or(0) {
+            if !self.other_connects(rt, path) {
+                return false;
+            }
+        }
+        true
+    }
+
+    /// Whether the first or the second program, or others, do this; what none is named by is not done.
+    pub fn does(&mut self, rt: &HostRuntime, who: &str, words: &str) -> bool {
         match who {
             "first" => is_done_by(rt, &mut self.first, words),
             "second" => is_done_by(rt, &mut self.second, words),
-            _ => Ok(false),
+            "others" => self.others_do(rt, words),
+            _ => false,
         }
+    }
+
+    /// The first program is at the other end of this stream.
+    pub fn first_is(&mut self, stream: UnixStream) -> bool {
+        self.first = Some(stream);
+        true
     }
 
     /// Whether the first program writes this.

@@ -1,20 +1,27 @@
 //! Runs of `roam serve` and `roam attach`, as text: what ends them, and what stays.
 //!
-//! `folder PATH`, `closed PATH`, which the user alone may enter, and `open PATH`, which others may, make a folder; `link PATH` makes one
+//! `folder PATH`, `closed PATH`, which the user alone may enter, `open PATH`, which their group may, and `passed PATH`, which others may
+//! pass, make a folder; `theirs PATH` one of another user, which isn't served, where this one may give it away; `link PATH` makes one
 //! to `own` beside it; `file PATH TEXT`, in which `/` stands for the end of a line; `remove PATH` removes a file. A line that ends with
 //! `well`, with what was heard, or with the fault, is a run that ends so: `serves FOLDER` of `serve` at any free port, `serves alone
 //! FOLDER` without one, `serves taken FOLDER` at one that is bound; `types PATH` of `attach` that types the acts of a file where nobody
-//! answers; `watches 3` of one that only watches and takes so many turns; `follows FOLDER` of one that reaches its server there, `follows
-//! bound FOLDER` while the sockets there are bound; `hears TEXT` of one that types the lines of a stream where nobody answers. Behind
-//! `types` and `watches` stands `closed` where the outer terminal is closed, and `unread` where what is painted goes where nobody reads.
-use crate::files::ports_in;
+//! answers, `types socket PATH` and `types terminals PATH` of one whose acts come over a socket, or from terminals that come to one;
+//! `watches 3` of one that only watches and takes so many turns, `watches HOW PATH` of one that is told what types, `file`, `socket` or
+//! `terminals`; `follows FOLDER` of one that reaches its server there, `follows bound FOLDER` while the sockets there are bound; `hears
+//! TEXT` of one that types the lines of a stream where nobody answers. Behind `types` and `watches` stands `closed` where the outer
+//! terminal is closed, `unflushed` where it doesn't hand on what it takes, and `unread` where what is painted goes where nobody reads.
+use crate::files::{first_untrue, ports_in};
+use crate::reasons::{
+    are_ends_told, first_untold, is_asked_port_untold, is_port_told, is_unserved,
+};
+use crate::stories::first_wrong_story;
 use roam_attaching::{
     Attach, ClientPorts, Connection, Home, Typed, client_for, follow, run_attach,
 };
 use roam_faults::RunFault;
+use roam_outer_terminal::End;
 use roam_serving::{Serve, run_serve};
 use roam_sockets::Moments;
-use roam_terminals::End;
 use roam_typing::Typist;
 use roam_wire::Version;
 use std::alloc::{AllocError, Global};
@@ -22,16 +29,22 @@ use std::fs::{DirBuilder, create_dir, remove_file, write};
 use std::io;
 use std::io::{ErrorKind, Write, pipe};
 use std::os::fd::{AsRawFd, RawFd};
-use std::os::unix::fs::{DirBuilderExt, symlink};
+use std::os::unix::fs::{DirBuilderExt, chown, symlink};
 use std::test::*;
 
-/// An outer terminal that is closed.
+/// An outer terminal that is closed, or takes bytes and doesn't hand them on.
 #[derive(Drop)]
-struct Closed;
+struct Closed {
+    takes: bool,
+}
 
 impl Write for Closed {
-    fn write(&mut self, _buf: &[u8]) -> io::Result<usize> {
-        Err(io::Error::from(ErrorKind::BrokenPipe))
+    fn write(&mut self, buf: &[u8]) -> io::Result<usize> {
+        if self.takes {
+            Ok(buf.len())
+        } else {
+            Err(io::Error::from(ErrorKind::BrokenPipe))
+        }
     }
 
     fn flush(&mut self) -> io::Result<()> {
@@ -105,15 +118,22 @@ fn unanswered(typed: Typed<'_>, turns: u64) -> Attach<'_> {
     }
 }
 
+// What types, named so, at a path.
+fn typed_by<'a>(how: &str, path: &'a str) -> Typed<'a> {
+    match how {
+        "socket" => Typed::Socket(path),
+        "terminals" => Typed::Terminals(path),
+        _ => Typed::File(path),
+    }
+}
+
 fn types(rt: &HostRuntime, words: &str, word: &str) -> bool {
-    match words.strip_prefix("closed ") {
-        Some(path) => attaches(rt, &unanswered(Typed::File(path), 3), Closed, word),
-        None => attaches(
-            rt,
-            &unanswered(Typed::File(words), 3),
-            Vec::new(rt.alloc()),
-            word,
-        ),
+    let (how, path) = words.split_once(' ').unwrap_or(("", words));
+    let attach = unanswered(typed_by(how, path), 3);
+    let takes = how == "unflushed";
+    match how {
+        "closed" | "unflushed" => attaches(rt, &attach, Closed { takes }, word),
+        _ => attaches(rt, &attach, Vec::new(rt.alloc()), word),
     }
 }
 
@@ -157,12 +177,31 @@ fn watches_unread(rt: &HostRuntime, turns: u64, word: &str) -> Result<bool, Fail
     Ok(attaches(rt, &unread, Vec::new(rt.alloc()), word))
 }
 
+// Whether a run that only watches, though it is told what types, ends so.
+fn watches_for(rt: &HostRuntime, words: &str, word: &str) -> bool {
+    match words.split_once(' ') {
+        Some((how, path)) => {
+            let attach = Attach {
+                typed: typed_by(how, path),
+                ..watching(3, None)
+            };
+            attaches(rt, &attach, Vec::new(rt.alloc()), word)
+        }
+        None => false,
+    }
+}
+
 fn watches(rt: &HostRuntime, words: &str, word: &str) -> Result<bool, Fail> {
     match words {
         "3" => Ok(attaches(rt, &watching(3, None), Vec::new(rt.alloc()), word)),
-        "closed 100000" => Ok(attaches(rt, &watching(100_000, None), Closed, word)),
+        "closed 100000" => Ok(attaches(
+            rt,
+            &watching(100_000, None),
+            Closed { takes: false },
+            word,
+        )),
         "unread 100000" => watches_unread(rt, 100_000, word),
-        _ => Ok(false),
+        _ => Ok(watches_for(rt, words, word)),
     }
 }
 
@@ -210,6 +249,13 @@ fn written(rt: &HostRuntime, words: &str) -> Result<bool, Fail> {
     Ok(true)
 }
 
+// Whether a folder of another user's isn't served; only who may do all can give one away.
+fn is_theirs_refused(rt: &HostRuntime, path: &str) -> Result<bool, Fail> {
+    DirBuilder::new().mode(0o700).create(rt, path)?;
+    let is_theirs = chown(rt, path, Some(1), None).is_ok();
+    Ok(!is_theirs || serves(rt, path, Some(0), "bind"))
+}
+
 // Whether a line is done, or is so.
 fn is_so(rt: &HostRuntime, line: &str) -> Result<bool, Fail> {
     let (verb, words) = line.split_once(' ').unwrap_or((line, ""));
@@ -217,9 +263,11 @@ fn is_so(rt: &HostRuntime, line: &str) -> Result<bool, Fail> {
         "folder" => create_dir(rt, words)?,
         "closed" => DirBuilder::new().mode(0o700).create(rt, words)?,
         "open" => DirBuilder::new().mode(0o750).create(rt, words)?,
+        "passed" => DirBuilder::new().mode(0o701).create(rt, words)?,
         "link" => symlink(rt, "own", words)?,
         "remove" => remove_file(rt, words)?,
         "file" => return written(rt, words),
+        "theirs" => return is_theirs_refused(rt, words),
         _ => return is_run(rt, verb, words),
     }
     Ok(true)
@@ -251,8 +299,16 @@ closed own
 serves alone own well
 open entered
 serves alone entered bind
+passed through
+serves alone through bind
+theirs given
+folder unwritten
+folder unwritten/session
+serves unwritten bind
 link link
 serves alone link bind
+folder there
+file there/p5 a file that is there
 folder first
 folder second
 serves taken second bind
@@ -261,6 +317,11 @@ types missing read
 file good char 61/split right/
 types good unheard
 types closed good write
+types unflushed good write
+types socket missing read
+types terminals good bind
+types terminals outer unheard
+types terminals outer unheard
 file bad char 61/split left/
 types bad act
 hears char 61/char 62/ unheard
@@ -273,11 +334,55 @@ follows bound reached unheard
 file reached/session 5e5g/
 follows bound reached read
 watches 3 unheard
+watches file missing unheard
+watches socket missing unheard
+watches terminals good unheard
 watches closed 100000 write
 watches unread 100000 write";
+
+/// What is printed of what the runs above were refused for.
+const REASONS: &str = "\
+terminals good reached roam: cannot bind: good: Address already in use (os error 98)
+clients good reached roam: cannot connect: reached/clients: Connection refused (os error 111)
+clients good second roam: cannot connect: second/clients: No such file or directory (os error 2)
+file missing reached roam: read failed: missing: No such file or directory (os error 2)
+socket good reached roam: read failed: good: Connection refused (os error 111)
+session good reached roam: read failed: reached/session: no id is in it
+session good served roam: read failed: served/session: No such file or directory (os error 2)
+watcher missing served roam: read failed: served/session: No such file or directory (os error 2)
+sockets good missing roam: cannot bind: missing: no such folder
+sockets good link roam: cannot bind: link: not a folder
+sockets good there roam: cannot bind: there/p5: Address already in use (os error 98)
+alone good entered roam: cannot bind: entered: others may enter it";
+
+/// What isn't there behind all these.
+const GONE: &str = "\
+gone there/p1
+gone unwritten/p1
+gone unwritten/clients
+gone outer";
+
+// A port that was bound and isn't any more.
+fn free_port(rt: &HostRuntime) -> Result<Option<u16>, Fail> {
+    let bound = ports_in(rt, "first")?;
+    Ok(bound.port())
+}
+
+// Whether it is told that a port is in use.
+fn is_taken_told(rt: &HostRuntime) -> Result<bool, Fail> {
+    let bound = ports_in(rt, "first")?;
+    is_port_told(rt, bound.port())
+}
 
 #[test]
 fn how_runs_end_and_what_stays(rt: HostRuntime) -> Result<(), Fail> {
     assert_eq!(rt; first_wrong(&rt, LINES)?, None);
+    assert_eq!(rt; first_untold(&rt, REASONS), None);
+    assert_eq!(rt; first_untrue(&rt, GONE)?, None);
+    assert!(rt; is_taken_told(&rt)?);
+    assert!(rt; is_asked_port_untold(&rt, free_port(&rt)?));
+    assert!(rt; is_unserved(&rt, "unwritten"));
+    assert!(rt; are_ends_told(&rt));
+    assert_eq!(rt; first_wrong_story(&rt)?, None);
     Ok(())
 }

@@ -5,8 +5,8 @@
 //! `11 s` stand for the notices of as many seconds; `hears`: a datagram comes to the client start; `is` and what is so then.
 use mio::net::UdpSocket;
 use roam_attaching::{ClientPorts, Connection};
+use roam_outer_terminal::End;
 use roam_sockets::{Moments, loopback};
-use roam_terminals::End;
 use roam_turns::Ports;
 use std::alloc::Global;
 use std::io::{PipeReader, PipeWriter, Read, pipe};

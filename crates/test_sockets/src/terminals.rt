@@ -1,15 +1,16 @@
 //! The outer terminals of a client start: what is typed there, and what each is painted.
 //!
 //! `round` takes those that wait at the socket, and a round; `acts N` sees how many acts aren't acknowledged; `terminals N` how many are
-//! there; `ends` and `goes on` whether the start's end was asked for. It hears of its server only at `meets`: so much as a server whose
-//! program echoes tells it in five turns of 20 milliseconds each, with a round behind each.
+//! there; `ends` and `goes on` whether the start's end was asked for; from `at N` on it is that moment. It hears of its server only at
+//! `meets`: so much as a server whose program echoes tells it in five turns of 20 milliseconds each, with a round behind each.
 use crate::doors::first_other_run;
 use crate::echoing::Echoing;
 use crate::programs::Programs;
 use mio::net::{UnixListener, UnixStream};
 use roam_hub::Client;
+use roam_outer_terminal::Opaque;
 use roam_sockets::{listen, loopback};
-use roam_terminals::{Listening, Opaque, SharedStart};
+use roam_terminals::{Listening, SharedStart};
 use roam_turns::MemoryPorts;
 use std::alloc::Global;
 use std::fs::create_dir;
@@ -58,6 +59,17 @@ impl Place {
         Ok(true)
     }
 
+    // It is this moment.
+    fn set_moment(&mut self, words: &str) -> bool {
+        match words.parse::<u64>() {
+            Ok(moment) => {
+                self.server.set_moment(self.ports.ports(), moment);
+                true
+            }
+            Err(_) => false,
+        }
+    }
+
     // Whether there are so many.
     fn are_so_many(&self, line: &str) -> bool {
         match line.split_once(' ') {
@@ -76,7 +88,10 @@ impl Place {
             "meets" => self.meet(alloc),
             "ends" => Ok(self.shared.is_ending()),
             "goes on" => Ok(!self.shared.is_ending()),
-            _ => Ok(self.are_so_many(line)),
+            _ => match line.strip_prefix("at ") {
+                Some(moment) => Ok(self.set_moment(moment)),
+                None => Ok(self.are_so_many(line)),
+            },
         }
     }
 }
@@ -89,7 +104,7 @@ fn is_done(
     line: &str,
 ) -> Result<bool, Fail> {
     match line.split_once(' ') {
-        Some((who @ ("first" | "second"), words)) => programs.does(rt, who, words),
+        Some((who @ ("first" | "second" | "others"), words)) => Ok(programs.does(rt, who, words)),
         _ => place.is_so(rt.alloc(), line),
     }
 }
@@ -112,7 +127,7 @@ fn first_undone<'a>(
 // The first line that isn't so of a start whose terminals come to a path.
 fn first_wrong<'a>(rt: &HostRuntime, path: &str, lines: &'a str) -> Result<Option<&'a str>, Fail> {
     match place_at(rt, path)? {
-        Some(mut place) => first_undone(rt, &mut place, &mut Programs::new(), lines),
+        Some(mut place) => first_undone(rt, &mut place, &mut Programs::new(rt.alloc()), lines),
         None => Ok(Some("no socket")),
     }
 }
@@ -307,6 +322,71 @@ round
 first sees q
 acts 1";
 
+/// A silence of ten seconds and more is told once a second: to a terminal that asked for records by one, to another over its last row.
+/// Where the server is heard again the one is told so, and the other is painted anew.
+const SILENT: &str = "\
+first connects silent/terminals
+second connects silent/terminals
+round
+first reads \x1Bc\x1B[?25l\x1B[0m\x1B[1;1H\x1B[?25h
+second reads \x1Bc\x1B[?25l\x1B[0m\x1B[1;1H\x1B[?25h
+first types told/
+round
+first reads /told/
+round
+first reads taken 1/size 24 80/anew 24/\x1Bc\x1B[?25l\x1B[0m\x1B[1;1H\x1B[?25h
+at 9999
+round
+first waits
+second waits
+at 10000
+round
+first reads silent 10/
+second reads \x1B7\x1B[?7l\x1B[999;1H\x1B[0;7mroam: no answer for 10 s\x1B[0m\x1B[K\x1B[?7h\x1B8
+at 10999
+round
+first waits
+second waits
+at 11000
+round
+first reads silent 11/
+second reads \x1B7\x1B[?7l\x1B[999;1H\x1B[0;7mroam: no answer for 11 s\x1B[0m\x1B[K\x1B[?7h\x1B8
+meets
+first sees heard
+second sees \x1Bc";
+
+/// Sixteen are taken in, and one above them is let go. A line of more than 1,093 bytes is refused though it isn't ended.
+const FULL: &str = "\
+first connects full/terminals
+others 15 full/terminals
+round
+round
+round
+round
+terminals 16
+second connects full/terminals
+round
+second is let go
+terminals 16
+first reads \x1Bc\x1B[?25l\x1B[0m\x1B[1;1H\x1B[?25h
+first types char 61/
+first fills 1093
+round
+round
+first waits
+terminals 16
+acts 1
+first fills 1
+round
+first reads \r/roam: line 2: bad act\r/
+first is let go
+second connects full/terminals
+second fills 1094
+round
+second reads \r/roam: line 1: bad act\r/
+second is let go
+terminals 15";
+
 #[test]
 fn terminals_share_a_start(rt: HostRuntime) -> Result<(), Fail> {
     let stories = [
@@ -315,6 +395,8 @@ fn terminals_share_a_start(rt: HostRuntime) -> Result<(), Fail> {
         ("pasted", "pasted/terminals", PASTED),
         ("told", "told/terminals", TOLD),
         ("guessed", "guessed/terminals", GUESSED),
+        ("silent", "silent/terminals", SILENT),
+        ("full", "full/terminals", FULL),
     ];
     for (folder, path, lines) in stories {
         create_dir(&rt, folder)?;

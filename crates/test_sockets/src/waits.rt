@@ -1,6 +1,8 @@
-//! A wait ends where something comes: a client start, what it writes, or a datagram.
+//! A wait ends where something comes: a client start, what it writes, or a datagram; of a start's, an answer, or what was reported.
 use mio::net::UnixStream;
-use roam_sockets::{Clients, Udp, Waits, loopback};
+use roam_attaching::Connection;
+use roam_sockets::{Clients, Moments, Udp, Waits, listen, loopback};
+use std::fs::create_dir;
 use std::io::Write;
 use std::test::*;
 use std::time::Instant;
@@ -24,11 +26,11 @@ fn ends_for_a_start(rt: &HostRuntime) -> Result<bool, Fail> {
     let comes = ends(rt, &mut waits)?;
     clients.accept(rt.alloc(), &waits);
     // That something may be written to it is reported too.
-    waits.rest(1);
+    let is_written = ends(rt, &mut waits)?;
     let _ = start.write(b"a")?;
     let writes = ends(rt, &mut waits)?;
     clients.remove(rt);
-    Ok(comes && writes)
+    Ok(comes && is_written && writes)
 }
 
 fn ends_for_a_datagram(rt: &HostRuntime) -> Result<bool, Fail> {
@@ -40,9 +42,45 @@ fn ends_for_a_datagram(rt: &HostRuntime) -> Result<bool, Fail> {
     Ok(is_sent && ends(rt, &mut waits)?)
 }
 
+// Whether a start's wait ends long before, or lasts fifty milliseconds.
+fn is_rested(
+    rt: &HostRuntime,
+    connection: &mut Connection<&HostRuntime>,
+    may_end: bool,
+) -> Result<bool, Fail> {
+    let before = Instant::now(rt)?;
+    connection.rest(if may_end { LONG } else { 50 });
+    let passed = before.elapsed(rt)?.as_millis();
+    Ok(if may_end {
+        passed < 10_000
+    } else {
+        passed >= 40
+    })
+}
+
+fn ends_for_an_answer(rt: &HostRuntime) -> Result<bool, Fail> {
+    create_dir(rt, "answered")?;
+    let Some(listener) = listen(rt, "answered/clients") else {
+        return Ok(false);
+    };
+    let mut connection = Connection::connect(rt, rt.alloc(), "answered", Moments::Set(0))?;
+    let (mut server, _) = listener.accept()?;
+    // That something may be written to it is reported too.
+    let is_written = is_rested(rt, &mut connection, true)?;
+    let lasts = is_rested(rt, &mut connection, false)?;
+    let _ = server.write(b"a")?;
+    let answers = is_rested(rt, &mut connection, true)?;
+    let mut reported = UnixStream::connect(rt, "answered/clients")?;
+    connection.report(&mut reported, false);
+    let (mut other, _) = listener.accept()?;
+    let _ = other.write(b"a")?;
+    Ok(is_written && lasts && answers && is_rested(rt, &mut connection, true)?)
+}
+
 #[test]
 fn a_wait_ends_where_something_comes(rt: HostRuntime) -> Result<(), Fail> {
     assert!(rt; ends_for_a_start(&rt)?);
     assert!(rt; ends_for_a_datagram(&rt)?);
+    assert!(rt; ends_for_an_answer(&rt)?);
     Ok(())
 }

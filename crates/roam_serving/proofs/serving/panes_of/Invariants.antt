@@ -4,7 +4,7 @@ use Rattle.roam_session.specs.Places.{rect_at}
 use Rattle.roam_world.specs.Servers.{Server as ServerOf}
 use Rattle.roam_hub.specs.Servers.{Stands}
 use Rattle.roam_pane_list.specs.Known.{pane_at}
-use Rattle.roam_serving.specs.Following.{pane_of}
+use Rattle.roam_serving.specs.Listed.{pane_of}
 use Rattle.roam_serving.proofs.serving.panes_of.Given as goal
 
 abbrev pub invariant-loop-pane : goal.invariant-loop-pane

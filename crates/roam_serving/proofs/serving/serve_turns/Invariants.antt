@@ -1,9 +1,9 @@
 use Rattle.std.proofs.Common.{◌<◌}
 use Rattle.std.specs.Prelude.{None}
-use Rattle.roam_serving.specs.Peers.{frames_until}
+use Rattle.roam_pane_sockets.specs.Peers.{frames_until}
 use Rattle.roam_serving.specs.Rests.{HasRested, HasToldAll}
 use Rattle.roam_serving.specs.Runs.{ServesTurns}
-use Rattle.roam_serving.specs.Moments.{sooner}
+use Rattle.roam_pane_sockets.specs.Moments.{sooner}
 use Rattle.roam_serving.proofs.serving.serve_turns.Given as goal
 
 abbrev pub invariant-loop : goal.invariant-loop

@@ -13,6 +13,7 @@ returns-in-Some-clause-next c = record {
 pub loop-step-preserved : goal.loop-step-preserved
 loop-step-preserved c = record {
   numbers = search rules;
+  queues = search rules;
   count = search rules;
   none = one_less _ _ _ _ _ (c.receive_at.ensures.none (search rules)) c.receive_at.ensures.others c.loop-step.invariant.none;
 }

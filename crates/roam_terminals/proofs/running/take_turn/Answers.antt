@@ -6,7 +6,7 @@ use Rattle.roam_turns.specs.Calls.PortCall.{Asked}
 use Rattle.roam_terminals.specs.Running.{Follows, IsNextDue, IsOver, longest_rest}
 use Rattle.roam_terminals.specs.Running.Follows.{over, rests}
 use Rattle.roam_terminals.specs.Sharing.{Rounds}
-use Rattle.roam_terminals.specs.Silence.{end_of}
+use Rattle.roam_outer_terminal.specs.Silence.{end_of}
 use Rattle.roam_terminals.proofs.Joined.{runs_asked, runs_round}
 use Rattle.roam_terminals.proofs.running.take_turn.Goals as goal
 

@@ -2,7 +2,7 @@ use Rattle.std.proofs.Common.{◌≡◌, ◌∷◌, ◌∙◌, ap, rules, subst,
 use Rattle.std.specs.Prelude.{min, ◌||◌}
 use Rattle.roam_terminals.specs.Sharing.{AreEachBehind, AreHeard, wait_after}
 use Rattle.roam_terminals.proofs.Behind.{behind_kept, each_cons, each_head, each_tail}
-use Rattle.roam_terminals.proofs.Heard.{heard_outer}
+use Rattle.roam_outer_terminal.proofs.Heard.{heard_outer}
 use Rattle.roam_terminals.proofs.sharing.+hear_all.Goals as goal
 
 pub returns-clause-behind : goal.returns-clause-behind

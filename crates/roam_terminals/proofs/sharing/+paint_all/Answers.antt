@@ -1,5 +1,5 @@
 use Rattle.std.proofs.Common.{◌∷◌, sym, subst}
-use Rattle.roam_terminals.specs.Painted.{MayPaint}
+use Rattle.roam_outer_terminal.specs.Painted.{MayPaint}
 use Rattle.roam_terminals.specs.Sharing.{AreEach, AreEachBehind}
 use Rattle.roam_terminals.proofs.Behind.{each_cons, each_head, each_tail}
 use Rattle.roam_terminals.proofs.sharing.+paint_all.Goals as goal

@@ -1,5 +1,6 @@
 use Rattle.std.proofs.Common.{◌∷◌, sym, subst}
-use Rattle.roam_terminals.specs.Sharing.{AreEach, AreEachBehind, Settles}
+use Rattle.roam_terminals.specs.Sharing.{AreEach, AreEachBehind}
+use Rattle.roam_outer_terminal.specs.Writing.{Settles}
 use Rattle.roam_terminals.proofs.Behind.{behind_kept, each_cons, each_head, each_tail}
 use Rattle.roam_terminals.proofs.sharing.+write_all.Goals as goal
 

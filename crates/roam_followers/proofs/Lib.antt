@@ -1,0 +1,7 @@
+mod Answering
+mod Asked
+mod Clipped
+mod Inquired
+mod News
+mod Seated
+mod Telling

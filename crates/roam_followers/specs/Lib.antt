@@ -1,0 +1,10 @@
+pub mod Asides
+pub mod Asking
+pub mod Asks
+pub mod Clipping
+pub mod Clips
+pub mod Closing
+pub mod Following
+pub mod Programs
+pub mod Questioning
+pub mod Seats

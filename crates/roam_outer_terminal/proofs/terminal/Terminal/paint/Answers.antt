@@ -1,0 +1,38 @@
+use Rattle.std.proofs.Common.{◌≡◌, ◌⊎◌, Some, None, sym, ap, subst, rules}
+use Rattle.roam_turns.specs.Painting.{LeadsSized}
+use Rattle.roam_outer_terminal.specs.Overlaid.{IsOver}
+use Rattle.roam_outer_terminal.specs.Painted.{IsJudged, shown_of}
+use Rattle.roam_outer_terminal.proofs.Showing.{noted_from, noted_kept}
+use Rattle.roam_outer_terminal.proofs.terminal.Terminal.paint.Goals as goal
+
+pub returns-clause-paints : goal.returns-clause-paints
+returns-clause-paints g c =
+    let old = c.args.self.now in
+    let client = c.args.client.now in
+    let now = c.args.silence.moment in
+    let mid = c.take_back-taken.new.self in
+    let painted = c.paint_noted.new.self in
+    let judged = c.judge.new.self in
+    let new = c.lay.new.self in
+    let taken = c.take_back-taken.ensures.taken in
+    let outer : judged.outer ≡ painted.outer = ap (λ t. t.outer) c.judge.ensures.others in
+    let waiting : judged.waiting ≡ painted.waiting = ap (λ t. t.waiting) c.judge.ensures.others in
+    let guessing : new.guessing ≡ judged.guessing = ap (λ t. t.guessing) c.lay.ensures.others in
+    let was : painted.guessing ≡ old.guessing = search rules in
+    let leads : LeadsSized mid.outer judged.waiting judged.outer =
+    subst (λ x. LeadsSized mid.outer judged.waiting x) (sym outer)
+    (subst (λ w. LeadsSized mid.outer w painted.outer) (sym waiting) c.paint_noted.ensures.leads) in
+    record {
+      ready = c.requires.ready;
+      untold = c.requires.untold;
+      noted = painted.outer;
+      is_noted = noted_from old.outer mid.outer painted.outer (Some (shown_of client))
+          (noted_kept old.over old.outer mid.outer c.take_back-taken.result taken) c.paint_noted.ensures.noted;
+      stays = subst (λ x. (new.outer ≡ x) ⊎ (new.outer ≡ None)) outer c.lay.ensures.outer;
+      leads = c.lay.ensures.leads old.over old.outer mid.outer taken leads;
+      judged = subst (λ x. IsJudged now client painted.outer old.guessing x) (sym guessing)
+          (subst (λ x. IsJudged now client painted.outer x judged.guessing) was
+          (subst (λ m. IsJudged m client painted.outer painted.guessing judged.guessing) c.moment.ensures.moment c.judge.ensures.judged));
+      over = subst (λ x. IsOver now x new.outer new.over) (sym guessing) (c.lay.ensures.over now c.wanted-wanted.ensures.over);
+      others = search rules;
+    }

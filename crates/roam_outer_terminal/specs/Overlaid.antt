@@ -1,0 +1,62 @@
+-- What stands over the screen that is noted of an outer terminal, and what leads from one such screen to the next.
+use Rattle.std.specs.Prelude.{◌≡◌, ℕ, List, ◌++◌, Option, Some, None, true}
+use Rattle.roam_overlay.specs.Overlays.{OverlayOf, is_shown, laid_over}
+use Rattle.roam_screens.specs.Screenshot.{Screenshot}
+use Rattle.roam_turns.specs.Painting.{Leads, ShowsSized}
+use Rattle.roam_turns.specs.declared.outer.Noted.{Noted}
+use Rattle.roam_outer_terminal.specs.declared.laying.Taken.{Taken}
+
+-- what stands over the screen that is noted at a moment, where something does, is that screen with what is guessed and shown over it
+abbrev pub IsOver : ℕ → Option OverlayOf → Option Noted → Option Screenshot → Type 0
+IsOver now guessing outer None = Unit {0}
+IsOver now None outer (Some over) = ⊥
+IsOver now (Some guessing) None (Some over) = ⊥
+IsOver now (Some guessing) (Some noted) (Some over) = (is_shown guessing ≡ true) × (over ≡ laid_over guessing noted.screen now)
+
+-- ---- what a terminal shows
+
+-- what stands over the screen that is noted, else that screen; nothing is known where none is noted
+abbrev pub on_show : Option Screenshot → Option Noted → Option Noted
+on_show over None = None
+on_show None (Some noted) = Some noted
+on_show (Some over) (Some noted) = Some (record noted { screen = over })
+
+-- one screen has the size of another
+pub record IsSize (one other : Screenshot) : Type 0 where
+  pub rows : one.rows ≡ other.rows
+  pub cols : one.cols ≡ other.cols
+
+-- a text that leads from one screen to another of its size
+pub record Between (one other : Screenshot) (text : List ℕ) : Type 0 where
+  pub size : IsSize one other
+  pub leads : (n : ℕ) → ShowsSized (Some (record { number = n; screen = one })) text other
+
+-- a text that takes back what stands over the screen that is noted
+abbrev pub IsBack : Screenshot → Option Noted → List ℕ → Type 0
+IsBack over None text = ⊥
+IsBack over (Some noted) text = Between over noted.screen text
+
+-- a text that lays a screen over the one that is noted
+abbrev pub IsForth : Option Noted → Screenshot → List ℕ → Type 0
+IsForth None over text = ⊥
+IsForth (Some noted) over text = Between noted.screen over text
+
+-- what stands over it is to be taken back: nothing does; it is, by this text; or nothing is noted any more
+pub data TakesBack (over : Option Screenshot) (outer outer' : Option Noted) (taken : Option Taken) : Type 0 where
+  nothing : over ≡ None → outer' ≡ outer → taken ≡ None → TakesBack over outer outer' taken
+  back : (t : Taken) → over ≡ Some t.over → outer' ≡ outer → taken ≡ Some t → IsBack t.over outer t.text.items
+      → TakesBack over outer outer' taken
+  lost : outer' ≡ None → taken ≡ None → TakesBack over outer outer' taken
+
+-- a screen is laid over it behind what waits, or nothing is
+pub data Lays (outer : Option Noted) (wanted over : Option Screenshot) (waiting waiting' : List ℕ) : Type 0 where
+  none : over ≡ None → waiting' ≡ waiting → Lays outer wanted over waiting waiting'
+  laid : (s : Screenshot) (text : List ℕ) → wanted ≡ Some s → over ≡ Some s → waiting' ≡ waiting ++ text → IsForth outer s text
+      → Lays outer wanted over waiting waiting'
+
+-- ---- the law
+
+-- once what stood over a screen that is noted is taken back, a ground terminal that showed it shows the screen that is noted
+abbrev pub TakenBackIsNoted : Type 0
+TakenBackIsNoted =
+    (over : Screenshot) (outer : Option Noted) (text : List ℕ) → IsBack over outer text → Leads (on_show (Some over) outer) text outer

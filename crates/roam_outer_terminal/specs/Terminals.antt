@@ -1,0 +1,174 @@
+-- What a client start takes of an outer terminal: its lines in their order, each once.
+use Rattle.std.specs.Prelude.{◌≡◌, ◌≢◌, ℕ, ◌+◌, ◌<◌, Bool, true, false, not, nat_lt, List, [], ◌∷◌, ◌++◌, length, Option, Some, None}
+use Rattle.std.specs.List.{fold}
+use Rattle.std.specs.Io.KnownBytes.{Consumes}
+use Rattle.roam_acts.specs.declared.acts.Act.{Act}
+use Rattle.roam_acts.specs.Senders.{HasNoRoom, IsShort, last_number}
+use Rattle.roam_guess.specs.Guesses.{none}
+use Rattle.roam_guess.specs.Laws.{after}
+use Rattle.roam_hub.specs.Clients.{ClientView, keeping, after_typed_all}
+use Rattle.roam_overlay.specs.Delays.{no_delay}
+use Rattle.roam_overlay.specs.Overlays.{OverlayOf, line_steps, next_number, screen_or}
+use Rattle.roam_screens.specs.Screenshot.{Screenshot}
+use Rattle.roam_typing.specs.Entries.{Says, acts_in}
+use Rattle.roam_typing.specs.declared.entries.Entry.{Entry}
+use Rattle.roam_typing.specs.declared.entries.Entry.TheVariants.{Acts, Paste, Told, Repaint, Watch, Guess, Look, LookStyled, Show, End}
+use Rattle.roam_typing.specs.declared.entries.Guessing.{Guessing}
+use Rattle.roam_typing.specs.declared.entries.Guessing.TheVariants.{Always, Adaptive, Never}
+use Rattle.roam_typing.specs.Lines.{ended_all}
+use Rattle.roam_outer_terminal.specs.declared.terminal.State.{State}
+use Rattle.roam_outer_terminal.specs.declared.terminal.State.TheVariants.{Here, Deaf, Left, Refused, Gone}
+
+-- whether a terminal only watches after an entry
+abbrev pub watches_after : Entry → Bool → Bool
+watches_after (Acts acts) watches = watches
+watches_after (Paste acts) watches = watches
+watches_after Told watches = watches
+watches_after Repaint watches = watches
+watches_after Watch watches = true
+watches_after (Guess guessing) watches = watches
+watches_after Look watches = watches
+watches_after LookStyled watches = watches
+watches_after (Show showing) watches = watches
+watches_after End watches = watches
+
+-- a line ends the start where it says so, and its terminal doesn't only watch
+abbrev pub ends_by : Bool → Entry → Bool
+ends_by watches (Acts acts) = false
+ends_by watches (Paste acts) = false
+ends_by watches Told = false
+ends_by watches Repaint = false
+ends_by watches Watch = false
+ends_by watches (Guess guessing) = false
+ends_by watches Look = false
+ends_by watches LookStyled = false
+ends_by watches (Show showing) = false
+ends_by watches End = not watches
+
+-- a terminal asked for the end by the line that was taken of it, where one was
+abbrev pub asks_end : Bool → Option Entry → Bool
+asks_end watches None = false
+asks_end watches (Some entry) = ends_by watches entry
+
+-- the acts of a line that are typed: none of a terminal that only watches
+abbrev pub acts_by : Bool → List Act → List Act
+acts_by false acts = acts
+acts_by true acts = []
+
+abbrev pub typed_by : Bool → Entry → List Act
+typed_by watches entry = acts_by watches (acts_in entry)
+
+-- these lines were taken of a terminal, which only watches then or not, and these acts typed
+abbrev pub TakesAll : List (List ℕ) → Bool → Bool → List Act → Type 0
+TakesAll [] watches watches' acts = (watches' ≡ watches) × (acts ≡ [])
+TakesAll (line ∷ lines) watches watches' acts =
+    (entry : Entry) × (rest : List Act) × Says line entry × (acts ≡ typed_by watches entry ++ rest)
+    × TakesAll lines (watches_after entry watches) watches' rest
+
+-- after these bytes of its stream these acts of a terminal were typed: those of the lines that the bytes begin with
+pub record Stands (kept : List ℕ) (watches : Bool) (log : List ℕ) (typed : List Act) : Type 0 where
+  pub lines : List (List ℕ)
+  pub is : log ≡ ended_all lines ++ kept
+  pub takes : TakesAll lines false watches typed
+
+-- these acts were typed at a start, in their order
+abbrev pub Types : List Act → ClientView → ClientView → Type 0
+Types acts old new = new ≡ keeping old (after_typed_all old.kept acts)
+
+-- Of a terminal that was heard these bytes of its stream were read, and these acts typed: where it stays, the next ones of its lines.
+pub record Hears (before after : Option (List ℕ)) (kept kept' : List ℕ) (watches watches' : Bool) (state' : State)
+    (client client' : ClientView) : Type 0 where
+  pub bytes : List ℕ
+  pub acts : List Act
+  pub consumed : Consumes before after bytes
+  pub typed : Types acts client client'
+  pub stands : state' ≢ Gone → (log : List ℕ) (all : List Act) → Stands kept watches log all
+      → Stands kept' watches' (log ++ bytes) (all ++ acts)
+
+-- ---- whose lines are taken
+
+-- more of a terminal may come
+abbrev pub is_read : State → Bool
+is_read Here = true
+is_read Deaf = true
+is_read Left = false
+is_read Refused = false
+is_read Gone = false
+
+-- its lines are taken: also those that came whole before it left
+abbrev pub is_heard : State → Bool
+is_heard Here = true
+is_heard Deaf = true
+is_heard Left = true
+is_heard Refused = false
+is_heard Gone = false
+
+-- so many acts are unacknowledged at most where another line is taken
+abbrev pub most_acts : ℕ
+most_acts = 64
+
+-- why acts aren't typed now: too many would be unacknowledged, the start only watches, or its numbers are spent
+pub data Holds (acts : List Act) (client : ClientView) : Type 0 where
+  many : most_acts < length client.kept.acts.acts + length acts → Holds acts client
+  watching : client.kept.watches ≡ true → Holds acts client
+  full : HasNoRoom client.kept.acts (length acts) → Holds acts client
+  spent : IsShort client.kept.acts (length acts) → Holds acts client
+
+-- ---- what is guessed of them
+
+-- the guesses of a terminal after acts of its line were typed, the first under a number, where a start showed a screen
+abbrev pub guesses_after : Bool → ℕ → List Act → Screenshot → Option OverlayOf → Option OverlayOf
+guesses_after pasted first acts shown None = None
+guesses_after pasted first acts shown (Some o) =
+    Some (record o { guesses = fold after o.guesses (line_steps pasted first acts (screen_or o.seen shown)) })
+
+-- the number of the next act of a start
+abbrev pub first_number : ClientView → ℕ
+first_number client = next_number (last_number client.kept.acts)
+
+-- whether guesses are shown where what is typed takes long alone, as a line says; or none are
+abbrev pub adaptive_of : Guessing → Option Bool
+adaptive_of Always = Some false
+adaptive_of Adaptive = Some true
+adaptive_of Never = None
+
+-- guesses that begin anew
+abbrev pub fresh_guesses : Bool → OverlayOf
+fresh_guesses adaptive = record { guesses = none; adaptive = adaptive; delays = no_delay; seen = None }
+
+-- guesses begin anew, as a line says; there are none where it wants none, of a terminal that watches, and where memory is wanting
+pub data IsSet (guessing : Guessing) (watches : Bool) (new : Option OverlayOf) : Type 0 where
+  no_guesses : new ≡ None → IsSet guessing watches new
+  fresh : (adaptive : Bool) → watches ≡ false → adaptive_of guessing ≡ Some adaptive → new ≡ Some (fresh_guesses adaptive)
+      → IsSet guessing watches new
+
+-- acts of a line that was taken are guessed, but of a terminal that only watches
+abbrev pub guesses_by : Bool → Bool → List Act → ClientView → Option OverlayOf → Option OverlayOf
+guesses_by true pasted acts client old = old
+guesses_by false pasted acts client old = guesses_after pasted (first_number client) acts client.kept.receiver.newest.state old
+
+-- something is guessed
+abbrev pub has_guesses : Option OverlayOf → Bool
+has_guesses None = false
+has_guesses (Some o) = nat_lt 0 (length o.guesses.list)
+
+-- what a line that was taken makes of what is guessed: its acts are guessed; it says when guesses are shown; or nothing changes
+abbrev pub Guesses : Bool → Entry → ClientView → Option OverlayOf → Option OverlayOf → Type 0
+Guesses watches (Acts acts) client old new = new ≡ guesses_by watches false acts.items client old
+Guesses watches (Paste acts) client old new = new ≡ guesses_by watches true acts.items client old
+Guesses watches Told client old new = new ≡ old
+Guesses watches Repaint client old new = new ≡ old
+Guesses watches Watch client old new = new ≡ old
+Guesses watches (Guess guessing) client old new = IsSet guessing watches new
+Guesses watches Look client old new = new ≡ old
+Guesses watches LookStyled client old new = new ≡ old
+Guesses watches (Show showing) client old new = new ≡ old
+Guesses watches End client old new = new ≡ old
+
+-- ---- a line at a time
+
+-- bytes were read of a stream: where the terminal isn't let go they are kept behind those that were
+pub record Reads (before after : Option (List ℕ)) (kept kept' : List ℕ) (state' : State) : Type 0 where
+  pub bytes : List ℕ
+  pub consumed : Consumes before after bytes
+  pub kept_on : state' ≢ Gone → kept' ≡ kept ++ bytes

@@ -1,0 +1,379 @@
+//! What an outer terminal types: its lines are read and taken, each once and in order.
+ghost use Rattle.std.specs.Prelude.{◌≡◌, ◌≢◌, ◌⊎◌, ◌++◌, ◌≤◌, ℕ, List, Option, true, None, Some, IfOk, length};
+ghost use Rattle.std.specs.Io.KnownBytes.{Keeps};
+ghost use Rattle.std.specs.List.{All};
+ghost use Rattle.roam_acts.specs.Acts.{IsInRange};
+ghost use Rattle.roam_faults.specs.Streams.{IsStreamEnd};
+ghost use Rattle.roam_hub.specs.Clients.{ClientView};
+ghost use Rattle.roam_outer_terminal.specs.Hearing.{HearsOne, IsRead, IsRefused, TakesEntry, TakesWord, Took, TypesLine, forgotten, is_end, is_looking, line_told, look_of, told_of};
+ghost use Rattle.roam_telling.specs.Telling.{nothing_told};
+ghost use Rattle.roam_outer_terminal.specs.Terminals.{IsSet, Reads, asks_end, fresh_guesses, guesses_after, is_heard, is_read};
+ghost use Rattle.roam_typing.specs.Entries.{Says, acts_in};
+ghost use Rattle.roam_typing.specs.declared.entries.Entry.{Entry as EntryOf};
+ghost use Rattle.roam_typing.specs.Lines.{IsFirst};
+ghost use Rattle.roam_typing.specs.Typing.{bytes_given};
+
+use crate::duplex::Duplex;
+use crate::terminal::{State, Terminal};
+use roam_acts::Act;
+use roam_acts::limits::MOST_ACTS;
+use roam_cells::Fault;
+use roam_faults::is_for_now;
+use roam_hub::Client;
+use roam_overlay::Overlay;
+use roam_records::{Looking, Record};
+use roam_telling::{Telling, say};
+use roam_typing::{Entry, Front, Guessing, Showing, read_entry};
+use std::alloc::Global;
+use std::io;
+
+/// How many bytes are read at once at most.
+const PIECE: usize = 1024;
+
+/// So many pieces are more than a line.
+const MOST_READS: u32 = 4;
+
+/// What became of the line of a terminal that stood first.
+#[derive(Clone, Copy, Debug, PartialEq, Eq)]
+pub enum Taking {
+    /// None stood there.
+    Nothing,
+
+    /// It was taken.
+    Line,
+
+    /// It was taken, and ends the start.
+    End,
+
+    /// It waits until acts are acknowledged.
+    Waits,
+
+    /// It waits since there was no memory.
+    NoMemory,
+}
+
+impl Taking {
+    /// Whether it ends the start.
+    pub fn is_end(self) -> bool
+        ensures end { result ≡ is_end self }
+    {
+        match self {
+            Taking::End => true,
+            Taking::Nothing | Taking::Line | Taking::Waits | Taking::NoMemory => false,
+        }
+    }
+}
+
+// Guesses that begin, where there is memory for them.
+fn new_overlay(alloc: Global, adaptive: bool) -> Option<Overlay>
+    ensures fresh { (result ≡ None) ⊎ (result ≡ Some (fresh_guesses adaptive)) }
+{
+    match Overlay::new(alloc, adaptive) {
+        Ok(overlay) => Some(overlay),
+        Err(_) => None,
+    }
+}
+
+// What guesses are shown by, where they are to be and there is memory for it; a terminal that watches has none.
+fn overlay_for(alloc: Global, guessing: Guessing, watches: bool) -> Option<Overlay>
+    ensures set { IsSet guessing watches result }
+{
+    if watches {
+        return None;
+    }
+    match guessing {
+        Guessing::Always => new_overlay(alloc, false),
+        Guessing::Adaptive => new_overlay(alloc, true),
+        Guessing::Never => None,
+    }
+}
+
+impl<S: Duplex + Drop> Terminal<S> {
+    // A read brought bytes or not; tells whether it brought some that are kept.
+    fn take_piece(&mut self, answer: &io::Result<usize>, piece: &[u8]) -> bool
+        requires within { IfOk answer.now (λ n. n ≤ length piece.now) }
+        ensures on { result ≡ true → self.new.state ≡ self.old.state }
+        ensures kept { self.new.state ≢ State.Gone → self.new.lines.kept ≡ self.old.lines.kept ++ bytes_given answer.now piece.now }
+        // It left where the stream is over, and nowhere else.
+        ensures left { self.new.state ≡ State.Left → (self.old.state ≡ State.Left) ⊎ IsStreamEnd answer.now }
+        ensures others { self.new ≡ record self.old { lines = self.new.lines; state = self.new.state } }
+    {
+        match answer {
+            Ok(0) => self.state = State::Left,
+            Ok(count) => {
+                if self.lines.came(&piece[..*count]).is_ok() {
+                    return true;
+                }
+                self.state = State::Gone;
+            }
+            Err(error) => {
+                if !is_for_now(error) {
+                    self.state = State::Left;
+                }
+            }
+        }
+        false
+    }
+
+    // Reads a piece, and tells whether one came.
+    fn read_piece(&mut self) -> bool
+        ensures on { result ≡ true → self.new.state ≡ self.old.state }
+        ensures reads { Reads (S.remaining self.old.stream) (S.remaining self.new.stream) self.old.lines.kept self.new.lines.kept
+            self.new.state }
+        ensures apart { Keeps (S.contents self.old.stream) (S.contents self.new.stream) }
+        ensures others { self.new ≡ record self.old { stream = self.new.stream; lines = self.new.lines; state = self.new.state } }
+    {
+        let mut piece = [0; PIECE];
+        let answer = self.stream.read_some(&mut piece);
+        self.take_piece(&answer, &piece)
+    }
+
+    // Whether more of it may come.
+    fn is_read(&self) -> bool
+        ensures read { result ≡ is_read self.now.state }
+    {
+        match self.state {
+            State::Here | State::Deaf => true,
+            State::Left | State::Refused | State::Gone => false,
+        }
+    }
+
+    // Reads until a line stands first or nothing more comes now.
+    fn read_line(&mut self, alloc: Global)
+        ensures reads { Reads (S.remaining self.old.stream) (S.remaining self.new.stream) self.old.lines.kept self.new.lines.kept
+            self.new.state }
+        ensures apart { Keeps (S.contents self.old.stream) (S.contents self.new.stream) }
+        ensures others { IsRead self.old self.new }
+    {
+        for _ in 0..MOST_READS {
+            if !self.is_read() {
+                return;
+            }
+            match self.lines.front() {
+                Front::Line(_) => return,
+                Front::TooLong => return self.refuse(alloc, Fault::BadAct),
+                Front::Part => {
+                    if !self.read_piece() {
+                        return;
+                    }
+                }
+            }
+        }
+    }
+}
+
+impl<S: Duplex + Drop> Terminal<S> {
+    // Whether its lines are taken: also those that came whole before it left.
+    fn is_heard(&self) -> bool
+        ensures heard { result ≡ is_heard self.now.state }
+    {
+        match self.state {
+            State::Here | State::Deaf | State::Left => true,
+            State::Refused | State::Gone => false,
+        }
+    }
+
+    // The acts of a line were typed at the start, the first under a number, where it showed a screen: what they show is guessed, where that
+    // is wanted.
+    fn guess(&mut self, is_pasted: bool, first: u64, acts: &[Act], client: &Client)
+        ensures guesses { self.new.guessing
+            ≡ guesses_after is_pasted first acts.now client.now.kept.receiver.newest.state self.old.guessing }
+        ensures others { self.new ≡ record self.old { guessing = self.new.guessing } }
+    {
+        if let Some(overlay) = &mut self.guessing {
+            overlay.typed(is_pasted, first, acts, &client.shown().1);
+        }
+    }
+
+    // Guesses are shown from now on, or aren't any more; a terminal that watches has none, and one for which there is no memory.
+    fn set_guessing(&mut self, alloc: Global, guessing: Guessing)
+        ensures set { IsSet guessing self.old.watches self.new.guessing }
+        ensures others { self.new ≡ record self.old { guessing = self.new.guessing } }
+    {
+        self.guessing = overlay_for(alloc, guessing, self.watches);
+    }
+
+    // The line that stands first was taken; the last of its acts has this number, where it has acts.
+    fn took_line(&mut self, last: Option<u64>)
+        ensures took { Took self.old.lines.kept self.new.lines.kept }
+        ensures others { self.new ≡ record self.old { lines = self.new.lines; telling = line_told last self.old.telling } }
+    {
+        self.lines.took();
+        if let Some(telling) = &mut self.telling {
+            telling.took(last);
+        }
+    }
+
+    // Types the acts of the line that stands first, all or none.
+    fn type_acts(&mut self, client: &mut Client, acts: &[Act], is_pasted: bool) -> Taking
+        requires in_range { All IsInRange acts.now }
+        ensures types { TypesLine is_pasted acts.now self.old self.new client.old client.new result }
+        ensures number { client.new.kept.receiver ≡ client.old.kept.receiver }
+    {
+        if self.watches {
+            self.took_line(None);
+            return Taking::Line;
+        }
+        let first = client.typed_count().saturating_add(1);
+        if client.unacknowledged().saturating_add(acts.len()) > MOST_ACTS {
+            return Taking::Waits;
+        }
+        match client.typed_all(acts) {
+            Ok(()) => {
+                self.guess(is_pasted, first, acts, client);
+                self.took_line(Some(client.typed_count()));
+                Taking::Line
+            }
+            Err(Fault::OutOfMemory) => Taking::NoMemory,
+            Err(_) => Taking::Waits,
+        }
+    }
+
+    // The line that stands first comes where it can't.
+    fn refuse_line(&mut self, alloc: Global) -> Taking
+        ensures refused { IsRefused self.old self.new }
+        ensures nothing { result ≡ Taking.Nothing }
+    {
+        self.refuse(alloc, Fault::BadAct);
+        Taking::Nothing
+    }
+
+    // Nothing is told in records yet, and nothing is known of what it shows.
+    fn open_records(&mut self)
+        ensures opened { self.new ≡ record self.old { outer = None; over = None; telling = Some nothing_told } }
+    {
+        self.forget();
+        self.over = None;
+        self.telling = Some(Telling::new());
+    }
+
+    // Records come from here on, behind what waits: the first line says so.
+    fn begin_records(&mut self, alloc: Global) -> Taking
+        ensures begins { (client : ClientView) → TakesWord Entry.Told client self.old self.new result }
+    {
+        if self.lines.count() != 0 || self.telling.is_some() {
+            return self.refuse_line(alloc);
+        }
+        if !say(alloc, &mut self.waiting, Record::Told) {
+            return Taking::NoMemory;
+        }
+        self.open_records();
+        self.took_line(None);
+        Taking::Line
+    }
+
+    // It only watches from here on: the first line says so, or the second where the first asked for records.
+    fn watch(&mut self, alloc: Global) -> Taking
+        ensures watches { (client : ClientView) → TakesWord Entry.Watch client self.old self.new result }
+    {
+        let before = if self.telling.is_some() { 1 } else { 0 };
+        if self.lines.count() != before {
+            return self.refuse_line(alloc);
+        }
+        self.watches = true;
+        self.took_line(None);
+        Taking::Line
+    }
+
+    // The screen is asked for, once it was told that was asked for before.
+    fn look(&mut self, alloc: Global, looking: Looking) -> Taking
+        ensures looks { (client : ClientView) → TakesWord (look_of looking) client self.old self.new result }
+        ensures waits { is_looking self.old.telling ≡ true → result ≡ Taking.Waits }
+    {
+        let Some(telling) = &mut self.telling else {
+            return self.refuse_line(alloc);
+        };
+        if telling.is_asked() {
+            return Taking::Waits;
+        }
+        telling.ask(looking);
+        self.took_line(None);
+        Taking::Line
+    }
+
+    // Something else of the screen is to be shown.
+    fn show(&mut self, alloc: Global, showing: Showing) -> Taking
+        ensures shows { (client : ClientView) → TakesWord (Entry.Show showing) client self.old self.new result }
+    {
+        let Some(telling) = &mut self.telling else {
+            return self.refuse_line(alloc);
+        };
+        if !telling.show(showing) {
+            return self.refuse_line(alloc);
+        }
+        self.took_line(None);
+        Taking::Line
+    }
+
+    // Nothing is known of what it shows, whatever it is told.
+    fn forget_all(&mut self)
+        ensures forgotten { self.new ≡ record self.old { outer = None; telling = forgotten self.old.telling } }
+    {
+        self.forget();
+        if let Some(telling) = &mut self.telling {
+            telling.forget();
+        }
+    }
+
+    // What it shows isn't known any more.
+    fn repaint(&mut self) -> Taking
+        ensures anew { (client : ClientView) → TakesWord Entry.Repaint client self.old self.new result }
+    {
+        self.forget_all();
+        self.took_line(None);
+        Taking::Line
+    }
+
+    // Does what the line that stands first asks for.
+    fn take_entry(&mut self, alloc: Global, client: &mut Client, entry: &Entry) -> Taking
+        requires in_range { All IsInRange (acts_in entry.now) }
+        ensures takes { TakesEntry entry.now self.old self.new client.old client.new result }
+        ensures number { client.new.kept.receiver ≡ client.old.kept.receiver }
+    {
+        match entry {
+            Entry::Acts(acts) => self.type_acts(client, acts, false),
+            Entry::Paste(acts) => self.type_acts(client, acts, true),
+            Entry::Told => self.begin_records(alloc),
+            Entry::Repaint => self.repaint(),
+            Entry::Watch => self.watch(alloc),
+            Entry::Guess(guessing) => {
+                self.set_guessing(alloc, *guessing);
+                self.took_line(None);
+                Taking::Line
+            }
+            Entry::Look => self.look(alloc, Looking::Points),
+            Entry::LookStyled => self.look(alloc, Looking::Styled),
+            Entry::Show(showing) => self.show(alloc, *showing),
+            Entry::End => {
+                self.took_line(None);
+                if self.watches {
+                    Taking::Line
+                } else {
+                    Taking::End
+                }
+            }
+        }
+    }
+
+    /// Reads what came, and does what the line that stands first asks for: its acts are typed at the start, all of them or none.
+    pub fn hear(&mut self, alloc: Global, client: &mut Client) -> Taking
+        ensures hears { (entry : Option EntryOf) × (hears : HearsOne S.remaining S.contents entry self.old self.new client.old client.new)
+            × (is_end result ≡ asks_end self.old.watches entry) × (result ≡ told_of hears.takes) }
+        ensures number { client.new.kept.receiver ≡ client.old.kept.receiver }
+    {
+        self.read_line(alloc);
+        if !self.is_heard() {
+            return Taking::Nothing;
+        }
+        let Some(line) = self.lines.first() else {
+            return Taking::Nothing;
+        };
+        match read_entry(alloc, line) {
+            Ok(entry) => self.take_entry(alloc, client, &entry),
+            Err(fault) => {
+                self.refuse(alloc, fault);
+                Taking::Nothing
+            }
+        }
+    }
+}

@@ -1,0 +1,287 @@
+//! What is guessed is laid over the screen that is noted of an outer terminal, and taken back before another is painted.
+ghost use Rattle.std.specs.Prelude.{◌≡◌, ◌⊎◌, ◌++◌, ◌≤◌, ℕ, [], Option, true, false, None, Some, IfSome, is_some, IfOk, OnOk, OnErr, IsOkUnless};
+ghost use Rattle.roam_screens.specs.Screenshot.{Screenshot};
+ghost use Rattle.roam_scroll_paint.specs.Leads.{Leads};
+ghost use Rattle.roam_outer_terminal.specs.Overlaid.{IsBack, IsForth, IsOver, IsSize, Lays, TakesBack, on_show};
+ghost use Rattle.roam_outer_terminal.specs.Painted.{IsJudged, MayPaint, Paints, is_ready, shown_of};
+ghost use Rattle.roam_turns.specs.Painting.{IsBehind, LeadsSized};
+ghost use Rattle.roam_turns.specs.declared.outer.Noted.{Noted as NotedOf};
+
+use crate::duplex::Duplex;
+use crate::silence::Silence;
+use crate::terminal::Terminal;
+use roam_cells::{Fault, are_same_cells};
+use roam_frames::Outbox;
+use roam_hub::Client;
+use roam_screens::{RowShot, Seen, Shown};
+use roam_scroll_paint::paint_moved;
+use roam_turns::Outer;
+use std::alloc::Global;
+
+/// What stood over the screen that is noted, and the text that takes it back.
+#[derive(Drop)]
+pub(crate) struct Taken {
+    pub(crate) over: RowShot,
+    pub(crate) text: Vec<u8>,
+}
+
+// Whether one screen has the size of another.
+fn is_size<O: Seen, N: Seen>(one: &O, other: &N) -> bool
+    ensures size { result ≡ true → IsSize (O.screen one.now) (N.screen other.now) }
+{
+    one.rows() == other.rows() && one.cols() == other.cols()
+}
+
+// Whether the rows of two screens of one size are the same.
+fn are_same_rows(one: &RowShot, other: &RowShot) -> bool
+    requires size { IsSize one.now other.now }
+    ensures same { result ≡ true → one.now.cells ≡ other.now.cells }
+{
+    one.facts();
+    other.facts();
+    for row in 0..one.rows() {
+        if !are_same_cells(one.row(row), other.row(row)) {
+            return false;
+        }
+    }
+    true
+}
+
+// Whether two screens are the same.
+fn is_same(one: &RowShot, other: &RowShot) -> bool
+    ensures same { result ≡ true → one.now ≡ other.now }
+{
+    is_size(one, other)
+        && one.cursor() == other.cursor()
+        && one.visible() == other.visible()
+        && are_same_rows(one, other)
+}
+
+// A text that leads from one screen to another, in which rows may be moved; none where there is no memory.
+fn moving_text<O: Seen, N: Seen>(alloc: Global, one: &O, other: &N) -> Option<Vec<u8>>
+    ensures leads { IfSome result (λ text. Leads (O.screen one.now) (N.screen other.now) text.items) }
+{
+    let mut text = Vec::new(alloc);
+    match paint_moved(one, other, &mut text) {
+        Ok(()) => Some(text),
+        Err(_) => None,
+    }
+}
+
+// A text that takes back what stands over the screen that is noted; none where that has another size, or there is no memory.
+fn text_back(alloc: Global, over: &RowShot, outer: &Outer) -> Option<Vec<u8>>
+    ensures back { IfSome result (λ text. IsBack over.now outer.now text.items) }
+{
+    let (_, screen) = outer.noted()?;
+    if !is_size(over, &screen) {
+        return None;
+    }
+    moving_text(alloc, over, &screen)
+}
+
+// A text that lays a screen over the one that is noted; none where that has another size, or there is no memory.
+fn text_forth(alloc: Global, outer: &Outer, over: &RowShot) -> Option<Vec<u8>>
+    ensures forth { IfSome result (λ text. IsForth outer.now over.now text.items) }
+{
+    let (_, screen) = outer.noted()?;
+    if !is_size(over, &screen) {
+        return None;
+    }
+    moving_text(alloc, &screen, over)
+}
+
+// What stands over the screen that is noted, with the text that takes it back.
+fn taken_of(alloc: Global, over: RowShot, outer: &Outer) -> Option<Taken>
+    ensures back { IfSome result (λ taken. (taken.over ≡ over) × IsBack over outer.now taken.text.items) }
+{
+    let text = text_back(alloc, &over, outer)?;
+    Some(Taken { over, text })
+}
+
+// Puts a text before what waits, where there is memory for it.
+fn put_before(alloc: Global, waiting: &mut Outbox, text: &[u8]) -> bool
+    ensures put { result ≡ true → waiting.new ≡ text.now ++ waiting.old }
+{
+    let mut both = Outbox::new(alloc);
+    if both.push(text).is_err() || both.push(waiting.as_slice()).is_err() {
+        return false;
+    }
+    std::mem::swap(waiting, &mut both);
+    true
+}
+
+// Lays a screen over the one that is noted, behind what waits, where one is wanted and there is memory for it.
+fn put_forth(
+    alloc: Global,
+    waiting: &mut Outbox,
+    outer: &Outer,
+    wanted: Option<RowShot>,
+) -> Option<RowShot>
+    ensures lays { Lays outer.now wanted result waiting.old waiting.new }
+{
+    let over = wanted?;
+    let text = text_forth(alloc, outer, &over)?;
+    waiting.push(&text).ok()?;
+    Some(over)
+}
+
+// Whether nothing waits, and what is to stand over the screen that is noted stands there.
+fn is_there(waiting: &Outbox, taken: &Taken, over: &Option<RowShot>) -> bool
+    ensures none { result ≡ true → waiting.now ≡ [] }
+    ensures there { result ≡ true → over.now ≡ Some taken.now.over }
+{
+    match over {
+        None => false,
+        Some(over) => waiting.len() == 0 && is_same(over, &taken.over),
+    }
+}
+
+impl<S: Duplex + Drop> Terminal<S> {
+    // Takes back what stands over the screen that is noted: the text for it stands first in the next entry. Where there is no memory for
+    // it nothing is noted any more.
+    fn take_back(&mut self, alloc: Global) -> Option<Taken>
+        ensures taken { TakesBack self.old.over self.old.outer self.new.outer result }
+        ensures others { self.new ≡ record self.old { over = None; outer = self.new.outer } }
+    {
+        let over = self.over.take()?;
+        match taken_of(alloc, over, &self.outer) {
+            Some(taken) => Some(taken),
+            None => {
+                self.forget();
+                None
+            }
+        }
+    }
+
+    // Paints what the start shows: the text that leads there from what is noted waits. Where there is no memory to keep it nothing is
+    // noted any more.
+    fn paint_noted(&mut self, alloc: Global, client: &Client)
+        requires ready { self.old.waiting ≡ [] }
+        ensures leads { LeadsSized self.old.outer self.new.waiting self.new.outer }
+        ensures noted { (self.new.outer ≡ Some (shown_of client.now)) ⊎ ((self.new.outer ≡ self.old.outer) ⊎ (self.new.outer ≡ None)) }
+        ensures others { self.new ≡ record self.old { outer = self.new.outer; waiting = self.new.waiting } }
+    {
+        let (number, screen) = client.shown();
+        let Some(text) = self.outer.paint(alloc, number, &screen) else {
+            return;
+        };
+        if self.waiting.push(&text).is_err() {
+            self.forget();
+        }
+    }
+
+    // The guesses are judged by the screen that is noted.
+    pub(crate) fn judge(&mut self, alloc: Global, client: &Client, now: u64)
+        ensures judged { IsJudged now client.now self.old.outer self.old.guessing self.new.guessing }
+        ensures others { self.new ≡ record self.old { guessing = self.new.guessing } }
+    {
+        if let Some(overlay) = &mut self.guessing
+            && let Some((number, Shown::New(screen))) = self.outer.noted()
+        {
+            overlay.judge(alloc, number, screen, client.acknowledged(), now);
+        }
+    }
+
+    // What is to stand over the screen that is noted: nothing in a silence, which is told.
+    pub(crate) fn wanted(&self, alloc: Global, silence: Silence) -> Option<RowShot>
+        ensures over { IsOver silence.moment self.now.guessing self.now.outer result }
+    {
+        if silence.is_long() {
+            return None;
+        }
+        let overlay = self.guessing.as_ref()?;
+        match self.outer.noted() {
+            Some((_, Shown::New(screen))) => overlay.over(alloc, screen, silence.moment()),
+            _ => None,
+        }
+    }
+
+    // Lays a screen over the one that is noted, behind what waits.
+    fn lay_over(&mut self, alloc: Global, wanted: Option<RowShot>)
+        ensures lays { Lays self.old.outer wanted self.new.over self.old.waiting self.new.waiting }
+        ensures others { self.new ≡ record self.old { over = self.new.over; waiting = self.new.waiting } }
+    {
+        self.over = put_forth(alloc, &mut self.waiting, &self.outer, wanted);
+    }
+
+    // The same where another one stood over the one that was noted before: the text that takes it back stands first. Where nothing
+    // changed nothing waits; where there is no memory for that text nothing is noted any more.
+    fn lay_again(&mut self, alloc: Global, wanted: Option<RowShot>, taken: Taken)
+        requires bare { self.old.over ≡ None }
+        ensures leads { (over : Screenshot) (outer : Option NotedOf) → taken.over ≡ over → IsBack over outer taken.text.items
+            → LeadsSized outer self.old.waiting self.old.outer
+            → LeadsSized (on_show (Some over) outer) self.new.waiting (on_show self.new.over self.new.outer) }
+        ensures over { (now : ℕ) → IsOver now self.old.guessing self.old.outer wanted
+            → IsOver now self.old.guessing self.new.outer self.new.over }
+        ensures outer { (self.new.outer ≡ self.old.outer) ⊎ (self.new.outer ≡ None) }
+        ensures others { self.new ≡ record self.old { over = self.new.over; outer = self.new.outer; waiting = self.new.waiting } }
+    {
+        if is_there(&self.waiting, &taken, &wanted) {
+            self.over = Some(taken.over);
+            return;
+        }
+        if !put_before(alloc, &mut self.waiting, &taken.text) {
+            self.forget();
+            self.waiting.clear();
+            return;
+        }
+        self.lay_over(alloc, wanted);
+    }
+
+    // Lays a screen over the one that is noted, behind what waits and what takes back the one that stood there.
+    fn lay(&mut self, alloc: Global, wanted: Option<RowShot>, taken: Option<Taken>)
+        requires bare { self.old.over ≡ None }
+        ensures leads { (over : Option Screenshot) (outer mid : Option NotedOf) → TakesBack over outer mid taken
+            → LeadsSized mid self.old.waiting self.old.outer
+            → LeadsSized (on_show over outer) self.new.waiting (on_show self.new.over self.new.outer) }
+        ensures over { (now : ℕ) → IsOver now self.old.guessing self.old.outer wanted
+            → IsOver now self.old.guessing self.new.outer self.new.over }
+        ensures outer { (self.new.outer ≡ self.old.outer) ⊎ (self.new.outer ≡ None) }
+        ensures others { self.new ≡ record self.old { over = self.new.over; outer = self.new.outer; waiting = self.new.waiting } }
+    {
+        match taken {
+            Some(taken) => self.lay_again(alloc, wanted, taken),
+            None => self.lay_over(alloc, wanted),
+        }
+    }
+
+    // Paints it: what stands over the screen that is noted is taken back first, then what the start shows is painted, and what is guessed
+    // is laid over that. All of it waits to be written, whole.
+    fn paint(&mut self, alloc: Global, client: &Client, silence: Silence)
+        requires ready { is_ready self.old ≡ true }
+        requires untold { is_some self.old.telling ≡ false }
+        ensures paints { Paints silence client.now self.old self.new }
+        ensures behind { IsBehind self.old.outer client.now.kept.receiver.newest.number client.now.kept.receiver.newest.state
+            → IsBehind self.new.outer client.now.kept.receiver.newest.number client.now.kept.receiver.newest.state }
+    {
+        let taken = self.take_back(alloc);
+        self.paint_noted(alloc, client);
+        self.judge(alloc, client, silence.moment());
+        let wanted = self.wanted(alloc, silence);
+        self.lay(alloc, wanted, taken);
+    }
+
+    // Whether it is to be painted now: all that was painted before is written, and it tells of no silence, but in records.
+    fn is_ready(&self) -> bool
+        ensures ready { result ≡ is_ready self.now }
+    {
+        let is_open = self.telling.is_some() || self.told.is_none();
+        self.is_here() && is_open && self.waiting.len() == 0
+    }
+
+    /// Paints what the start shows where it is ready for it.
+    pub fn paint_if_ready(&mut self, alloc: Global, client: &Client, silence: Silence)
+        ensures paints { MayPaint silence client.now self.old self.new }
+        ensures behind { IsBehind self.old.outer client.now.kept.receiver.newest.number client.now.kept.receiver.newest.state
+            → IsBehind self.new.outer client.now.kept.receiver.newest.number client.now.kept.receiver.newest.state }
+    {
+        if !self.is_ready() {
+            return;
+        }
+        if self.telling.is_some() {
+            self.tell(alloc, client, silence);
+        } else {
+            self.paint(alloc, client, silence);
+        }
+    }
+}

@@ -1,0 +1,98 @@
+//! A terminal that asked for records is told in them what is to be shown, which lines are taken, and the screen that it asked for.
+ghost use Rattle.std.specs.Prelude.{◌≡◌, ◌⊎◌, ◌++◌, List, true, Some, is_some};
+ghost use Rattle.roam_records.specs.declared.records.Record.{Record};
+ghost use Rattle.roam_screens.specs.Shown.{shown_by};
+ghost use Rattle.roam_telling.specs.Saying.{texts_of};
+ghost use Rattle.roam_telling.specs.Telling.{TellingView, Tells};
+ghost use Rattle.roam_outer_terminal.specs.Painted.{TellsAll, TellsIt, TellsNoted, is_ready, shown_of};
+ghost use Rattle.roam_turns.specs.Painting.{IsBehind};
+
+use crate::duplex::Duplex;
+use crate::silence::Silence;
+use crate::terminal::Terminal;
+use roam_frames::Outbox;
+use roam_hub::Client;
+use roam_screens::{RowShot, Shown};
+use roam_telling::Telling;
+use roam_turns::Outer;
+use std::alloc::Global;
+
+// Tells what is to be shown of a screen of either version.
+fn tell_shown(alloc: Global, telling: &mut Telling, waiting: &mut Outbox, screen: &Shown<'_>)
+    ensures tells { (said : List Record) × Tells (shown_by screen.now) said telling.old telling.new
+        × (waiting.new ≡ waiting.old ++ texts_of said) }
+{
+    match screen {
+        Shown::New(shot) => telling.tell_screen(alloc, waiting, shot),
+        Shown::Old(shot) => {
+            if let Ok(copy) = RowShot::of(alloc, *shot) {
+                telling.tell_screen(alloc, waiting, &copy);
+            }
+        }
+    }
+}
+
+// Tells the screen that is noted where it was asked for, and what is to be shown of it with what stands over it.
+fn tell_noted(
+    alloc: Global,
+    telling: &mut Telling,
+    waiting: &mut Outbox,
+    outer: &Outer,
+    over: &Option<RowShot>,
+)
+    ensures tells { (said : List Record) × TellsNoted outer.now over.now said telling.old telling.new
+        × (waiting.new ≡ waiting.old ++ texts_of said) }
+{
+    let Some((_, screen)) = outer.noted() else {
+        return;
+    };
+    telling.tell_look(alloc, waiting, &screen);
+    match over {
+        Some(over) => telling.tell_screen(alloc, waiting, over),
+        None => tell_shown(alloc, telling, waiting, &screen),
+    }
+}
+
+impl<S: Duplex + Drop> Terminal<S> {
+    // Notes what the start shows, where there is memory for it.
+    fn note(&mut self, alloc: Global, client: &Client)
+        ensures noted { (self.new.outer ≡ Some (shown_of client.now)) ⊎ (self.new.outer ≡ self.old.outer) }
+        ensures others { self.new ≡ record self.old { outer = self.new.outer } }
+    {
+        let (number, screen) = client.shown();
+        self.outer.see(alloc, number, &screen);
+    }
+
+    // Tells in records which lines are taken, where so many acts are acknowledged, the screen that it asked for, and what is to be shown of
+    // the screen that is noted with what stands over it; all behind what waits.
+    fn tell_all(&mut self, alloc: Global, acknowledged: u64)
+        ensures told { (before : TellingView) → self.old.telling ≡ Some before → TellsIt acknowledged before self.old self.new }
+    {
+        if let Some(telling) = &mut self.telling {
+            telling.tell_taken(alloc, &mut self.waiting, acknowledged);
+            tell_noted(alloc, telling, &mut self.waiting, &self.outer, &self.over);
+        }
+    }
+
+    // What stands over the screen that is noted, as it is told.
+    fn stand_over(&mut self, over: Option<RowShot>)
+        ensures over { self.new ≡ record self.old { over = over } }
+    {
+        self.over = over;
+    }
+
+    // Tells it in records what it is to know, behind what waits: whole screens are noted, and guesses judged by these.
+    pub(crate) fn tell(&mut self, alloc: Global, client: &Client, silence: Silence)
+        requires ready { is_ready self.old ≡ true }
+        requires told { is_some self.old.telling ≡ true }
+        ensures tells { TellsAll silence client.now self.old self.new }
+        ensures behind { IsBehind self.old.outer client.now.kept.receiver.newest.number client.now.kept.receiver.newest.state
+            → IsBehind self.new.outer client.now.kept.receiver.newest.number client.now.kept.receiver.newest.state }
+    {
+        self.note(alloc, client);
+        self.judge(alloc, client, silence.moment());
+        let wanted = self.wanted(alloc, silence);
+        self.stand_over(wanted);
+        self.tell_all(alloc, client.acknowledged());
+    }
+}

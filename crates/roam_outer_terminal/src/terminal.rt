@@ -1,0 +1,174 @@
+//! An outer terminal: the stream at its other end, the lines that came, and what waits to be written.
+ghost use Rattle.std.specs.Prelude.{◌≡◌, ◌++◌, List, ℕ, [], true, false, not, None};
+ghost use Rattle.roam_outer_terminal.specs.Hearing.{IsRefusal, IsRefused};
+ghost use Rattle.roam_outer_terminal.specs.Painted.{is_guessing, is_here};
+ghost use Rattle.roam_outer_terminal.specs.Staying.{is_gone};
+ghost use Rattle.roam_outer_terminal.specs.Writing.{is_empty, once_written, unwritten};
+ghost use Rattle.roam_typing.specs.Lines.{nothing_came};
+
+use crate::duplex::Duplex;
+use roam_cells::Fault;
+use roam_frames::Outbox;
+use roam_overlay::Overlay;
+use roam_records::Record;
+use roam_screens::RowShot;
+use roam_telling::{Telling, say};
+use roam_turns::Outer;
+use roam_typing::{Front, Lines};
+use std::alloc::Global;
+
+/// How far a terminal came.
+#[derive(Clone, Copy, Debug, PartialEq, Eq)]
+pub(crate) enum State {
+    /// It is there.
+    Here,
+
+    /// It takes nothing more, as where it is closed at its other end: its lines are taken until it left.
+    Deaf,
+
+    /// It left: the lines that came whole are taken, and then it goes.
+    Left,
+
+    /// A line of it was refused: it goes once it was told so.
+    Refused,
+
+    /// It is to be let go.
+    Gone,
+}
+
+impl State {
+    // What it is once nothing more can be written to it. What it typed before is taken none the less.
+    pub(crate) fn unwritten(self) -> State
+        ensures unwritten { result ≡ unwritten self }
+    {
+        match self {
+            State::Here | State::Deaf => State::Deaf,
+            State::Left => State::Left,
+            State::Refused | State::Gone => State::Gone,
+        }
+    }
+
+    // What it is once all that waited for it is written.
+    pub(crate) fn once_written(self) -> State
+        ensures written { result ≡ once_written self }
+    {
+        match self {
+            State::Refused => State::Gone,
+            state => state,
+        }
+    }
+}
+
+/// An outer terminal of a client start.
+#[derive(Drop)]
+pub struct Terminal<S> {
+    pub(crate) stream: S,
+    pub(crate) lines: Lines,
+    pub(crate) outer: Outer,
+    pub(crate) guessing: Option<Overlay>,
+    // What stands over the screen that is noted: that screen with what was guessed.
+    pub(crate) over: Option<RowShot>,
+    pub(crate) waiting: Outbox,
+    // What it is told in records, where it asked for these.
+    pub(crate) telling: Option<Telling>,
+    pub(crate) watches: bool,
+    pub(crate) told: Option<u64>,
+    pub(crate) stuck: Option<u64>,
+    pub(crate) state: State,
+}
+
+impl<S: Duplex + Drop> Terminal<S> {
+    /// A terminal at the other end of a stream: nothing came, nothing is known of it, and nothing waits.
+    pub fn new(alloc: Global, stream: S) -> Terminal<S>
+        ensures stream { result.stream ≡ stream }
+        ensures lines { (result.lines ≡ nothing_came) × (result.watches ≡ false) }
+        ensures guessing { (result.guessing ≡ None) × (result.over ≡ None) }
+        ensures painted { (result.outer ≡ None) × (result.waiting ≡ []) × (result.told ≡ None) × (result.stuck ≡ None) }
+        ensures untold { result.telling ≡ None }
+        ensures here { result.state ≡ State.Here }
+    {
+        Terminal {
+            stream,
+            lines: Lines::new(alloc),
+            outer: Outer::new(),
+            guessing: None,
+            over: None,
+            waiting: Outbox::new(alloc),
+            telling: None,
+            watches: false,
+            told: None,
+            stuck: None,
+            state: State::Here,
+        }
+    }
+
+    /// Whether it is to be let go: it is, or it left and none of its lines stands whole.
+    pub fn is_gone(&self) -> bool
+        ensures gone { result ≡ is_gone self.now }
+    {
+        match self.state {
+            State::Gone => true,
+            State::Left => !matches!(self.lines.front(), Front::Line(_)),
+            State::Here | State::Deaf | State::Refused => false,
+        }
+    }
+
+    /// Whether something waits to be written.
+    pub fn is_waiting(&self) -> bool
+        ensures waits { result ≡ not (is_empty self.now.waiting) }
+    {
+        self.waiting.len() > 0
+    }
+
+    // Whether it is there, and takes what is written to it.
+    pub(crate) fn is_here(&self) -> bool
+        ensures here { result ≡ is_here self.now.state }
+    {
+        match self.state {
+            State::Here => true,
+            State::Deaf | State::Left | State::Refused | State::Gone => false,
+        }
+    }
+
+    /// Whether something is guessed of what it is to show.
+    pub fn is_guessing(&self) -> bool
+        ensures guesses { result ≡ is_guessing self.now }
+    {
+        match &self.guessing {
+            Some(overlay) => overlay.len() > 0,
+            None => false,
+        }
+    }
+
+    // What it shows isn't known any more: it is opened and painted anew.
+    pub(crate) fn forget(&mut self)
+        ensures outer { self.new ≡ record self.old { outer = None } }
+    {
+        self.outer = Outer::new();
+    }
+
+    // Tells the terminal why its next line isn't taken, behind what waits, where there is memory for it.
+    pub(crate) fn refuse(&mut self, alloc: Global, fault: Fault)
+        ensures refused { IsRefused self.old self.new }
+    {
+        let is_told = self.telling.is_some();
+        self.state = State::Refused;
+        self.forget();
+        let number = self.lines.count().saturating_add(1);
+        push_refusal(alloc, &mut self.waiting, is_told, number, fault);
+    }
+}
+
+// Adds why a line isn't taken: in words, or in a record. Where there is no memory for it nothing is added.
+fn push_refusal(alloc: Global, waiting: &mut Outbox, is_told: bool, number: u64, fault: Fault)
+    ensures words { (text : List ℕ) × IsRefusal is_told text × (waiting.new ≡ waiting.old ++ text) }
+{
+    let Ok(words) = format!(in alloc; "{fault}") else {
+        return;
+    };
+    if is_told {
+        say(alloc, waiting, Record::Refused(number, words.as_str()));
+    } else if let Ok(text) = format!(in alloc; "\r\nroam: line {number}: {words}\r\n") {
+        let _ = waiting.push(text.as_bytes());
+    }
+}

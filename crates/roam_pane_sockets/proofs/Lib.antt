@@ -1,0 +1,5 @@
+mod Bound
+mod Bringing
+mod Cutting
+mod Framing
+mod Sifting

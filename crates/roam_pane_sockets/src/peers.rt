@@ -1,0 +1,249 @@
+//! The peers of sockets, one at a time; those of the panes' sockets are each for the making of the pane that they came to.
+ghost use Rattle.std.specs.Prelude.{◌≡◌, ◌≢◌, ◌⊎◌, ◌↔◌, ◌<◌, ◌≤◌, length, IsTrue, IsSome, IfSome, is_some, None};
+ghost use Rattle.roam_pane_sockets.specs.Inflows.{Brings, HandsOn, IsFreshInflow};
+ghost use Rattle.roam_pane_sockets.specs.Peers.{HasFailed, life_in, peer_in};
+ghost use Rattle.roam_pane_sockets.specs.Sieves.{CountsSome, HasFree, IsFree, bytes_given};
+
+use crate::inflows::Inflow;
+use crate::sieves::MOST_READ;
+use mio::net::{UnixListener, UnixStream};
+use mio::{Interest, Registry, Token};
+use roam_faults::{is_for_now, is_stream_end};
+use std::io;
+use std::io::{Read, Write};
+
+/// So many peers that are gone already are let go at once.
+const MOST_GONE: u32 = 64;
+
+/// The program that came to a socket, or none.
+#[derive(Drop)]
+pub(crate) struct Peer {
+    stream: Option<UnixStream>,
+}
+
+/// A making of a pane that is there, and the peer that came to it.
+#[derive(Drop)]
+pub(crate) struct Making {
+    life: u64,
+    peer: Peer,
+}
+
+/// Whether a peer that answered a write so has failed.
+pub fn has_failed(answer: &io::Result<usize>) -> bool
+    ensures failed { IsTrue result ↔ HasFailed answer.now }
+{
+    match answer {
+        Ok(_) => false,
+        Err(error) => !is_for_now(error),
+    }
+}
+
+/// The next program that waits at a socket. It is reported where the program waits.
+pub fn next_at(listener: &UnixListener, registry: &Registry) -> Option<UnixStream> {
+    let (mut stream, _) = listener.accept().ok()?;
+    // Where it isn't reported, a wait ends by its time alone.
+    let _ = registry.register(
+        &mut stream,
+        Token(0),
+        Interest::READABLE | Interest::WRITABLE,
+    );
+    Some(stream)
+}
+
+/// The making of a pane that is there from now on, or that none is. That which was there stays with its peer; the peer of any other goes,
+/// and what came of it.
+pub(crate) fn live(making: &mut Option<Making>, inflow: &mut Inflow, life: Option<u64>)
+    ensures lives { life_in making.new ≡ life }
+    ensures stays { life_in making.old ≡ life → (making.new ≡ making.old) × (inflow.new ≡ inflow.old) }
+    ensures goes { life_in making.old ≢ life → peer_in making.new ≡ None }
+    ensures fresh { life_in making.old ≢ life → IsFreshInflow inflow.new (is_some inflow.old.sieve) }
+{
+    if life_of(making) != life {
+        *making = match life {
+            None => None,
+            Some(life) => Some(Making {
+                life,
+                peer: Peer::none(),
+            }),
+        };
+        inflow.renew();
+    }
+}
+
+/// Which making is there, if any.
+pub(crate) fn life_of(making: &Option<Making>) -> Option<u64>
+    ensures life { result ≡ life_in making.now }
+{
+    match making {
+        None => None,
+        Some(making) => Some(making.life),
+    }
+}
+
+/// Whether a peer came to a making.
+pub(crate) fn has_peer(making: &Option<Making>) -> bool
+    ensures peer { result ≡ is_some (peer_in making.now) }
+{
+    match making {
+        None => false,
+        Some(making) => making.peer.is_there(),
+    }
+}
+
+impl Peer {
+    /// No program came yet.
+    pub(crate) fn none() -> Peer
+        ensures none { result.stream ≡ None }
+    {
+        Peer { stream: None }
+    }
+
+    /// Whether a program came.
+    pub(crate) fn is_there(&self) -> bool
+        ensures there { result ≡ is_some self.now.stream }
+    {
+        self.stream.is_some()
+    }
+
+    /// Lets the program go.
+    pub(crate) fn let_go(&mut self)
+        ensures none { self.new.stream ≡ None }
+    {
+        self.stream = None;
+    }
+
+    /// Takes the next program that waits, where there is none.
+    pub(crate) fn accept(&mut self, listener: &UnixListener, registry: &Registry)
+        ensures one { IfSome self.old.stream (λ _. self.new ≡ self.old) }
+    {
+        if self.stream.is_none() {
+            self.stream = next_at(listener, registry);
+        }
+    }
+
+    /// Takes those that wait, where there is none, until one wrote something, or wrote nothing yet: those that are gone are let go, and of
+    /// 64 and more the next one is heard another time.
+    pub(crate) fn take_next(
+        &mut self,
+        listener: &UnixListener,
+        registry: &Registry,
+        buf: &mut [u8],
+    ) -> Option<usize>
+        ensures some { IfSome result (λ n. 0 < n) }
+        ensures within { IfSome result (λ n. n ≤ length buf.new) }
+        ensures from { IfSome result (λ _. IsSome self.new.stream) }
+    {
+        for _ in 0..MOST_GONE {
+            self.accept(listener, registry);
+            if !self.is_there() {
+                return None;
+            }
+            if let Some(count) = self.hear(buf) {
+                return Some(count);
+            }
+            if self.is_there() {
+                return None;
+            }
+        }
+        self.accept(listener, registry);
+        None
+    }
+
+    /// What the program wrote, or nothing. One that is gone is let go.
+    pub(crate) fn hear(&mut self, buf: &mut [u8]) -> Option<usize>
+        ensures some { IfSome result (λ n. 0 < n) }
+        ensures within { IfSome result (λ n. n ≤ length buf.new) }
+        ensures from { IfSome result (λ _. IsSome self.old.stream × (self.new ≡ self.old)) }
+        ensures one { (self.new ≡ self.old) ⊎ (self.new.stream ≡ None) }
+    {
+        let answer = self.stream.as_mut()?.read(buf);
+        if is_stream_end(&answer) {
+            self.stream = None;
+            return None;
+        }
+        answer.ok()
+    }
+
+    /// How many of the bytes the program took, 0 where none is there. One that has failed is let go.
+    pub(crate) fn tell(&mut self, bytes: &[u8]) -> usize
+        ensures within { result ≤ length bytes.now }
+        ensures from { 0 < result → IsSome self.old.stream × (self.new ≡ self.old) }
+        ensures one { (self.new ≡ self.old) ⊎ (self.new.stream ≡ None) }
+    {
+        let Some(stream) = self.stream.as_mut() else {
+            return 0;
+        };
+        let answer = stream.write(bytes);
+        if has_failed(&answer) {
+            self.stream = None;
+        }
+        answer.unwrap_or(0)
+    }
+}
+
+// What the program of a making wrote: how many bytes of `buf` it fills from the front.
+fn hear(
+    making: &mut Making,
+    listener: &UnixListener,
+    registry: &Registry,
+    buf: &mut [u8],
+) -> Option<usize>
+    ensures some { IfSome result (λ n. 0 < n) }
+    ensures within { IfSome result (λ n. n ≤ length buf.new) }
+    ensures from { IfSome result (λ _. IsSome making.new.peer.stream) }
+    ensures life { making.new.life ≡ making.old.life }
+    ensures one { IfSome making.old.peer.stream (λ _. (making.new ≡ making.old) ⊎ (making.new.peer.stream ≡ None)) }
+{
+    if making.peer.is_there() {
+        return making.peer.hear(buf);
+    }
+    making.peer.take_next(listener, registry, buf)
+}
+
+/// What goes on to a pane's terminal of what its program wrote: how many bytes of `buf` it fills from the front, which are none where all
+/// that came, or waited, waits. A pane that isn't there takes no peer, and is told nothing.
+pub(crate) fn read(
+    making: &mut Option<Making>,
+    inflow: &mut Inflow,
+    listener: &UnixListener,
+    registry: &Registry,
+    buf: &mut [u8],
+    now: u64,
+) -> Option<usize>
+    ensures within { IfSome result (λ n. n ≤ length buf.new) }
+    ensures from { IfSome result (λ _. IsSome (peer_in making.new) ⊎ (IsFree inflow.old.sieve → ⊥)) }
+    ensures life { life_in making.new ≡ life_in making.old }
+    ensures waits { life_in making.old ≡ None → (making.new ≡ making.old) × (inflow.new ≡ inflow.old) }
+    ensures one { IfSome (peer_in making.old) (λ _. (making.new ≡ making.old) ⊎ (peer_in making.new ≡ None)) }
+    ensures brings { Brings inflow.old inflow.new (bytes_given result buf.new) }
+    ensures none { result ≡ None → inflow.new ≡ inflow.old }
+    ensures free { IsSome (life_in making.old) → HasFree now inflow.old.sieve → 0 < length buf.old → CountsSome result }
+    ensures hands { IfSome result (λ n. HandsOn now inflow.old inflow.new n) }
+{
+    let making = making.as_mut()?;
+    if let Some(count) = inflow.go_on(buf, now) {
+        return Some(count);
+    }
+    let most = buf.len().min(MOST_READ);
+    let count = hear(making, listener, registry, buf.split_at_mut(most).0)?;
+    Some(inflow.came(buf, count, now))
+}
+
+/// How many of the bytes the program of a pane took, 0 where none is there.
+pub(crate) fn write(
+    making: &mut Option<Making>,
+    listener: &UnixListener,
+    registry: &Registry,
+    bytes: &[u8],
+) -> usize
+    ensures within { result ≤ length bytes.now }
+    ensures from { 0 < result → IsSome (peer_in making.new) }
+    ensures life { life_in making.new ≡ life_in making.old }
+    ensures one { IfSome (peer_in making.old) (λ _. (making.new ≡ making.old) ⊎ (peer_in making.new ≡ None)) }
+{
+    let Some(making) = making.as_mut() else {
+        return 0;
+    };
+    making.peer.accept(listener, registry);
+    making.peer.tell(bytes)
+}
