@@ -239,10 +239,10 @@ gone whole/clients
 gone whole/session
 gone whole/session.new
 
-means meant
-second connects meant/p1
+means as_meant
+second connects as_meant/p1
 second writes a\u{1b}[?3hd
-start comes meant
+start comes as_meant
 start shows d
 ends well
 
@@ -274,9 +274,9 @@ server goes
 ends gone
 gone left/terminals
 
-hosts full
-others 16 full/terminals
-first connects full/terminals
+hosts crowded
+others 16 crowded/terminals
+first connects crowded/terminals
 first reads full/
 first is let go
 server goes
