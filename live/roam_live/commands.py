@@ -556,10 +556,10 @@ class Commands:
         if size and not self.link.watches:
             self.type_together(terminal.size_act(size))
 
-    def mend(self) -> None:
-        """Gives the session the size back that it had before a zoom that a front end has left, and then the one that it has at this
-        terminal."""
-        if self.zooming.mend():
+    def mend(self, is_late: bool = False) -> None:
+        """Gives the session the size back that it had before a zoom that a front end has left, where whose that is was awaited or needn't
+        be, and then the one that it has at this terminal."""
+        if self.zooming.mend(is_late):
             self.fit()
 
     def forget_given(self) -> None:

@@ -19,6 +19,7 @@ HELD, PUT, LOST = "held", "put", "lost"
 
 TOO_MANY = f"{MOST_TEXTS} texts wait to be pasted"
 TOO_LONG = f"{MOST_BYTES >> 20} MB wait to be pasted"
+NO_ROOM = (TOO_MANY, TOO_LONG)
 
 
 class GivenText:

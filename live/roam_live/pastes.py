@@ -6,7 +6,7 @@ from collections.abc import Callable, Sequence
 
 from roam_live.keys import pasted_acts
 from roam_live.loops import Loop
-from roam_live.shells_link import HELD, LOST, REFUSED, UNTOLD
+from roam_live.shells_link import HELD, LATER, LOST, REFUSED, UNTOLD
 from roam_live.texts import MOST_BYTES, cleaned, mark_acts, random_name
 
 TYPE_CHECKING = False
@@ -34,6 +34,8 @@ NO_ROOM = f"for all panes it has more than {MOST_BYTES >> 20} MB"
 INTERRUPT = "char 3"
 
 NOT_TAKEN = "nothing is pasted: what keeps the shells takes nothing"
+NOTHING = "nothing is pasted: {}"
+WAITS = "what is pasted waits: {}"
 DROPPED = "what was pasted and still waited is dropped"
 LOST_WORDS = "what was pasted last is lost: what keeps the shells ended, or had it for too long"
 TOO_LONG = f"nothing is pasted: it has more than {MOST_BYTES >> 20} MB, or waits behind others that have"
@@ -62,6 +64,8 @@ class Paste:
         # The pane that gets the focus for it, and the one that gets it back.
         self.focuses = focuses
         self.is_held = False
+        # Why nothing of it is typed where it is never held.
+        self.why = NOT_TAKEN
 
     def line(self) -> str:
         """The line that types its mark, which nothing joins."""
@@ -164,13 +168,13 @@ class Pastes:
         panes = self.spreads() or [0]
         for pane in panes:
             paste = Paste("", False, number, (pane, panes[0]) if pane != panes[0] else None)
-            self.shells.give_buffer(paste.name, number)
+            self.shells.give(paste.name, number)
             self.hand(paste)
 
     def hand(self, paste: Paste) -> None:
         """Waits until a paste is held."""
         self.waiting.append(paste)
-        self.loop.later(f"hand {paste.name}", HANDING, lambda: self.fail(paste, NOT_TAKEN))
+        self.loop.later(f"hand {paste.name}", HANDING, lambda: self.fail(paste, paste.why))
 
     # ---- what becomes of it
 
@@ -180,6 +184,10 @@ class Pastes:
         if word == LOST:
             self.tells(LOST_WORDS)
         if not paste:
+            return
+        if word == LATER:
+            self.tells(WAITS.format(more))
+            paste.why = NOTHING.format(more)
             return
         if word == HELD:
             paste.is_held = True
@@ -192,7 +200,7 @@ class Pastes:
         else:
             self.waiting.remove(paste)
             if word in (REFUSED, UNTOLD):
-                self.tells(f"nothing is pasted: {more}" if more else NOT_TAKEN)
+                self.tells(NOTHING.format(more) if more else NOT_TAKEN)
         self.loop.drop(f"hand {name}")
         self.type_waiting()
 

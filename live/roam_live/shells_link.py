@@ -7,6 +7,7 @@ from collections.abc import Callable
 
 from roam_live.colours import COLOUR, Colours, told_in
 from roam_live.following import LET_GO, Following
+from roam_live.given import NO_ROOM
 from roam_live.kept_rows import BUFFER, AnswerReader, BadAnswer, RowsLink
 from roam_live.loops import Loop
 from roam_live.presence import HERE, LEAVE, WHO, Presence, ToldOthers, terminal_name
@@ -25,8 +26,10 @@ LEFT = "left"
 HELD, PUT, LOST, REFUSED = ANSWERS = ("held", "put", "lost", "refused")
 KEEPER = "keeper"
 
-# What is told here of one where no keeper is there that takes any.
-UNTOLD = "untold"
+# What is told here of one where no keeper is there that takes any, and of one for which there is no room yet: with the keeper's words. It
+# is given again after so many seconds, until there is.
+UNTOLD, LATER = "untold", "later"
+GIVES_AGAIN = 0.3
 
 # Where so many connections in a row couldn't be had one may still be there soon.
 FEW = 2
@@ -62,6 +65,10 @@ class ShellsLink(Following):
         # by the word of the keeper, with more words or none. A number is that of a buffer of the keeper's.
         self.giving: dict[str, bytes | int] = {}
         self.given: dict[str, None] = {}
+        # Those of which the keeper has to tell what becomes of them; and whether it had no room for one, so that one after the other is
+        # given.
+        self.asked: set[str] = set()
+        self.is_full = False
         self.answers: Callable[[str, str, str], object] = lambda name, word, more: None
         # What is called where this terminal is to leave, and with how many others do, where it had them do so.
         self.leaves: Callable[[], object] = lambda: None
@@ -201,6 +208,8 @@ class ShellsLink(Following):
             self.ask(f"{ZOOM} {self.zoom}")
         if is_other:
             self.lose(LOST)
+        self.asked.clear()
+        self.is_full = False
         for text, data in self.giving.items():
             self.ask_to_take(text, data)
         for text in self.given:
@@ -222,20 +231,24 @@ class ShellsLink(Following):
         """Whether a text of so many bytes may wait here: where a keeper is stopped nothing goes, not even what isn't wanted any more."""
         return len(self.waiting) + length <= MOST_GIVING
 
-    def give(self, name: str, data: bytes) -> None:
-        """Has the keeper hold a text: it is given again, where the connection is lost, until it does."""
+    def give(self, name: str, data: bytes | int) -> None:
+        """Has the keeper hold a text, or a buffer of its own as one, of which one that it hasn't is refused: it is given again, where the
+        connection is lost or the keeper has no room, until it is held."""
         self.giving[name] = data
-        if self.is_there:
+        if self.is_there and not self.is_full:
             self.ask_to_take(name, data)
 
-    def give_buffer(self, name: str, number: int) -> None:
-        """Has the keeper hold a buffer of its own as a text; a keeper that has none of this number refuses it."""
-        self.giving[name] = number
-        if self.is_there:
-            self.ask_to_take(name, number)
+    def give_first(self) -> None:
+        """Gives a keeper that had no room the first text that waits, once it has told of those that it was given; the next ones are given
+        at once, where none waits."""
+        name = next(iter(self.giving), "")
+        self.is_full = name != ""
+        if name and self.is_there and not self.asked:
+            self.ask_to_take(name, self.giving[name])
 
     def ask_to_take(self, name: str, data: bytes | int) -> None:
         """Gives a text, or a buffer, to the keeper that is there."""
+        self.asked.add(name)
         if isinstance(data, int):
             self.ask(f"give {name} {BUFFER} {data}")
             return
@@ -248,9 +261,21 @@ class ShellsLink(Following):
         self.given.pop(name, None)
 
     def answered(self, name: str, word: str, more: str) -> None:
-        """Takes what becomes of a text that was given."""
-        if name not in self.giving and name not in self.given:
+        """Takes what becomes of a text that was given: one for which the keeper has no room is given again later."""
+        self.asked.discard(name)
+        if word == REFUSED and more in NO_ROOM:
+            self.is_full = True
+            self.loop.later(f"give {name} again", GIVES_AGAIN, self.give_first)
+            if name in self.giving:
+                self.answers(name, LATER, more)
             return
+        if name in self.giving or name in self.given:
+            self.take_answer(name, word, more)
+        if self.is_full:
+            self.give_first()
+
+    def take_answer(self, name: str, word: str, more: str) -> None:
+        """Takes what becomes of a text that was given, and has room."""
         if self.giving.pop(name, None) is None:
             del self.given[name]
         if word == HELD:

@@ -4,6 +4,7 @@ from __future__ import annotations
 
 from roam_live import terminal
 from roam_live.borders import splits_of
+from roam_live.display import NO_SIZE
 from roam_live.loops import Loop
 from roam_live.shares import above, area_of, laid, size_for
 from roam_live.zoom_notes import LEFT, MOST_ASKED, ZoomNote
@@ -270,29 +271,32 @@ class Zooming:
 
     def mend(self, is_late: bool = False) -> bool:
         """Gives the session its size back where a front end made it larger that has left, and tells whether it does: what that typed last
-        may not be taken yet. Where the session had another size meanwhile it may have that of somebody else's zoom: of that the keeper
-        tells, maybe a moment after the panes are told."""
-        note, size = self.left_by(), self.commands.given or self.commands.session_size()
-        if not note or size == (0, 0):
+        may not be taken yet. Where somebody else types, or the session had another size meanwhile, it may have that of his zoom: of that
+        the keeper tells, maybe a moment after the panes are told, which is late enough."""
+        note, size = self.left_by(), self.session_size()
+        if not note or size == NO_SIZE:
             return False
         if size not in note.asked:
             self.unseen = note
             self.loop.drop("zoom comes")
-            if is_late:
-                self.overrule()
-            else:
-                self.loop.later("zoom left", LEFT, lambda: self.mend(is_late=True))
-        elif note != self.unseen:
+            self.loop.later("zoom left", LEFT, self.overrule_late)
+        elif is_late or note != self.unseen and self.commands.has_others() is False:
+            self.loop.drop("zoom comes")
             self.commands.give(note.size)
             return True
         elif "zoom comes" not in self.loop.due:
-            self.loop.later("zoom comes", LEFT, self.mend_late)
+            self.loop.later("zoom comes", LEFT, lambda: self.commands.mend(is_late=True))
         return False
 
-    def mend_late(self) -> None:
-        """Gives the session its size back, where nobody has told that the zoom is his."""
-        self.unseen = None
-        self.commands.mend()
+    def session_size(self) -> Size:
+        """The session's size, or the one that it was given and may still get."""
+        return self.commands.given or self.commands.session_size()
+
+    def overrule_late(self) -> None:
+        """Tells the keeper that such a zoom is over, where nothing has come of it."""
+        note, size = self.left_by(), self.session_size()
+        if note and size != NO_SIZE and size not in note.asked:
+            self.overrule()
 
     def overrule(self) -> None:
         """Tells the keeper that a zoom which a front end has left is over: the session's size is one that it was given otherwise."""

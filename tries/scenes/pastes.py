@@ -156,13 +156,10 @@ def paste_order(folder):
         before = path.stat().st_size
         texts = [bytes(chance.choices(range(0x30, 0x7A), k=chance.choice((20, 100, 700)))) for _ in range(PASTES)]
         keys = [f"<{number}>".encode() for number in range(PASTES)]
-        for number, (text, key) in enumerate(zip(texts, keys)):
+        for text, key in zip(texts, keys):
             types.type(key + pasted(text))
             others.type(b"." if types is outer else b",")
             time.sleep(0.02)
-            # More than 64 texts that wait at the keeper are refused, and that is told: on a busy machine so many can.
-            if number % 32 == 31:
-                comes(lambda before=before, key=key: key in path.read_bytes()[before:], 60)
         types.type(b"<end>")
         comes(lambda: path.read_bytes().rstrip(b".,").endswith(b"<end>"), 60)
         got = path.read_bytes()[before:]

@@ -12,12 +12,11 @@ from scenes.machines import ssh_words
 from scenes.mouse import report
 from scenes.mouse_programs import Modes
 from scenes.programs import htop_options
-from tried import SESSION, WAIT, Outer, check, comes, connected, part_at, scene, shown_above, terminals_of, three_panes, told_cells, tool
+from tried import SESSION, Outer, check, comes, connected, part_at, scene, shown_above, terminals_of, three_panes, told_cells, tool
 from roam_live.borders import NO_PANE
-from roam_live.loops import READ, ready
 from roam_live.mouse import tracking_of
 from roam_live.places import asked_places
-from roam_live.program import Fault, Lines, connected_in, read
+from roam_live.program import Fault
 from roam_live.terminal import MOST
 
 # The command of a pane that writes rows at its begin, and nothing more; so many there are, at most.
@@ -39,19 +38,6 @@ def there(name=SESSION):
     found = []
     comes(lambda: found.append(asked_places(terminals_of(name).parent / "panes")) or found[-1])
     return found[-1]
-
-
-def noted_zoom():
-    """What the keeper tells of a zoom to who asks: nothing where none is noted."""
-    told, lines = [], Lines()
-    with connected_in(terminals_of(SESSION).parent / "shells", WAIT) as peer:
-        peer.sendall(b"who\n")
-        while not any(line.startswith("others ") for line in told) and ready(peer, READ, WAIT):
-            piece = read(peer.fileno())
-            if piece == b"":
-                break
-            told += lines.fed(piece or b"")
-    return next((line for line in told if line.startswith("zoomed ")), "")
 
 
 def acts(*words):
@@ -267,8 +253,6 @@ def zoom_killed(folder):
         again.type(b"\x02d")
         again.ends()
     check("some were killed with a larger session", len(seen) > 1, seen)
-    # Who comes while a zoom is noted that was left takes one of the same size for that, until it is told whose it is.
-    comes(lambda: not noted_zoom())
     outer, other = Outer(tool("mux", SESSION)), Outer(tool("mux", SESSION))
     other.status("[1] 2  3")
     outer.status("[1] 2  3")

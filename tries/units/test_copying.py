@@ -40,12 +40,8 @@ class CopyShells(PlayedShells):
         return True
 
     def give(self, name, data):
-        """Keeps what is given."""
+        """Keeps what is given: bytes, or the number of a buffer."""
         self.gave.append((name, data))
-
-    def give_buffer(self, name, number):
-        """Keeps which buffer is given."""
-        self.gave.append((name, number))
 
     def cancel(self, name):
         """Keeps what isn't given any more."""

@@ -170,7 +170,7 @@ class Linked(Case):
         """A buffer is given by its number, again to a keeper that comes again."""
         self.keeper.send(b"keeper 00\nothers 0\n")
         self.loop.turns(2)
-        self.link.give_buffer("00112233445566aa", 7)
+        self.link.give("00112233445566aa", 7)
         self.loop.turns(2)
         self.assertEqual(self.keeper.recv(4096), b"give 00112233445566aa buffer 7\n")
         self.link.answers = lambda *told: self.told.append(told)

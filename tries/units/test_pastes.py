@@ -5,9 +5,10 @@ from unittest import mock
 from aids import Case, StillLoop
 from roam_live import pastes
 from roam_live.following import PAUSES
+from roam_live.given import NO_ROOM
 from roam_live.keys import BRACKETS
 from roam_live.pastes import DROPPED, ENDS, HANDING, LOST_WORDS, MOST_BEHIND, NOT_TAKEN, SHORT, TOO_LONG, Pastes
-from roam_live.shells_link import MOST_GIVING, UNTOLD, ShellsLink
+from roam_live.shells_link import GIVES_AGAIN, LATER, MOST_GIVING, UNTOLD, ShellsLink
 from roam_live.texts import mark_acts
 from test_display import Person, PlayedPanes, StartLink, places
 from test_shells_socket import Sockets
@@ -169,6 +170,26 @@ class Handed(Case):
         self.tell(1, "refused", "16 MB wait to be pasted")
         self.assertEqual((self.link.lines, self.said), (["char 61"], ["nothing is pasted: 16 MB wait to be pasted"]))
 
+    def test_later(self):
+        """One for which there is no room yet is waited for, and what was typed behind it too: that is told, and after 60 seconds why
+        nothing came of it."""
+        for is_held in (True, False):
+            self.link.lines.clear()
+            self.said.clear()
+            self.paste(LONG)
+            number = len(self.shells.gave)
+            self.pastes.type("char 61")
+            self.now += HANDING / 2
+            self.tell(number, LATER, "64 texts wait to be pasted")
+            self.assertEqual((self.link.lines, self.said), ([], ["what is pasted waits: 64 texts wait to be pasted"]))
+            if is_held:
+                self.tell(number, "held")
+                self.assertEqual(self.link.lines, [self.mark(number), "char 61"])
+                continue
+            self.now += HANDING / 2
+            self.loop.do_due()
+            self.assertEqual((self.link.lines, self.said[1:]), (["char 61"], ["nothing is pasted: 64 texts wait to be pasted"]))
+
     def test_not_taken(self):
         """A keeper that takes nothing for 60 seconds is told of, and what was typed behind it goes."""
         self.paste(LONG)
@@ -288,12 +309,66 @@ class Given(Sockets):
         self.assertEqual(len(self.told), 2)
 
     def test_refused(self):
-        """One for which there is no room is told with the words of the keeper."""
+        """One that is refused is told with the words of the keeper."""
         self.turn()
-        with mock.patch.object(self.socket.texts, "refusal", return_value="16 MB wait to be pasted"):
+        with mock.patch.object(self.socket.texts, "refusal", return_value="none is taken"):
             self.made_link.give(self.names[0], b"text")
             self.turn()
-        self.assertEqual(self.told, [(self.names[0], "refused", "16 MB wait to be pasted")])
+        self.assertEqual((self.told, self.made_link.giving), ([(self.names[0], "refused", "none is taken")], {}))
+
+    def test_no_room(self):
+        """Those for which the keeper has no room are given again, one after the other, until it has."""
+        link, names = self.made_link, self.names
+        self.turn()
+        for refusal in NO_ROOM:
+            self.told.clear()
+            with mock.patch.object(self.socket.texts, "refusal", side_effect=["", refusal, refusal]):
+                for name in names[:3]:
+                    link.give(name, b"text")
+                self.turn()
+                link.give(names[3], b"text")
+                self.turn()
+            self.assertEqual(self.told, [(names[0], "held", ""), *((name, LATER, refusal) for name in names[1:3])])
+            self.assertEqual(list(link.giving), names[1:4])
+            self.now += GIVES_AGAIN
+            with mock.patch.object(self.socket.texts, "refusal", side_effect=["", refusal]) as asked:
+                self.turn()
+            self.assertEqual((self.told[3:], asked.call_count), ([(names[1], "held", ""), (names[2], LATER, refusal)], 2))
+            self.now += GIVES_AGAIN
+            self.turn()
+            self.assertEqual((self.told[5:], link.giving), ([(name, "held", "") for name in names[2:4]], {}))
+            link.give(names[4], b"text")
+            self.turn()
+            self.assertEqual((self.told[7:], self.socket.texts.coming), ([(names[4], "held", "")], 0))
+            for name in names:
+                self.socket.texts.drop(self.socket.texts.placed(name))
+            names = self.names = [f"{number:016x}" for number in range(5, 10)]
+            self.turn()
+
+    def test_no_room_at_the_next(self):
+        """A keeper that is there again, or another one, is given all that waits at once; who doesn't want a text any more keeps none back."""
+        link, names = self.made_link, self.names
+        self.turn()
+        with mock.patch.object(self.socket.texts, "refusal", return_value=NO_ROOM[0]):
+            for name in names[:3]:
+                link.give(name, b"text")
+            self.turn()
+        self.assertEqual((list(link.giving), link.is_full), (names[:3], True))
+        link.cancel(names[0])
+        self.socket.drop(self.socket.peers[0])
+        self.turn(2)
+        self.now += PAUSES[0]
+        self.turn()
+        self.assertEqual(([word for _, word, _ in self.told[3:]], link.is_full), (["held", "held"], False))
+        with mock.patch.object(self.socket.texts, "refusal", return_value=NO_ROOM[0]):
+            link.give(names[3], b"text")
+            link.give(names[4], b"text")
+            link.cancel(names[3])
+            self.turn()
+        self.assertEqual(self.told[5:], [(names[4], LATER, NO_ROOM[0])])
+        self.now += GIVES_AGAIN
+        self.turn()
+        self.assertEqual((self.told[6:], link.is_full), ([(names[4], "held", "")], False))
 
     def test_lost(self):
         """Where the connection is lost a text is given again until it is held; of one that was held it is asked then."""

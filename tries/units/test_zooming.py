@@ -379,21 +379,46 @@ class Noted(Zoomed):
             self.assertEqual((session.places().size(), shells.zooms[-1:]), (after, ["None"]), (own, has))
 
     def test_there(self):
-        """So does one that is there; not while the one who made it is, nor one that watches, nor where the size was changed since."""
+        """So does one that is there: at once where nobody else types, and else a moment later. Not while the one who made it is, nor one
+        that watches, nor where the size was changed since."""
         note = ZoomNote((24, 80), ((48, 160),))
-        for maker, watches, changed, after in ((0, False, None, (24, 80)), (7, False, None, (48, 160)), (0, True, None, (48, 160)),
-                                               (0, False, "size 40 100", (40, 100))):
+        for maker, watches, types, changed, soon, after in (
+                (0, False, False, None, (24, 80), (24, 80)), (0, False, True, None, (48, 160), (24, 80)),
+                (0, False, None, None, (24, 80), (24, 80)), (7, False, False, None, (48, 160), (48, 160)),
+                (0, True, True, None, (48, 160), (48, 160)), (0, False, True, "size 40 100", (40, 100), (40, 100))):
             session = self.grid()
             session.do("size 48 160")
-            self.attach(session, shells=PlayedShells(True), watches=watches)
+            self.attach(session, shells=PlayedShells(types), watches=watches)
             self.by_another(*filter(None, [changed]))
             self.person.shells.zoomed = maker, note
             self.person.commands.others_told()
             self.take()
-            self.now += 1
+            self.assertEqual(session.places().size(), soon, (maker, watches, types, changed))
+            self.now += zooming.LEFT
             self.person.loop.do_due()
             self.take()
-            self.assertEqual(session.places().size(), after, (maker, watches, changed))
+            self.assertEqual(session.places().size(), after, (maker, watches, types, changed))
+
+    def test_anothers_stays(self):
+        """Who comes while one is noted that was left, and sees the size of somebody else's, leaves that as it is: of whose it is the keeper
+        tells him maybe later than the panes are told."""
+        note = ZoomNote((24, 80), ((48, 160),))
+        for is_told in (True, False):
+            session = self.grid()
+            session.do("size 48 160")
+            self.attach(session, shells=PlayedShells(True))
+            self.person.shells.zoomed = 0, note
+            self.person.commands.others_told()
+            self.now += zooming.LEFT / 2
+            self.person.loop.do_due()
+            self.by_another("grow 1")
+            self.assertEqual((session.places().size(), self.person.shells.zooms), ((48, 160), []))
+            self.person.shells.zoomed = 9 if is_told else 0, note
+            self.person.commands.others_told()
+            self.now += zooming.LEFT
+            self.person.loop.do_due()
+            self.take()
+            self.assertEqual((session.places().size(), self.person.shells.zooms), ((48, 160), []) if is_told else ((24, 80), ["None"]))
 
     def test_late(self):
         """What who was killed typed last may come a moment after that is told; a size that this person gave meanwhile stays."""
@@ -428,8 +453,8 @@ class Noted(Zoomed):
             self.person.loop.do_due()
             self.take()
             self.assertEqual((self.session.places().size(), self.person.shells.zooms), (after, [] if told else ["None"]))
-        # Once that one is left too it has the size at once.
-        self.person.shells.zoomed = 0, note
+        # Once that one is left too it has the size, at once where nobody else is left.
+        self.person.shells.zoomed, self.person.shells.types = (0, note), False
         self.person.commands.others_told()
         self.take()
         self.assertEqual(self.session.places().size(), (24, 80))
