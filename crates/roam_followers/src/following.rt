@@ -1,5 +1,5 @@
 //! The socket `panes`, where programs follow which panes there are, how large each is and which is in focus, and ask for one to be closed.
-ghost use Rattle.std.specs.Prelude.{◌≡◌, ◌≢◌, ◌⊎◌, ◌++◌, ◌∷◌, ◌≤◌, ◌<◌, ℕ, List, [], length, is_some, take, drop, true, false, string_bytes, None, IfOk, IfErr, OnOk, IfSome, IsOkUnless};
+ghost use Rattle.std.specs.Prelude.{◌≡◌, ◌≢◌, ◌⊎◌, ◌++◌, ◌∷◌, ◌≤◌, ◌<◌, ℕ, List, [], length, is_some, take, drop, true, false, string_bytes, None, IfOk, IfErr, OnOk, IfSome, IsOkUnless, IsTrue, ◌↔◌};
 ghost use Rattle.std.specs.List.{AllZip, filter};
 ghost use Rattle.roam_typing.specs.Lines.{IsFirst};
 ghost use Rattle.roam_followers.specs.Asking.{DoesLine, HasNoLine, HaveAsked, HaveNoLine, IsAsked, Settles, TakesLine};
@@ -234,8 +234,15 @@ impl<S: Stream + Drop> Follower<S> {
         true
     }
 
-    // Tells the program what is new of the panes. One that leaves 65,536 bytes waiting is let go, and so is one for which there is no
-    // memory: it may come again, and is told all then.
+    // Whether more than 65,536 bytes wait for the program.
+    fn is_over_room(&self) -> bool
+        ensures over { IsTrue result ↔ (room < length self.now.waiting.items) }
+    {
+        self.waiting.len() > ROOM
+    }
+
+    // Tells the program what is new of the panes. One that leaves more than 65,536 bytes waiting is let go, and so is one for which there is
+    // no memory: it may come again, and is told all then.
     fn tell(&mut self, alloc: Global, now: &PaneList)
         ensures tells { IfSome self.new.program.stream (λ _. Tells S.contents now.now self.old self.new) }
         ensures room { length self.new.waiting.items ≤ room }
@@ -243,7 +250,7 @@ impl<S: Stream + Drop> Follower<S> {
     {
         let is_added = self.add(alloc, now).is_ok();
         self.hand_over_whole();
-        if !is_added || self.waiting.len() > ROOM {
+        if !is_added || self.is_over_room() {
             self.program.let_go();
             self.waiting.clear();
         }

@@ -2,7 +2,7 @@
 use Rattle.std.proofs.Common.{◌≡◌, ◌⊎◌, ◌≤◌, inl, inr, ℕ, List, [], ◌++◌, take, drop, refl, sym, ap, subst, ◌∙◌, append_assoc, append-nil, take-append-drop}
 use Rattle.roam_meant.specs.Meant.{held_part, meant, meant_from, meant_part}
 use Rattle.roam_pane_sockets.specs.Frames.{FramesView, frame_at, frame_left, free}
-use Rattle.roam_pane_sockets.specs.Sieves.{GoesOn, IsSifted, Sifts, SieveView, empty_sieve}
+use Rattle.roam_pane_sockets.specs.Sieves.{SievePassesOn, IsSifted, Sifts, SieveView, empty_sieve}
 
 -- however bytes are cut, the same goes out for them, and the same is held back
 pub record CutsChangeNothing : Type 0 where
@@ -75,7 +75,7 @@ pub gone-on : (now n : ℕ) (s m : SieveView) (p f : FramesView) → p ≡ recor
       frame = frame_left m.frames.frame n;
       within = f.within;
       short = f.short;
-    } → GoesOn now s (record m { frames = f }) n
+    } → SievePassesOn now s (record m { frames = f }) n
 gone-on now n s m p f is sifted may rest = record {
   mid = m;
   sifted = subst (λ q. (m ≡ record s { frames = q }) ⊎ IsSifted (record s { frames = q }) m now) is sifted;

@@ -1,7 +1,7 @@
 -- What comes of a pane's program, on its way to the pane's terminal.
 use Rattle.std.specs.Prelude.{ℕ, ◌≡◌, ◌⊎◌, ◌++◌, Bool, List, [], is_some}
 use Rattle.roam_beside.specs.Beside.{Stands}
-use Rattle.roam_pane_sockets.specs.Sieves.{Goes, GoesThrough, TakesMore, taken_in}
+use Rattle.roam_pane_sockets.specs.Sieves.{Goes, PassesOn, TakesMore, taken_in}
 use Rattle.roam_pane_sockets.specs.declared.inflows.Inflow.{Inflow}
 
 -- In the life of a pane this came of its program and this was handed to its terminal: what came, or what it means where that is asked for;
@@ -19,8 +19,8 @@ pub record IsFreshInflow (inflow : Inflow) (is_meant : Bool) : Type 0 where
 -- that is open and isn't over waiting from where it begins.
 abbrev pub HandsOn : ℕ → Inflow → Inflow → ℕ → Type 0
 HandsOn now old new count =
-    GoesThrough now old.sieve new.sieve count
-    ⊎ ((piece : List ℕ) × TakesMore old.sieve × GoesThrough now (taken_in piece old.sieve) new.sieve count)
+    PassesOn now old.sieve new.sieve count
+    ⊎ ((piece : List ℕ) × TakesMore old.sieve × PassesOn now (taken_in piece old.sieve) new.sieve count)
 
 -- a piece came of its program, or none, and these bytes are handed to its terminal
 pub record Brings (old new : Inflow) (bytes : List ℕ) : Type 0 where

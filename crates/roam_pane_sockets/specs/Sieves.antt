@@ -27,7 +27,7 @@ passed now s = record s { frames = record s.frames { frame = frame_at now s.fram
 
 -- At a moment so many bytes went on, and no more than might: a frame that is over isn't held any more, what waits before went through first
 -- or didn't, and where a frame is open then it waits from where it begins.
-pub record GoesOn (now : ℕ) (s t : SieveView) (count : ℕ) : Type 0 where
+pub record SievePassesOn (now : ℕ) (s t : SieveView) (count : ℕ) : Type 0 where
   pub mid : SieveView
   pub sifted : (mid ≡ passed now s) ⊎ IsSifted (passed now s) mid now
   pub may : count ≤ free mid.frames
@@ -37,11 +37,11 @@ pub record GoesOn (now : ℕ) (s t : SieveView) (count : ℕ) : Type 0 where
   pub others : t ≡ record mid { frames = t.frames }
 
 -- so it was where there is a filter; without one no frame is held
-abbrev pub GoesThrough : ℕ → Option SieveView → Option SieveView → ℕ → Type 0
-GoesThrough now None None count = Unit {0}
-GoesThrough now None (Some t) count = ⊥
-GoesThrough now (Some s) None count = ⊥
-GoesThrough now (Some s) (Some t) count = GoesOn now s t count
+abbrev pub PassesOn : ℕ → Option SieveView → Option SieveView → ℕ → Type 0
+PassesOn now None None count = Unit {0}
+PassesOn now None (Some t) count = ⊥
+PassesOn now (Some s) None count = ⊥
+PassesOn now (Some s) (Some t) count = SievePassesOn now s t count
 
 -- a piece waits before it
 abbrev pub taken_in : List ℕ → Option SieveView → Option SieveView

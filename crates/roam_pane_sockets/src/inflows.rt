@@ -3,7 +3,7 @@ ghost use Rattle.std.specs.Prelude.{◌≡◌, ◌≤◌, ◌<◌, ◌++◌, ℕ
 ghost use Rattle.roam_pane_sockets.specs.Besides.{title_codes};
 ghost use Rattle.roam_pane_sockets.specs.Clips.{clip_codes};
 ghost use Rattle.roam_pane_sockets.specs.Inflows.{Carries, IsFreshInflow};
-ghost use Rattle.roam_pane_sockets.specs.Sieves.{CountsSome, Goes, GoesThrough, HasFree, IsFree, TakesMore, bytes_given, frame_goes_on, taken_in, waits_until};
+ghost use Rattle.roam_pane_sockets.specs.Sieves.{CountsSome, Goes, PassesOn, HasFree, IsFree, TakesMore, bytes_given, frame_goes_on, taken_in, waits_until};
 
 use crate::sieves::Sieve;
 use roam_beside::{Beside, Question};
@@ -30,7 +30,7 @@ fn pass(sieve: &mut Option<Sieve>, buf: &mut [u8], count: usize, now: u64) -> us
     ensures within { result ≤ length buf.new }
     ensures goes { (came given : List ℕ) → Goes sieve.old came given
         → Goes sieve.new (came ++ take count buf.old) (given ++ take result buf.new) }
-    ensures through { GoesThrough now (taken_in (take count buf.old) sieve.old) sieve.new result }
+    ensures through { PassesOn now (taken_in (take count buf.old) sieve.old) sieve.new result }
     ensures kind { is_some sieve.new ≡ is_some sieve.old }
 {
     match sieve {
@@ -47,7 +47,7 @@ fn pass_on(sieve: &mut Option<Sieve>, buf: &mut [u8], now: u64) -> Option<usize>
     ensures none { result ≡ None → (sieve.new ≡ sieve.old) × TakesMore sieve.new }
     ensures some { IfSome result (λ _. IsFree sieve.old → ⊥) }
     ensures free { HasFree now sieve.old → 0 < length buf.old → CountsSome result }
-    ensures through { IfSome result (λ n. GoesThrough now sieve.old sieve.new n) }
+    ensures through { IfSome result (λ n. PassesOn now sieve.old sieve.new n) }
     ensures within { IfSome result (λ n. n ≤ length buf.new) }
     ensures goes { (came given : List ℕ) → Goes sieve.old came given → Goes sieve.new came (given ++ bytes_given result buf.new) }
     ensures kind { is_some sieve.new ≡ is_some sieve.old }
@@ -164,7 +164,7 @@ impl Inflow {
         ensures none { result ≡ None → (self.new ≡ self.old) × TakesMore self.new.sieve }
         ensures some { IfSome result (λ _. IsFree self.old.sieve → ⊥) }
         ensures free { HasFree now self.old.sieve → 0 < length buf.old → CountsSome result }
-        ensures through { IfSome result (λ n. GoesThrough now self.old.sieve self.new.sieve n) }
+        ensures through { IfSome result (λ n. PassesOn now self.old.sieve self.new.sieve n) }
         ensures within { IfSome result (λ n. n ≤ length buf.new) }
         ensures carries { (came given : List ℕ) → Carries self.old came given
             → Carries self.new came (given ++ bytes_given result buf.new) }
@@ -180,7 +180,7 @@ impl Inflow {
         ensures within { result ≤ length buf.new }
         ensures carries { (came given : List ℕ) → Carries self.old came given
             → Carries self.new (came ++ take count buf.old) (given ++ take result buf.new) }
-        ensures through { GoesThrough now (taken_in (take count buf.old) self.old.sieve) self.new.sieve result }
+        ensures through { PassesOn now (taken_in (take count buf.old) self.old.sieve) self.new.sieve result }
         ensures kind { is_some self.new.sieve ≡ is_some self.old.sieve }
     {
         self.beside.feed(buf.split_at(count).0);

@@ -2,7 +2,7 @@
 ghost use Rattle.std.specs.Prelude.{◌≡◌, ◌⊎◌, ◌≤◌, ◌<◌, ◌++◌, ℕ, List, [], true, false, length, take, Some};
 ghost use Rattle.roam_pane_sockets.specs.Frames.{free, held_until};
 ghost use Rattle.roam_pane_sockets.specs.Pieces.{goes_on};
-ghost use Rattle.roam_pane_sockets.specs.Sieves.{Goes, GoesOn, HasFree, IsFree, IsSifted, empty_sieve};
+ghost use Rattle.roam_pane_sockets.specs.Sieves.{Goes, SievePassesOn, HasFree, IsFree, IsSifted, empty_sieve};
 
 use crate::frames::Frames;
 use roam_meant::Filter;
@@ -115,7 +115,7 @@ impl Sieve {
         ensures goes { (came given : List ℕ) → Goes (Some self.old) came given
             → Goes (Some self.new) came (given ++ take result buf.new) }
         ensures some { HasFree now (Some self.old) → 0 < length buf.old → 0 < result }
-        ensures through { GoesOn now self.old self.new result }
+        ensures through { SievePassesOn now self.old self.new result }
     {
         cuts_change_nothing();
         self.frames.pass(now);

@@ -1,5 +1,6 @@
--- The socket of client starts, and the port.
-use Rattle.std.specs.Prelude.{ℕ, ◌≡◌, ◌++◌, List, Option, None, Some, ◌⊎◌, codes}
+-- The socket of client starts, the port, and when it is looked who waits there.
+use Rattle.std.specs.Prelude.{ℕ, ◌≡◌, ◌++◌, ◌||◌, Bool, nat_lt, List, Option, None, Some, ◌⊎◌, codes}
+use Rattle.roam_pane_sockets.specs.Moments.{is_time}
 use Rattle.roam_sockets.specs.declared.udp.Udp.{Udp}
 
 -- the file of that socket in a folder
@@ -12,3 +13,11 @@ IsPortOf None None = Unit {0}
 IsPortOf None (Some udp) = ⊥
 IsPortOf (Some port) None = ⊥
 IsPortOf (Some port) (Some udp) = (port ≡ 0) ⊎ (udp.port ≡ port)
+
+-- so many milliseconds lie between two looks at most, where no wait told
+abbrev pub look_pace : ℕ
+look_pace = 20
+
+-- it is looked behind each wait, once in that time, and where the moment is an earlier one
+abbrev pub is_looked : Bool → ℕ → ℕ → Bool
+is_looked has_waited now looked = has_waited || nat_lt now looked || is_time (Some looked) now look_pace

@@ -14,7 +14,7 @@ ghost use Rattle.roam_followers.specs.Following.{AreAllTold, HaveCome, most_take
 ghost use Rattle.roam_serving.specs.Rests.{Flushes, SendsBy, is_paced};
 ghost use Rattle.roam_followers.specs.declared.closing.Closer.{Closer as CloserOf};
 ghost use Rattle.roam_pane_sockets.specs.Moments.{sooner, standing};
-ghost use Rattle.roam_serving.specs.Ports.{IsPortOf, clients_path};
+ghost use Rattle.roam_serving.specs.Ports.{IsPortOf, clients_path, is_looked};
 ghost use Rattle.roam_pane_sockets.specs.Panes.{paths_of};
 ghost use Rattle.roam_pane_sockets.specs.Inflows.{HandsOn, IsFreshInflow};
 ghost use Rattle.roam_pane_sockets.specs.Peers.{Asks, Changes, HasFreeIn, Hears, IsStill, Lives, any_goes_on, frames_until};
@@ -28,7 +28,7 @@ use roam_followers::{Closer, Followers, OWN};
 use roam_frames::Stream;
 use roam_hub::Addr;
 use roam_pane_list::{AskPane, PaneList};
-use roam_pane_sockets::{Panes, sooner, standing};
+use roam_pane_sockets::{Panes, is_time, sooner, standing};
 use roam_sockets::{Clients, Moments, Udp, Waits, next_by_turns, wait_for};
 use roam_turns::Ports;
 use std::alloc::Global;
@@ -310,8 +310,11 @@ impl<R: Clock + Drop> ServerPorts<R> {
         ensures clients { Accepts self.old.clients self.new.clients }
         ensures flushed { self.new.clients.is_flushed ≡ self.old.clients.is_flushed }
         ensures others { self.new ≡ record self.old { clients = self.new.clients; looked = self.new.looked; may_come = self.new.may_come } }
+        ensures looked { is_looked has_waited self.old.moment self.old.looked ≡ true
+            → (self.new.looked ≡ self.old.moment) × (self.new.may_come ≡ true) }
+        ensures rests { is_looked has_waited self.old.moment self.old.looked ≡ false → self.new ≡ self.old }
     {
-        if has_waited || self.moment.wrapping_sub(self.looked) >= LOOKS {
+        if has_waited || self.moment < self.looked || is_time(Some(self.looked), self.moment, LOOKS) {
             self.clients.accept(alloc, &self.waits);
             self.looked = self.moment;
             self.may_come = true;

@@ -228,6 +228,7 @@ impl Clients {
         ensures flushed { self.new.is_flushed ≡ self.old.is_flushed }
         ensures others { self.new ≡ record self.old { all = self.new.all; last = self.new.last } }
         ensures few { length self.old.all.items ≤ most_peers → length self.new.all.items ≤ most_peers }
+        ensures numbers { self.old.last < 2 ^ 40 → self.new.last < 2 ^ 40 }
     {
         if self.all.len() >= MOST_PEERS || self.last >= NUMBERS_END - 1 {
             return;
@@ -244,6 +245,7 @@ impl Clients {
         ensures flushed { self.new.is_flushed ≡ self.old.is_flushed }
         ensures others { self.new ≡ record self.old { all = self.new.all; last = self.new.last } }
         ensures few { length self.old.all.items ≤ most_peers → length self.new.all.items ≤ most_peers }
+        ensures numbers { self.old.last < 2 ^ 40 → self.new.last < 2 ^ 40 }
     {
         for _ in 0..MOST_PEERS {
             let Ok((stream, _)) = self.listener.accept() else {

@@ -1,5 +1,5 @@
 use Rattle.std.proofs.Common.{◌≡◌, ◌⊎◌, take, sym, subst, ap}
-use Rattle.roam_pane_sockets.specs.Sieves.{GoesOn, IsSifted, Sifts, SieveView}
+use Rattle.roam_pane_sockets.specs.Sieves.{SievePassesOn, IsSifted, Sifts, SieveView}
 use Rattle.roam_pane_sockets.proofs.Sifting.{CutsChangeNothing, gone-on, gone-through, handed-on, ready-so}
 use Rattle.roam_pane_sockets.proofs.sieves.Sieve.go_on.Goals as goal
 
@@ -22,7 +22,7 @@ returns-clause-through c =
       frames = c.self-2.inside.frames;
     } in
     let p = c.pass.new.self in
-    subst (λ v. GoesOn c.args.now v (record m { frames = c.hand_on.new.self }) c.hand_on.result) c.self.view_is
+    subst (λ v. SievePassesOn c.args.now v (record m { frames = c.hand_on.new.self }) c.hand_on.result) c.self.view_is
     (gone-on c.args.now c.hand_on.result s m p c.hand_on.new.self c.pass.ensures.passed
     (subst (λ v. (v ≡ record s { frames = p }) ⊎ IsSifted (record s { frames = p }) v c.args.now) (sym c.self-2.view_is)
     c.sift_on.ensures.sifts) c.hand_on.ensures.free c.hand_on.ensures.rest)
