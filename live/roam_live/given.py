@@ -17,9 +17,10 @@ MOST_SPENT = 1024
 # What is told of a text: that it waits, that it was put at its mark, or that it isn't known, as one that waited for too long.
 HELD, PUT, LOST = "held", "put", "lost"
 
+# Why there is no room for one yet.
 TOO_MANY = f"{MOST_TEXTS} texts wait to be pasted"
 TOO_LONG = f"{MOST_BYTES >> 20} MB wait to be pasted"
-NO_ROOM = (TOO_MANY, TOO_LONG)
+FULL = (TOO_MANY, TOO_LONG)
 
 
 class GivenText:

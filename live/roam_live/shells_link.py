@@ -7,7 +7,7 @@ from collections.abc import Callable
 
 from roam_live.colours import COLOUR, Colours, told_in
 from roam_live.following import LET_GO, Following
-from roam_live.given import NO_ROOM
+from roam_live.given import FULL
 from roam_live.kept_rows import BUFFER, AnswerReader, BadAnswer, RowsLink
 from roam_live.loops import Loop
 from roam_live.presence import HERE, LEAVE, WHO, Presence, ToldOthers, terminal_name
@@ -263,7 +263,7 @@ class ShellsLink(Following):
     def answered(self, name: str, word: str, more: str) -> None:
         """Takes what becomes of a text that was given: one for which the keeper has no room is given again later."""
         self.asked.discard(name)
-        if word == REFUSED and more in NO_ROOM:
+        if word == REFUSED and more in FULL:
             self.is_full = True
             self.loop.later(f"give {name} again", GIVES_AGAIN, self.give_first)
             if name in self.giving:

@@ -5,7 +5,7 @@ from unittest import mock
 from aids import Case, StillLoop
 from roam_live import pastes
 from roam_live.following import PAUSES
-from roam_live.given import NO_ROOM
+from roam_live.given import FULL
 from roam_live.keys import BRACKETS
 from roam_live.pastes import DROPPED, ENDS, HANDING, LOST_WORDS, MOST_BEHIND, NOT_TAKEN, SHORT, TOO_LONG, Pastes
 from roam_live.shells_link import GIVES_AGAIN, LATER, MOST_GIVING, UNTOLD, ShellsLink
@@ -320,7 +320,7 @@ class Given(Sockets):
         """Those for which the keeper has no room are given again, one after the other, until it has."""
         link, names = self.made_link, self.names
         self.turn()
-        for refusal in NO_ROOM:
+        for refusal in FULL:
             self.told.clear()
             with mock.patch.object(self.socket.texts, "refusal", side_effect=["", refusal, refusal]):
                 for name in names[:3]:
@@ -349,7 +349,7 @@ class Given(Sockets):
         """A keeper that is there again, or another one, is given all that waits at once; who doesn't want a text any more keeps none back."""
         link, names = self.made_link, self.names
         self.turn()
-        with mock.patch.object(self.socket.texts, "refusal", return_value=NO_ROOM[0]):
+        with mock.patch.object(self.socket.texts, "refusal", return_value=FULL[0]):
             for name in names[:3]:
                 link.give(name, b"text")
             self.turn()
@@ -360,12 +360,12 @@ class Given(Sockets):
         self.now += PAUSES[0]
         self.turn()
         self.assertEqual(([word for _, word, _ in self.told[3:]], link.is_full), (["held", "held"], False))
-        with mock.patch.object(self.socket.texts, "refusal", return_value=NO_ROOM[0]):
+        with mock.patch.object(self.socket.texts, "refusal", return_value=FULL[0]):
             link.give(names[3], b"text")
             link.give(names[4], b"text")
             link.cancel(names[3])
             self.turn()
-        self.assertEqual(self.told[5:], [(names[4], LATER, NO_ROOM[0])])
+        self.assertEqual(self.told[5:], [(names[4], LATER, FULL[0])])
         self.now += GIVES_AGAIN
         self.turn()
         self.assertEqual((self.told[6:], link.is_full), ([(names[4], "held", "")], False))
