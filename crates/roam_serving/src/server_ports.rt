@@ -314,7 +314,10 @@ impl<R: Clock + Drop> ServerPorts<R> {
             → (self.new.looked ≡ self.old.moment) × (self.new.may_come ≡ true) }
         ensures rests { is_looked has_waited self.old.moment self.old.looked ≡ false → self.new ≡ self.old }
     {
-        if has_waited || self.moment < self.looked || is_time(Some(self.looked), self.moment, LOOKS) {
+        if has_waited
+            || self.moment < self.looked
+            || is_time(Some(self.looked), self.moment, LOOKS)
+        {
             self.clients.accept(alloc, &self.waits);
             self.looked = self.moment;
             self.may_come = true;
