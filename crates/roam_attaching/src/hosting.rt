@@ -49,19 +49,27 @@ impl<R: Clock + Drop> Ports for Doorway<R> {
         self.connection.send(to, bytes)
     }
 
-    fn pane_lives(&mut self, pane: u8, life: Option<u64>) {
+    fn pane_lives(&mut self, pane: u8, life: Option<u64>)
+        ensures same { self.new ≡ self.old }
+    {
         self.connection.pane_lives(pane, life);
     }
 
-    fn pane_in(&mut self, pane: u8, buf: &mut [u8]) -> Option<usize> {
+    fn pane_in(&mut self, pane: u8, buf: &mut [u8]) -> Option<usize>
+        ensures none { result ≡ None }
+    {
         self.connection.pane_in(pane, buf)
     }
 
-    fn pane_out(&mut self, pane: u8, bytes: &[u8]) -> usize {
+    fn pane_out(&mut self, pane: u8, bytes: &[u8]) -> usize
+        ensures none { result ≡ 0 }
+    {
         self.connection.pane_out(pane, bytes)
     }
 
-    fn show(&mut self, bytes: &[u8]) -> bool {
+    fn show(&mut self, bytes: &[u8]) -> bool
+        ensures none { result ≡ false }
+    {
         self.connection.show(bytes)
     }
 }
