@@ -202,12 +202,16 @@ def hold_command(reader: int, signals: Iterable[int]) -> None:
         signal.signal(number, signal.SIG_DFL)
     with contextlib.suppress(OSError):
         close_standard()
-        for end in [int(name) for name in os.listdir("/proc/self/fd")]:
-            if end not in (0, 1, 2, reader):
-                with contextlib.suppress(OSError):
-                    os.close(end)
+        close_others((0, 1, 2, reader))
         os.read(reader, 1)
     os._exit(0)
+
+
+def close_others(kept: tuple[int, ...]) -> None:
+    """Closes what is open here beside these."""
+    for end in [int(name) for name in os.listdir("/proc/self/fd") if int(name) not in kept]:
+        with contextlib.suppress(OSError):
+            os.close(end)
 
 
 def close_standard() -> None:

@@ -13,6 +13,7 @@ from roam_live.program import Fault, Lines, SocketPeer, connected_in, connected_
 
 TYPE_CHECKING = False
 if TYPE_CHECKING:
+    import socket
     from collections.abc import Iterable
 
     from roam_live.any_session import AnySession
@@ -185,21 +186,26 @@ def joined(lines: Iterable[str]) -> bytes:
 
 def asked_values(session: FolderSession) -> dict[str, str]:
     """The values that new panes of a session have, by its keeper; Fault tells why they aren't known."""
-    told, left, end = Brought(), set(NAMES), time.monotonic() + ASKED
-    lines = Lines()
     try:
         with connected_in(session.folder / "shells", ASKED) as peer:
             peer.send(joined([BROUGHT]))
-            while left and comes(peer, max(0.0, end - time.monotonic())):
-                piece = read(peer.fileno())
-                if piece == b"":
-                    break
-                left -= {line.split(" ")[1] for line in lines.fed(piece or b"") if told.take(line, BROUGHT)}
+            told = brought_by(peer, time.monotonic() + ASKED)
     except OSError as fault:
         raise Fault(f"session {session.name}: nothing keeps its shells: {reason(fault)}") from fault
-    if left:
+    if told is None:
         raise Fault(f"session {session.name}: what keeps its shells doesn't tell what they have, as an earlier roam's")
     return told.values
+
+
+def brought_by(peer: socket.socket, end: float) -> Brought | None:
+    """What a keeper that was asked tells until a moment; None where that isn't all."""
+    told, left, lines = Brought(), set(NAMES), Lines()
+    while left and comes(peer, max(0.0, end - time.monotonic())):
+        piece = read(peer.fileno())
+        if piece == b"":
+            break
+        left -= {line.split(" ")[1] for line in lines.fed(piece or b"") if told.take(line, BROUGHT)}
+    return None if left else told
 
 
 def shell_lines(session: FolderSession) -> list[str]:

@@ -155,19 +155,25 @@ def last_of_word(rows: Rows, spot: Spot, separators: str) -> Spot:
     return left(rows, word_end(rows, spot, separators))
 
 
+def filled_before(rows: Rows, spot: Spot) -> Spot | None:
+    """The nearest place before that isn't blank; None where all are."""
+    row, col = spot
+    while col or row != rows.first:
+        if not col:
+            row, col = row - 1, rows.length(row - 1)
+        elif not is_in(rows, (row, col - 1), BLANK):
+            return row, col - 1
+        else:
+            col -= 1
+    return None
+
+
 def previous_word(rows: Rows, spot: Spot, separators: str, is_already: bool = True) -> Spot:
     """The beginning of the word before; that of the word here where it needn't be another."""
-    row, col = spot
-    if is_already or is_in(rows, spot, BLANK):
-        while True:
-            if col:
-                col -= 1
-                if not is_in(rows, (row, col), BLANK):
-                    break
-            elif row == rows.first:
-                return row, 0
-            else:
-                row, col = row - 1, rows.length(row - 1)
+    before = filled_before(rows, spot) if is_already or is_in(rows, spot, BLANK) else spot
+    if not before:
+        return rows.first, 0
+    row, col = before
     is_separated = is_in(rows, (row, col), separators)
     found = row, col
     while True:

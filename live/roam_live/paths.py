@@ -517,11 +517,11 @@ class Path:
             while queue and self.bundles.length(queue[0]) <= room:
                 piece = queue.popleft()
                 length = self.bundles.length(piece)
-                if length and piece not in pieces:
-                    pieces.append(piece)
-                    room -= length
-                    if queue is self.fresh and self.goes_twice(piece):
-                        self.twice.append((now + APART, piece))
+                if not length or piece in pieces:
+                    continue
+                pieces.append(piece)
+                room -= length
+                self.twice += [(now + APART, piece)] if queue is self.fresh and self.goes_twice(piece) else []
         self.add_streams(pieces, room)
         return pieces
 

@@ -9,6 +9,10 @@ from collections import namedtuple
 from roam_live.loops import comes
 from roam_live.program import Lines, connected_in, read
 
+TYPE_CHECKING = False
+if TYPE_CHECKING:
+    import socket
+
 BESIDE = {"left": (0, -1), "right": (0, 1), "up": (-1, 0), "down": (1, 0)}
 
 # Acts after which another pane may be in focus.
@@ -234,16 +238,22 @@ class ToldPanes:
 
 def asked_places(path: str | os.PathLike[str], seconds: float = ASKED) -> Places | None:
     """Where the panes are, asked once at a socket `panes`; None where nobody tells it in so many seconds."""
-    end, told, lines = time.monotonic() + seconds, ToldPanes(), Lines()
+    end = time.monotonic() + seconds
     try:
         with connected_in(path, seconds) as peer:
-            while not told.is_whole() and comes(peer, max(0.0, end - time.monotonic())):
-                piece = read(peer.fileno())
-                if piece == b"":
-                    break
-                for line in lines.fed(piece or b""):
-                    told.take(line)
-                end = min(end, time.monotonic() + BEHIND) if told.places() else end
+            return places_by(peer, end)
     except OSError:
         return None
+
+
+def places_by(peer: socket.socket, end: float) -> Places | None:
+    """Where the panes are, as is told there until a moment; None where it isn't."""
+    told, lines = ToldPanes(), Lines()
+    while not told.is_whole() and comes(peer, max(0.0, end - time.monotonic())):
+        piece = read(peer.fileno())
+        if piece == b"":
+            break
+        for line in lines.fed(piece or b""):
+            told.take(line)
+        end = min(end, time.monotonic() + BEHIND) if told.places() else end
     return told.places()

@@ -25,6 +25,15 @@ SOCKETS = {SERVER: "clients", TERMINALS: "terminals"}
 # No note has so many bytes.
 MOST_NOTE = 1 << 16
 
+
+def remove_folder(folder: str) -> None:
+    """Removes a folder with what lies in it; OSError where it can't be."""
+    for name in os.listdir(folder):
+        with contextlib.suppress(OSError):
+            os.unlink(os.path.join(folder, name))
+    os.rmdir(folder)
+
+
 class WindowProcesses:
     """The processes of one window, and what is noted of them."""
 
@@ -167,7 +176,4 @@ class WindowProcesses:
         """Removes what they left, and the notes of far relays."""
         for folder in (self.path("relays"), self.folder):
             with contextlib.suppress(OSError):
-                for name in os.listdir(folder):
-                    with contextlib.suppress(OSError):
-                        os.unlink(os.path.join(folder, name))
-                os.rmdir(folder)
+                remove_folder(folder)
