@@ -346,7 +346,7 @@ class Given(Sockets):
             self.turn()
 
     def test_no_room_at_the_next(self):
-        """A keeper that is there again, or another one, is given all that waits at once; who doesn't want a text any more keeps none back."""
+        """A keeper that is there again is given all that waits at once; who doesn't want a text any more keeps none back."""
         link, names = self.made_link, self.names
         self.turn()
         with mock.patch.object(self.socket.texts, "refusal", return_value=FULL[0]):
