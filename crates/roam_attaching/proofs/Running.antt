@@ -8,7 +8,7 @@ use Rattle.roam_cells.specs.declared.faults.Fault.TheVariants.{OutOfMemory}
 use Rattle.roam_faults.specs.declared.faults.RunFault.{RunFault}
 use Rattle.roam_faults.specs.declared.faults.RunFault.TheVariants as run
 use Rattle.roam_hub.specs.Clients.{ClientView}
-use Rattle.roam_hub.specs.declared.addresses.Addr.{Addr}
+use Rattle.roam_cells.specs.declared.addresses.Addr.{Addr}
 use Rattle.roam_turns.specs.Cores.{client_step}
 use Rattle.roam_turns.specs.Painting.{Led}
 use Rattle.roam_turns.specs.Parts.{Makes}

@@ -3,7 +3,7 @@ use Rattle.std.specs.Prelude.{◌≡◌, ◌⊎◌, ℕ, ◌∷◌, List, [], dr
 use Rattle.mio.specs.declared.net.uds.stream.UnixStream.{UnixStream}
 use Rattle.roam_frames.specs.Queues.{IsLost, IsQueued, nothing_queued}
 use Rattle.roam_frames.specs.Streams.{HasAnswered, HasStopped}
-use Rattle.roam_hub.specs.declared.addresses.Addr.{Addr}
+use Rattle.roam_cells.specs.declared.addresses.Addr.{Addr}
 use Rattle.roam_sockets.specs.Addresses.{number_of}
 use Rattle.roam_sockets.specs.Clients.{AnswersOf}
 use Rattle.roam_sockets.specs.Lanes.{Flushes, SendsTo, is_any_waiting}

@@ -9,7 +9,7 @@ use Rattle.roam_wire.specs.declared.versions.Version.TheVariants.{Two}
 use Rattle.roam_world.specs.Clients.{new_client}
 use Rattle.roam_hub.specs.Clients.{ClientView, Hears, Sends, Stands, TypesAll}
 use Rattle.roam_frames.specs.Frames.{IsFilled}
-use Rattle.roam_hub.specs.declared.addresses.Addr.{Addr}
+use Rattle.roam_cells.specs.declared.addresses.Addr.{Addr}
 use Rattle.roam_hub.specs.declared.clients.Heard.{Heard}
 use Rattle.roam_pane_list.specs.Known.{pane_at}
 use Rattle.roam_pane_list.specs.declared.pane_list.ListedPane.{ListedPane}

@@ -26,7 +26,7 @@ use Rattle.roam_wire.specs.Cutting.{texts_of}
 use Rattle.roam_wire.specs.Instructions.{DownValue, down_text}
 use Rattle.roam_world.specs.Texts.{Address, datagram_with}
 use Rattle.roam_world.specs.Ticks.{holds_after}
-use Rattle.roam_hub.specs.declared.addresses.Addr.{Addr}
+use Rattle.roam_cells.specs.declared.addresses.Addr.{Addr}
 use Rattle.roam_hub.specs.Servers.{RecordView, address_of, parcels_of}
 use Rattle.roam_hub.specs.Records.{held_record, fragments_due, is_sent_to, fragments_sent, datagrams_for, parcels_for}
 

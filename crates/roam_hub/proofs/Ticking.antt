@@ -25,7 +25,7 @@ use Rattle.roam_world.specs.Numbers.{cut_of, screen, first_screen}
 use Rattle.roam_world.specs.Texts.{Address, datagrams_of}
 use Rattle.roam_world.specs.Servers.{Record, no_record, Server, moment}
 use Rattle.roam_world.specs.Ticks.{makes, cuts_after, number_after, screen_after, screen_to, holds_after, sends, down_from, down_to, fragments_to, after_sent, ticked_record, datagrams_to, is_record_spent, Parcel, parcel, parcels_to, sent_by, after_tick}
-use Rattle.roam_hub.specs.declared.addresses.Addr.{Addr}
+use Rattle.roam_cells.specs.declared.addresses.Addr.{Addr}
 use Rattle.roam_hub.specs.Servers.{RecordView, ServerView, kept_of, IsKept, AreKept, Stands, parcels_of, parcel_text, is_touched, is_server_due, is_ack_spent, is_number_spent, Ticks, spent, ticked as did_tick, no_memory}
 use Rattle.roam_hub.specs.Records.{bare, is_sent_to, fragments_sent, settled_with, held_record, texts_for, is_entry_spent, settled_entry, makes_at, sent_by_tick, ticked_by, is_any_spent}
 use Rattle.roam_hub.specs.Waits.{is_entry_due}

@@ -27,7 +27,7 @@ use Rattle.roam_world.specs.Arrival.{turned_away, noted, completed}
 use Rattle.roam_world.specs.Ticks.{makes, number_after, screen_to, is_offered, sends, Parcel, sent_by, is_tick_spent, after_tick}
 use Rattle.roam_world.specs.Laws.{IsSameBut}
 use Rattle.roam_hub.specs.Clients.{IsTextOf, IsNoDatagram}
-use Rattle.roam_hub.specs.declared.addresses.Addr.{Addr}
+use Rattle.roam_cells.specs.declared.addresses.Addr.{Addr}
 use Rattle.roam_hub.specs.declared.addresses.Stop.{Stop}
 
 -- ---- what a server stands for

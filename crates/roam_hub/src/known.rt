@@ -7,12 +7,11 @@ ghost use Rattle.roam_world.specs.ServerArrivals.{most_of};
 ghost use Rattle.roam_hub.specs.Servers.{address_of};
 ghost use Rattle.roam_hub.specs.Records.{alike_entries, NotesIn, NotNotedIn};
 
-use crate::addresses::Addr;
 use crate::limits::{MOST_EDITING, MOST_WATCHING};
 use crate::records::{Record, is_same, is_watching};
 use crate::taking::Taking;
 use indexmap::IndexMap;
-use roam_cells::Fault;
+use roam_cells::{Addr, Fault};
 use roam_session::Session;
 use roam_wire::Datagram;
 use std::alloc::Global;

@@ -15,6 +15,7 @@ mod shared;
 mod taking;
 mod waits;
 
-pub use addresses::{Addr, Stop};
+pub use addresses::Stop;
 pub use clients::{Client, Heard};
+pub use roam_cells::Addr;
 pub use servers::Server;

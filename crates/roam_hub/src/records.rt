@@ -17,7 +17,6 @@ ghost use Rattle.roam_hub.specs.Shared.{Agree, StayBetween, GoTogether, StayToge
 ghost use Rattle.roam_acts.specs.Limits.{number_limit};
 ghost use Rattle.roam_sync.specs.Limits.{most_held};
 
-use crate::addresses::Addr;
 use crate::ends::AnySender;
 use crate::moments::{answer_from, earlier, is_heard, is_overdue, owed_after};
 use crate::packing::{Heading, packed};
@@ -25,7 +24,7 @@ use crate::shared::{Shared, SharedChange, text_of};
 use crate::taking::{Taking, take_acts};
 use roam_acts::limits::NUMBER_LIMIT;
 use roam_acts::{Act, ActTaker};
-use roam_cells::{Fault, Reason};
+use roam_cells::{Addr, Fault, Reason};
 use roam_screens::{RowShot, RowShot1};
 use roam_session::Session;
 use roam_sync::limits::MOST_HELD;

@@ -8,11 +8,10 @@ ghost use Rattle.roam_hub.specs.Waits.{is_entry_due};
 ghost use Rattle.roam_hub.specs.Shared.{GoTogether};
 ghost use Rattle.roam_acts.specs.Limits.{number_limit};
 
-use crate::addresses::Addr;
 use crate::records::{News, Record};
 use crate::shared::Shared;
 use indexmap::IndexMap;
-use roam_cells::Fault;
+use roam_cells::{Addr, Fault};
 use roam_screens::RowShot;
 use std::alloc::Global;
 

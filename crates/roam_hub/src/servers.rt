@@ -20,7 +20,7 @@ ghost use Rattle.roam_hub.specs.Records.{answer_to_datagram, makes_at, sent_by_t
 ghost use Rattle.roam_hub.specs.Waits.{has_come, PassesFrom, is_entry_due, IsQuiet};
 ghost use Rattle.roam_term.specs.Limits.{most_output};
 
-use crate::addresses::{Addr, Stop};
+use crate::addresses::Stop;
 use crate::known::{alike, hear_in};
 use crate::moments::{FRAME_INTERVAL, by_clock, earlier, has_passed, moment_after};
 use crate::records::{News, Record};
@@ -30,7 +30,7 @@ use crate::taking::Taking;
 use crate::waits::next_due_of;
 use indexmap::IndexMap;
 use roam_acts::limits::NUMBER_LIMIT;
-use roam_cells::{Fault, Reason};
+use roam_cells::{Addr, Fault, Reason};
 use roam_layout::Rect;
 use roam_screens::{RowShot, Seen};
 use roam_session::Session;
@@ -286,8 +286,9 @@ impl Server {
         self.made == 0 || (self.input && has_passed(FRAME_INTERVAL, self.made_at, now))
     }
 
-    // The moment from which on a number is made.
-    fn makes_from(&self) -> Option<u64>
+    /// The moment from which on a tick makes a number if nothing comes before: 0 for at once, `None` if nothing came since the last number
+    /// was made. It takes no memory.
+    pub fn number_due(&self) -> Option<u64>
         ensures from { PassesFrom result (makes_at self.now) }
     {
         if self.made == 0 {
@@ -307,7 +308,7 @@ impl Server {
             → IsQuiet s (moment s now) }
         ensures at { (s : ServerOf) → Stands self.now s → IfSome result (λ due. is_server_due s (moment s due) ≡ true) }
     {
-        let number = self.makes_from();
+        let number = self.number_due();
         let records = next_due_of(&self.records, self.made, self.clock);
         by_clock(earlier(number, records), self.clock)
     }

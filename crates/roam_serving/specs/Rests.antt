@@ -5,7 +5,7 @@ use Rattle.roam_world.specs.Servers.{Server, moment}
 use Rattle.roam_hub.specs.Servers.{ServerView, Stands, is_server_due}
 use Rattle.roam_hub.specs.Waits.{IsQuiet, has_come}
 use Rattle.roam_pane_list.specs.declared.pane_list.PaneList.{PaneList}
-use Rattle.roam_hub.specs.declared.addresses.Addr.{Addr}
+use Rattle.roam_cells.specs.declared.addresses.Addr.{Addr}
 use Rattle.roam_sockets.specs.Clients.{Accepts, AnswersOf, KeepsOpen}
 use Rattle.roam_sockets.specs.Lanes.{SendsTo, is_any_waiting}
 use Rattle.roam_sockets.specs.Waits.{wait_for}

@@ -7,7 +7,7 @@ use Rattle.std.specs.Prelude.{◌≢◌, ◌==◌, not, leb, if◌then◌else◌
 use Rattle.std.specs.Io.KnownBytes.{Consumes, Keeps}
 use Rattle.roam_acts.specs.declared.acts.Act.{Act}
 use Rattle.roam_hub.specs.Clients.{ClientView}
-use Rattle.roam_hub.specs.declared.addresses.Addr.{Addr}
+use Rattle.roam_cells.specs.declared.addresses.Addr.{Addr}
 use Rattle.roam_turns.specs.Calls.{PortCall}
 use Rattle.roam_typing.specs.declared.entries.Entry.{Entry}
 use Rattle.roam_typing.specs.Lines.{ended_all}

@@ -8,7 +8,7 @@ use Rattle.roam_guess.specs.Guesses.{GuessesOf, are_shown}
 use Rattle.roam_guess.specs.Overlay.{guessed, overlay}
 use Rattle.roam_guess.specs.Underlined.{underlined}
 use Rattle.roam_hub.specs.Clients.{ClientView}
-use Rattle.roam_hub.specs.declared.addresses.Addr.{Addr}
+use Rattle.roam_cells.specs.declared.addresses.Addr.{Addr}
 use Rattle.roam_overlay.specs.Delays.{is_long}
 use Rattle.roam_overlay.specs.Overlays.{OverlayOf, laid_over}
 use Rattle.roam_paint.specs.Ground.{Displays}

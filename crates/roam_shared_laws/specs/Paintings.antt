@@ -1,7 +1,7 @@
 -- What a terminal of a run was written: it leads a terminal to what is noted of it.
 use Rattle.std.specs.Prelude.{◌≡◌, ◌⊎◌, ℕ, List, [], ◌∷◌, ◌++◌, Option, Some, None}
 use Rattle.std.specs.Io.KnownBytes.{Appends}
-use Rattle.roam_hub.specs.declared.addresses.Addr.{Addr}
+use Rattle.roam_cells.specs.declared.addresses.Addr.{Addr}
 use Rattle.roam_overlay.specs.Overlays.{OverlayOf, laid_over}
 use Rattle.roam_parts.specs.Parts.{part_of}
 use Rattle.roam_parts.specs.declared.parts.Part.{Part}

@@ -21,7 +21,7 @@ use Rattle.roam_world.specs.Worlds.{World, ServerTick, ClientTick, Sent, Refused
 use Rattle.roam_world.specs.Steps.{spent, ticked, no_memory, empty_slot, quiet, sent}
 use Rattle.roam_world.specs.Laws.{TakesActsInOrder}
 use Rattle.roam_world.specs.Limits.{Limits}
-use Rattle.roam_hub.specs.declared.addresses.Addr.{Addr}
+use Rattle.roam_cells.specs.declared.addresses.Addr.{Addr}
 use Rattle.roam_hub.specs.Clients.{ClientView, view_of, Sends, quiet as sends_quiet, spent as sends_spent, sent as sends_sent, no_memory as sends_no_memory}
 use Rattle.roam_hub.specs.Servers.{ServerView, Ticks, spent as ticks_spent, ticked as ticks_ticked, no_memory as ticks_no_memory, is_ack_spent, is_number_spent, parcels_of, parcel_text}
 use Rattle.roam_simulation.specs.declared.networks.Batch.TheVariants.{FromServer, FromClient}

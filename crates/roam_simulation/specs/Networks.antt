@@ -2,7 +2,7 @@
 use Rattle.std.specs.Prelude.{ℕ, ◌-◌, ◌==◌, List, map, slice_get, Option, None, if◌then◌else◌, Vec}
 use Rattle.std.specs.declared.alloc.Global.{Global}
 use Rattle.roam_wire.specs.Cutting.{texts_of}
-use Rattle.roam_hub.specs.declared.addresses.Addr.{Addr}
+use Rattle.roam_cells.specs.declared.addresses.Addr.{Addr}
 use Rattle.roam_simulation.specs.declared.networks.Batch.{Batch}
 use Rattle.roam_simulation.specs.declared.networks.Batch.TheVariants.{FromServer, FromClient}
 

@@ -1,6 +1,6 @@
 -- The addresses of what comes over streams: they are of network 0, from which nothing comes over a network (RFC 1122, section 3.2.1.3).
 use Rattle.std.specs.Prelude.{◌≡◌, ℕ, ◌+◌, ◌*◌, ◌/◌, ◌%◌, ◌^◌, ◌<◌, ◌==◌, [], ◌∷◌, slice_index, Option, Some, None, if◌then◌else◌}
-use Rattle.roam_hub.specs.declared.addresses.Addr.{Addr}
+use Rattle.roam_cells.specs.declared.addresses.Addr.{Addr}
 
 -- a number's byte at a place, from the lowest
 abbrev pub byte_at : ℕ → ℕ → ℕ

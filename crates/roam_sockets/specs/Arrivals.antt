@@ -1,6 +1,6 @@
 -- What comes from two, each of which is asked first in its turn.
 use Rattle.std.specs.Prelude.{◌≡◌, ℕ, List, [], ◌∷◌, take, Option, Some, None, IsSome}
-use Rattle.roam_hub.specs.declared.addresses.Addr.{Addr}
+use Rattle.roam_cells.specs.declared.addresses.Addr.{Addr}
 
 -- a datagram that came, and from where
 pub record Arrived : Type 0 where

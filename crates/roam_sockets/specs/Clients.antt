@@ -2,7 +2,7 @@
 use Rattle.std.specs.Prelude.{◌≡◌, ◌≢◌, ◌⊎◌, ℕ, ◌+◌, ◌-◌, ◌%◌, ◌≤◌, ◌<◌, true, false, List, [], ◌∷◌, ◌++◌, drop, length, map, slice_get, Option, Some, None, IfSome, IsOk, Bool, not}
 use Rattle.mio.specs.declared.net.uds.stream.UnixStream.{UnixStream}
 use Rattle.std.specs.List.{All, AllZip, Contains, filter, range_with_len}
-use Rattle.roam_hub.specs.declared.addresses.Addr.{Addr}
+use Rattle.roam_cells.specs.declared.addresses.Addr.{Addr}
 use Rattle.roam_frames.specs.declared.frames.Front.TheVariants.{Part}
 use Rattle.roam_frames.specs.Frames.{front_of}
 use Rattle.roam_frames.specs.Queues.{IsLost, IsQueued, Queued, nothing_queued}

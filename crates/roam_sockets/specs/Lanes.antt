@@ -1,7 +1,7 @@
 -- What waits for an address, and goes there at a pace.
 use Rattle.std.specs.Prelude.{◌≡◌, ◌≢◌, ◌⊎◌, ◌↔◌, ℕ, ◌+◌, ◌≤◌, ◌<◌, ◌==◌, ◌||◌, ◌&&◌, Bool, true, false, List, [], ◌∷◌, ◌++◌, length, map, slice_get, slice_set, nat_lt, Option, Some, None, IsTrue}
 use Rattle.std.specs.List.{All, filter, list_any}
-use Rattle.roam_hub.specs.declared.addresses.Addr.{Addr}
+use Rattle.roam_cells.specs.declared.addresses.Addr.{Addr}
 use Rattle.roam_frames.specs.declared.frames.Front.TheVariants.{Whole}
 use Rattle.roam_frames.specs.Frames.{IsCarried, framed, framed_all, front_of}
 use Rattle.roam_frames.specs.Queues.{IsLost, IsQueued, Queued, nothing_queued}

@@ -1,9 +1,9 @@
 //! What comes from two, each of which is asked first in its turn, so that neither keeps the other waiting.
 ghost use Rattle.std.specs.Prelude.{◌≡◌, ◌⊎◌, ◌≤◌, List, Option, None, IfSome, length, not, true, false};
-ghost use Rattle.roam_hub.specs.declared.addresses.Addr.{Addr as AddrOf};
+ghost use Rattle.roam_cells.specs.declared.addresses.Addr.{Addr as AddrOf};
 ghost use Rattle.roam_sockets.specs.Arrivals.{Arrived, Gives, GivesFirst};
 
-use roam_hub::Addr;
+use roam_cells::Addr;
 
 /// What datagrams come from.
 pub trait Arrivals {

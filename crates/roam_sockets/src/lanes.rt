@@ -4,8 +4,8 @@ ghost use Rattle.std.specs.List.{All};
 ghost use Rattle.roam_sockets.specs.Lanes.{AreReady, Flushes, GoesOne, Handed, Hands, IsDone, IsFresh, IsLaneAt, Sends, SendsEach, SendsTo, Takes, is_any_waiting, is_kept};
 
 use crate::pace::Pace;
+use roam_cells::Addr;
 use roam_frames::{Queue, first_in};
-use roam_hub::Addr;
 use std::alloc::Global;
 
 /// A socket that takes datagrams to addresses.

@@ -2,7 +2,7 @@
 use Rattle.std.proofs.Common.{◌≡◌, ℕ, suc, ◌+◌, ◌<◌, arith, true, List, [], ◌∷◌, ◌++◌, length, Option, None, refl, sym, ap, ◌∙◌, subst}
 use Rattle.std.specs.Prelude.{Result, Ok, Err, OnOk, OnErr}
 use Rattle.roam_cells.specs.declared.faults.Fault.{Fault}
-use Rattle.roam_hub.specs.declared.addresses.Addr.{Addr}
+use Rattle.roam_cells.specs.declared.addresses.Addr.{Addr}
 use Rattle.roam_turns.specs.Calls.{DoorCall, PortCall, Tells}
 use Rattle.roam_turns.specs.Calls.DoorCall.{Came as came}
 use Rattle.roam_turns.specs.Calls.PortCall.{Asked}

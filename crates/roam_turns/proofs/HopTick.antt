@@ -39,7 +39,7 @@ use Rattle.roam_world.proofs.Members.{IsIn-map, IsIn-flat_map, IsIn-enumerate, s
 use Rattle.roam_world.proofs.Places.{map_here, flat_here}
 use Rattle.roam_world.proofs.Keeps.{not_past, or_left, or_right}
 use Rattle.roam_world.proofs.ServerKeeps.{to_record}
-use Rattle.roam_hub.specs.declared.addresses.Addr.{Addr}
+use Rattle.roam_cells.specs.declared.addresses.Addr.{Addr}
 use Rattle.roam_hub.specs.Servers.{RecordView, ServerView, Stands, address_of, parcel_text, is_ack_spent, is_number_spent, Ticks}
 use Rattle.roam_hub.specs.Servers.Ticks.{spent, ticked, no_memory}
 use Rattle.roam_turns.specs.Calls.{Parcel, parcels_in, parcels_of}

@@ -1,6 +1,6 @@
 -- Calls that are made one after another.
 use Rattle.std.proofs.Common.{◌≡◌, ℕ, suc, ◌+◌, inl, inr, List, [], ◌∷◌, ◌++◌, append-nil, append_assoc, map, refl, sym, ◌∙◌, ap, subst, Option, Some, None}
-use Rattle.roam_hub.specs.declared.addresses.Addr.{Addr}
+use Rattle.roam_cells.specs.declared.addresses.Addr.{Addr}
 use Rattle.roam_turns.specs.Calls.{PortCall, Tells, RunOf}
 use Rattle.roam_turns.specs.Calls.PortCall.{NothingReceived}
 use Rattle.roam_turns.specs.Parts.{Call, port_calls, core_calls, Then, Each, Receives, ReceivesUpTo, Makes}

@@ -9,7 +9,7 @@ use Rattle.roam_session.specs.Refusals.{output_at}
 use Rattle.roam_world.specs.Servers.{Server as ServerOf}
 use Rattle.roam_hub.specs.Servers.{ServerView, Stands as ServerStands, Feeds, Drains, Comes, Ticks, address_of}
 use Rattle.roam_hub.specs.Clients.{ClientView, Types, Hears, Sends}
-use Rattle.roam_hub.specs.declared.addresses.Addr.{Addr}
+use Rattle.roam_cells.specs.declared.addresses.Addr.{Addr}
 use Rattle.roam_turns.specs.Calls.{ServerCall, ClientCall, parcels_of, texts_in}
 use Rattle.roam_turns.specs.Calls.ServerCall.{ToServer, Life, Room, PaneBytes, Output, Drain, ServerTick}
 use Rattle.roam_turns.specs.Calls.ClientCall.{Typed, ToClient, ClientTick}

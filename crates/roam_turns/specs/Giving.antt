@@ -1,6 +1,6 @@
 -- What ports over memory give, and what they hold then.
 use Rattle.std.specs.Prelude.{◌≡◌, ℕ, ◌+◌, ◌-◌, ◌^◌, ◌&&◌, min, nat_eq, not, List, [], ◌∷◌, take, drop, Bool, true, false, Option, Some, None}
-use Rattle.roam_hub.specs.declared.addresses.Addr.{Addr}
+use Rattle.roam_cells.specs.declared.addresses.Addr.{Addr}
 use Rattle.roam_turns.specs.declared.memory.MemoryPorts.{MemoryPorts}
 use Rattle.roam_turns.specs.Calls.{PortCall}
 use Rattle.roam_turns.specs.Calls.PortCall.{Received, NothingReceived, PaneGave, PaneGaveNothing}

@@ -2,7 +2,7 @@
 use Rattle.std.specs.Prelude.{◌≡◌, ℕ, zero, suc, ◌+◌, ◌⊎◌, List, [], ◌∷◌, ◌++◌, Option}
 use Rattle.roam_turns.specs.Calls.{PortCall, Tells, RunOf}
 use Rattle.roam_turns.specs.Calls.PortCall.{Received, NothingReceived}
-use Rattle.roam_hub.specs.declared.addresses.Addr.{Addr}
+use Rattle.roam_cells.specs.declared.addresses.Addr.{Addr}
 
 -- a call that a turn makes: of a port or of its core
 pub data Call (C : Type 0) : Type 0 where

@@ -1,6 +1,6 @@
 -- What ports over memory tell.
 use Rattle.std.specs.Prelude.{ℕ, List, map, Option, Some, None, if◌then◌else◌}
-use Rattle.roam_hub.specs.declared.addresses.Addr.{Addr}
+use Rattle.roam_cells.specs.declared.addresses.Addr.{Addr}
 use Rattle.roam_turns.specs.declared.memory.RecordedCall.{RecordedCall}
 use Rattle.roam_turns.specs.declared.memory.RecordedCall.TheVariants as wrote
 use Rattle.roam_turns.specs.declared.memory.MemoryPorts.{MemoryPorts}

@@ -4,7 +4,7 @@ use Rattle.roam_term.specs.Limits.{longest_piece}
 use Rattle.roam_cells.specs.declared.faults.Fault.{Fault}
 use Rattle.roam_screens.specs.Screenshot.{Screenshot}
 use Rattle.roam_acts.specs.declared.acts.Act.{Act}
-use Rattle.roam_hub.specs.declared.addresses.Addr.{Addr}
+use Rattle.roam_cells.specs.declared.addresses.Addr.{Addr}
 use Rattle.roam_hub.specs.declared.addresses.Stop.{Stop}
 use Rattle.roam_hub.specs.declared.clients.Heard.{Heard}
 use Rattle.roam_turns.specs.Calls.{Parcel, PortCall, ServerCall, ClientCall}
