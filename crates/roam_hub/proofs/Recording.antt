@@ -1,5 +1,5 @@
 -- What a record becomes.
-use Rattle.std.proofs.Common.{◌≡◌, ◌⊎◌, ℕ, zero, suc, take, ◌+◌, ◌-◌, ◌<◌, ◌≤◌, ◌^◌, List, [], ◌∷◌, ◌++◌, length, drop, Option, Some, None, Bool, true, false, inl, inr, refl, sym, ap, ◌∙◌, subst, cond, arith, Vec, length-drop}
+use Rattle.std.proofs.Common.{◌≡◌, ◌⊎◌, ℕ, zero, suc, take, ◌+◌, ◌-◌, ◌%◌, ◌<◌, ◌≤◌, ◌^◌, List, [], ◌∷◌, ◌++◌, length, drop, Option, Some, None, Bool, true, false, inl, inr, refl, sym, ap, ◌∙◌, subst, cond, arith, Vec, length-drop}
 use Rattle.std.specs.Prelude.{Result, Ok, Err, IfOk, OnOk, slice_get, nat_lt, nat_eq, is_some, unwrap_or, if◌then◌else◌}
 use Rattle.std.specs.List.{All}
 use Rattle.std.specs.Map.{lookup, set_value}
@@ -32,7 +32,7 @@ use Rattle.roam_world.specs.ServerArrivals.{coming_gathered, is_same, most_of}
 use Rattle.roam_world.proofs.Versions as versions
 use Rattle.roam_hub.specs.declared.taking.Taking.{Taking}
 use Rattle.roam_hub.specs.Servers.{RecordView, kept_of}
-use Rattle.roam_hub.specs.Records.{taking, TakesActs, heard_by, informed_by, Notes, fragment, instruction, NotNoted, no_fragment, unread, no_memory, known, added, NotesIn, NotNotedIn, room, differs, entry_of, first_record, Fits, another_version, another_kind, NotHeard, other, fitting, fitted_record, alike_entries}
+use Rattle.roam_hub.specs.Records.{taking, TakesActs, heard_by, informed_by, Notes, fragment, instruction, NotNoted, no_fragment, unread, no_memory, known, added, NotesIn, NotNotedIn, room, differs, entry_of, first_record, Fits, another_version, another_kind, NotHeard, other, fitting, fitted_record, alike_entries, acts_after}
 
 pub new_record : (version v : Version) (watches : Bool) (g : Gathering) (taken : ℕ) (sender : Sending Screenshot) → v ≡ version
     → g ≡ nothing → taken ≡ 0 → sender ≡ start first_screen
@@ -235,6 +235,26 @@ counted_more w es k n m e b at count is more =
     more ∙ (λ i. cond (is i) (count i + 1) (count i)) ∙ sym (alike_more w es k e at)
     ∙ ap (λ (j : ℕ). length (alike_entries w (take j es))) (let z : suc k ≡ k + 1 = omega arith in z)
 
+-- one more record's acts
+acts_more : (es : List (ℕ × RecordView)) (k n : ℕ) (e : ℕ × RecordView) → slice_get es k ≡ Some e
+    → acts_after n (take (suc k) es) ≡ (acts_after n (take k es) + e.1.taken) % 2 ^ 64
+unfolding acts_after
+acts_more [] k n e h = absurd (cc)
+acts_more (x ∷ es) zero n e h =
+    let z : x ≡ e = cc in
+    ap (λ (y : ℕ × RecordView). (n + y.1.taken) % 2 ^ 64) z
+acts_more (x ∷ es) (suc k) n e h = acts_more es k ((n + x.1.taken) % 2 ^ 64) e h
+
+pub no_acts : (es : List (ℕ × RecordView)) → acts_after 0 (take 0 es) ≡ 0
+unfolding acts_after
+no_acts es = refl
+
+pub taken_more : (es : List (ℕ × RecordView)) (k n m a : ℕ) (e : ℕ × RecordView) → slice_get es k ≡ Some e
+    → n ≡ acts_after 0 (take k es) → a ≡ e.1.taken → m ≡ (n + a) % 2 ^ 64 → m ≡ acts_after 0 (take (k + 1) es)
+taken_more es k n m a e at before is more =
+    more ∙ (λ i. (before i + is i) % 2 ^ 64) ∙ sym (acts_more es k 0 e at)
+    ∙ ap (λ (j : ℕ). acts_after 0 (take j es)) (let z : suc k ≡ k + 1 = omega arith in z)
+
 pub few_more : (k n m : ℕ) (b : Bool) → n ≤ k → m ≡ (if b then n + 1 else n) → m ≤ k + 1
 few_more k n m true low e = omega (arith, low, e)
 few_more k n m false low e = omega (arith, low, e)
@@ -244,6 +264,9 @@ take_all [] zero le = refl
 take_all [] (suc k) le = refl
 take_all (x ∷ xs) zero le = absurd (omega arith)
 take_all (x ∷ xs) (suc k) le = ap (λ ys. x ∷ ys) (take_all xs k (omega arith))
+
+pub take_whole_acts : (es : List (ℕ × RecordView)) (k n : ℕ) → length es ≤ k → n ≡ acts_after 0 (take k es) → n ≡ acts_after 0 es
+take_whole_acts es k n le e = e ∙ ap (λ (xs : List (ℕ × RecordView)). acts_after 0 xs) (take_all es k le)
 
 pub take_whole_alike : (w : Bool) (es : List (ℕ × RecordView)) (k n : ℕ) → length es ≤ k
     → n ≡ length (alike_entries w (take k es)) → n ≡ length (alike_entries w es)

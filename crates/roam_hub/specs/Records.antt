@@ -1,5 +1,5 @@
 -- What a server keeps of a client start, and what its calls make of it.
-use Rattle.std.specs.Prelude.{◌≡◌, ℕ, Result, Ok, Err, ◌+◌, ◌<◌, ◌≤◌, max, nat_lt, nat_eq, ◌==◌, ◌&&◌, ◌||◌, List, [], ◌∷◌, ◌++◌, length, take, map, is_some, Option, Some, None, Bool, true, if◌then◌else◌, filter, false}
+use Rattle.std.specs.Prelude.{◌≡◌, ℕ, Result, Ok, Err, ◌+◌, ◌%◌, ◌^◌, ◌<◌, ◌≤◌, max, nat_lt, nat_eq, ◌==◌, ◌&&◌, ◌||◌, List, [], ◌∷◌, ◌++◌, length, take, map, is_some, Option, Some, None, Bool, true, if◌then◌else◌, filter, false}
 use Rattle.std.specs.List.{flat_map, list_any}
 use Rattle.std.specs.Map.{lookup, set_value}
 use Rattle.roam_acts.specs.Limits.{number_limit}
@@ -136,6 +136,11 @@ pub data NotHeard (old : RecordView) (d : DatagramValue) (fault : Fault) : Type 
 -- the records of starts that only watch, or the others
 abbrev pub alike_entries : Bool → List (ℕ × RecordView) → List (ℕ × RecordView)
 alike_entries watches es = filter (λ e. is_same e.1.watches watches) es
+
+-- how many acts were taken of these starts, added to n, modulo 2^64
+unfoldable pub acts_after : ℕ → List (ℕ × RecordView) → ℕ
+acts_after n [] = n
+acts_after n (e ∷ es) = acts_after ((n + e.1.taken) % 2 ^ 64) es
 
 -- the record of a datagram's start was one and is another: it was there, of the datagram's version and kind; or it is new, and as many as
 -- may be aren't known yet

@@ -5,7 +5,7 @@ ghost use Rattle.std.specs.Map.{keys_of};
 ghost use Rattle.roam_wire.specs.Datagrams.{datagram_value};
 ghost use Rattle.roam_world.specs.ServerArrivals.{most_of};
 ghost use Rattle.roam_hub.specs.Servers.{address_of};
-ghost use Rattle.roam_hub.specs.Records.{alike_entries, NotesIn, NotNotedIn};
+ghost use Rattle.roam_hub.specs.Records.{acts_after, alike_entries, NotesIn, NotNotedIn};
 
 use crate::limits::{MOST_EDITING, MOST_WATCHING};
 use crate::records::{Record, is_same, is_watching};
@@ -41,6 +41,18 @@ pub fn alike(records: &IndexMap<u64, Record>, watches: bool) -> usize
         count = counted(count, is_same(record.watches(), watches));
     }
     count
+}
+
+/// How many acts were taken of all starts, modulo 2^64.
+pub fn acts_taken(records: &IndexMap<u64, Record>) -> u64
+    ensures taken { result ≡ acts_after 0 records.now.entries }
+{
+    let mut taken: u64 = 0;
+    for at in 0..records.len() {
+        let (_, record) = records.get_index(at).unwrap();
+        taken = taken.wrapping_add(record.taken());
+    }
+    taken
 }
 
 /// Notes a datagram in the record of its client start, which may be new, and does the new acts of an instruction that it makes whole. A

@@ -238,6 +238,13 @@ impl Record {
         })
     }
 
+    /// How many acts of the start were taken.
+    pub fn taken(&self) -> u64
+        ensures taken { result ≡ self.now.taken }
+    {
+        self.taker.taken()
+    }
+
     /// Whether the start only watches.
     pub fn watches(&self) -> bool
         ensures watches { result ≡ self.now.watches }

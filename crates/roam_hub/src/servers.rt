@@ -16,12 +16,12 @@ ghost use Rattle.roam_world.specs.Texts.{is_to_server as is_to_server_kind};
 ghost use Rattle.roam_world.specs.ServerArrivals.{alike as alike_of, coming};
 ghost use Rattle.roam_world.specs.Arrival.{turned_away};
 ghost use Rattle.roam_hub.specs.Servers.{Stands, Feeds, Drains, Comes, Ticks, ComesFromWatcher, TakesNothing, IsStopAtAct, is_server_due, address_of, parcels_of};
-ghost use Rattle.roam_hub.specs.Records.{answer_to_datagram, makes_at, sent_by_tick, ticked_by, is_any_spent, Numbers, is_numbering_spent};
+ghost use Rattle.roam_hub.specs.Records.{acts_after, answer_to_datagram, makes_at, sent_by_tick, ticked_by, is_any_spent, Numbers, is_numbering_spent};
 ghost use Rattle.roam_hub.specs.Waits.{has_come, PassesFrom, is_entry_due, IsQuiet};
 ghost use Rattle.roam_term.specs.Limits.{most_output};
 
 use crate::addresses::Stop;
-use crate::known::{alike, hear_in};
+use crate::known::{acts_taken, alike, hear_in};
 use crate::moments::{FRAME_INTERVAL, by_clock, earlier, has_passed, moment_after};
 use crate::records::{News, Record};
 use crate::sending::send_from;
@@ -269,6 +269,13 @@ impl Server {
         ensures count { (s : ServerOf) → Stands self.now s → result ≡ length (alike_of s true) }
     {
         alike(&self.records, true)
+    }
+
+    /// How many acts were taken of all client starts that are known, modulo 2^64. It takes no memory.
+    pub fn acts_taken(&self) -> u64
+        ensures taken { result ≡ acts_after 0 self.now.records }
+    {
+        acts_taken(&self.records)
     }
 
     /// The screen that the session shows now. Refuses want of memory.

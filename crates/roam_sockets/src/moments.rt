@@ -1,5 +1,5 @@
 //! Moments in milliseconds.
-ghost use Rattle.std.specs.Prelude.{◌≡◌, ℕ, Option, None};
+ghost use Rattle.std.specs.Prelude.{◌≡◌, ◌≤◌, ℕ, Option, None, true, false};
 
 use std::time::{Clock, Instant};
 
@@ -26,11 +26,24 @@ impl<R: Clock + Drop> Moments<R> {
         }
     }
 
-    /// The moment now, or the one before where the clock fails.
+    /// Returns true if a clock gives the moments, false if a caller sets them.
+    pub fn is_real(&self) -> bool
+        ensures set { (moment : ℕ) → self.now ≡ Moments.Set moment → result ≡ false }
+        ensures real { (clock : R) (start : Option Instant) (last : ℕ) → self.now ≡ Moments.Real clock start last → result ≡ true }
+    {
+        match self {
+            Moments::Set(_) => false,
+            Moments::Real { .. } => true,
+        }
+    }
+
+    /// The moment now, or the one before where the clock fails. A clock's moments never fall.
     pub fn now(&mut self) -> u64
         ensures set { (moment : ℕ) → self.old ≡ Moments.Set moment → result ≡ moment }
         ensures stays { (moment : ℕ) → self.old ≡ Moments.Set moment → self.new ≡ self.old }
         ensures last { (clock : R) (start : Option Instant) (last : ℕ) → self.new ≡ Moments.Real clock start last → result ≡ last }
+        ensures rises { (clock : R) (start : Option Instant) (last : ℕ) → self.old ≡ Moments.Real clock start last → last ≤ result }
+        ensures kind { (moment : ℕ) → self.new ≡ Moments.Set moment → self.old ≡ self.new }
     {
         match self {
             Moments::Set(moment) => *moment,
@@ -38,7 +51,7 @@ impl<R: Clock + Drop> Moments<R> {
                 if start.is_none() {
                     *start = Instant::now(clock).ok();
                 } else if let Some(moment) = passed(clock, start) {
-                    *last = moment;
+                    *last = moment.max(*last);
                 }
                 *last
             }
