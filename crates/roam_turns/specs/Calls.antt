@@ -18,11 +18,12 @@ Tells (Some xs) (Some ys) calls = ys ≡ xs ++ calls
 -- ---- ports
 
 -- What a door was asked, where ports are one: whether an outer terminal comes there; whether the server is known to have ended; to rest, so
--- many milliseconds at most and no longer than until a moment.
+-- many milliseconds at most and no longer than until a moment; to sleep until a terminal comes, so many milliseconds at most.
 pub data DoorCall : Type 0 where
   Came : Bool → DoorCall
   HasEnded : Bool → DoorCall
   Rested : ℕ → Option ℕ → DoorCall
+  Slept : ℕ → DoorCall
 
 -- A call of a port: the moment; a datagram that came, into room for so many bytes, and from where; none came; a datagram that was to go
 -- somewhere, and whether it went; which making of a pane is there, if any; what the program of a pane wrote, into room for so many bytes;
