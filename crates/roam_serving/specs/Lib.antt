@@ -1,3 +1,4 @@
+pub mod Echoes
 pub mod Listed
 pub mod Ports
 pub mod Rests

@@ -13,6 +13,7 @@ use Rattle.roam_sockets.specs.declared.clients.Clients.{Clients}
 use Rattle.roam_sockets.specs.declared.udp.Udp.{Udp}
 use Rattle.roam_serving.specs.Tellings.{AreToldClips, AreToldAsks, AreToldBeside}
 use Rattle.roam_followers.specs.Following.{AreAllTold}
+use Rattle.roam_serving.specs.Echoes.{before_by, most_ahead}
 use Rattle.roam_serving.specs.Listed.{ArePanesOf}
 use Rattle.roam_pane_sockets.specs.Moments.{sooner}
 use Rattle.roam_serving.specs.declared.tellings.ClipTimes.{ClipTimes}
@@ -70,13 +71,13 @@ pub record IsNextDue (server : ServerView) (due : Option ℕ) : Type 0 where
 abbrev pub is_for_good : ℕ → Bool
 is_for_good turns = turns == 2 ^ 64 - 1
 
--- Where it waited, all that goes to client starts at this moment was written, and no line that may be there was left to be done; and it was
--- until something is due, or what stands beside the panes' terminals is to be told, or only a millisecond where datagrams are kept back;
--- where the turns are counted, for the shortest wait.
-pub record HasRested (turns : ℕ) (server : ServerView) (now : ℕ) (clients : Clients) (may_ask : Bool) (udp : Option Udp)
-    (telling : Option ℕ) (longest : Option ℕ) : Type 0 where
+-- Where it waited, all that goes to client starts at this clock was written, and no line that may be there was left to be done; and it was
+-- until something is due, or what stands beside the panes' terminals is to be told, or the moment may run ahead to the number that is wished
+-- for, or only a millisecond where datagrams are kept back; where the turns are counted, for the shortest wait.
+pub record HasRested (turns : ℕ) (server : ServerView) (clock : ℕ) (clients : Clients) (may_ask : Bool) (udp : Option Udp)
+    (telling wish : Option ℕ) (longest : Option ℕ) : Type 0 where
   pub due : Option ℕ
   pub is_due : MatchBool (is_for_good turns) (IsNextDue server due) (due ≡ Some 0)
   pub flushed : IfSome longest (λ _. clients.is_flushed ≡ true)
   pub asked : IfSome longest (λ _. may_ask ≡ false)
-  pub waited : IfSome longest (λ long. long ≡ wait_for (sooner due telling) now (is_paced udp))
+  pub waited : IfSome longest (λ long. long ≡ wait_for (sooner (before_by most_ahead wish) (sooner due telling)) clock (is_paced udp))

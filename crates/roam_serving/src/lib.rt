@@ -1,6 +1,7 @@
 //! `roam serve`: the turns of a server round its sockets and the clock.
 #![tactic(auto)]
 
+mod echoes;
 mod refused;
 mod server_ports;
 mod serving;

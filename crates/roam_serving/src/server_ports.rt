@@ -1,5 +1,5 @@
 //! The ports of a server over sockets. What they carried isn't told.
-ghost use Rattle.std.specs.Prelude.{◌≡◌, ◌≢◌, ◌⊎◌, ◌<◌, ◌≤◌, ◌-◌, [], ℕ, List, Option, slice_get, true, false, not, length, map, string_bytes, is_some, nat_lt, None, Some, IfOk, IfSome, IfErr};
+ghost use Rattle.std.specs.Prelude.{◌≡◌, ◌≢◌, ◌⊎◌, ◌<◌, ◌≤◌, ◌+◌, ◌-◌, ◌||◌, ◌==◌, if◌then◌else◌, [], ℕ, List, Option, slice_get, true, false, not, length, map, string_bytes, is_some, nat_lt, None, Some, IfOk, IfSome, IfErr};
 ghost use Rattle.std.specs.List.{All};
 ghost use Rattle.std.specs.Option.{option_map};
 ghost use Rattle.roam_sockets.specs.Addresses.{number_of};
@@ -7,6 +7,8 @@ ghost use Rattle.roam_sockets.specs.Clients.{Accepts, IsOf, IsQueuedFor};
 ghost use Rattle.roam_sockets.specs.declared.udp.Udp.{Udp as UdpOf};
 ghost use Rattle.roam_sockets.specs.Waits.{wait_for};
 ghost use Rattle.roam_followers.specs.Asking.{HaveAsked, IsAsked, Settles};
+ghost use Rattle.roam_serving.specs.Echoes.{before_by, is_echo, leading, most_ahead, typed_after, typed_in, wish_outside};
+ghost use Rattle.roam_hub.specs.Waits.{has_come};
 ghost use Rattle.roam_serving.specs.Tellings.{count_asked, AreToldClips, AreToldBeside, AreToldAsks};
 ghost use Rattle.roam_pane_sockets.specs.Questions.{pane_asks};
 ghost use Rattle.roam_followers.specs.Closing.{GivesOwn, HearsAnswer, own_address};
@@ -20,6 +22,7 @@ ghost use Rattle.roam_pane_sockets.specs.Inflows.{HandsOn, IsFreshInflow};
 ghost use Rattle.roam_pane_sockets.specs.Peers.{Asks, Changes, HasFreeIn, Hears, IsStill, Lives, any_goes_on, frames_until};
 ghost use Rattle.roam_pane_sockets.specs.Sieves.{CountsSome, bytes_given};
 
+use crate::echoes::Echoes;
 use crate::tellings::{AsideTimes, ClipTimes};
 use mio::net::UnixStream;
 use roam_cells::Fault;
@@ -52,7 +55,11 @@ pub struct OwnStart {
 #[derive(Drop)]
 pub struct ServerPorts<R> {
     moments: Moments<R>,
+    // The moment that the turn was given: at most 20 milliseconds ahead of the clock.
     moment: u64,
+    // What the moments' source said when it was asked last.
+    clock: u64,
+    echoes: Echoes,
     waits: Waits,
     udp: Option<Udp>,
     clients: Clients,
@@ -268,6 +275,8 @@ impl<R: Clock + Drop> ServerPorts<R> {
             Ok((followers, clients)) => Ok(ServerPorts {
                 moments,
                 moment: 0,
+                clock: 0,
+                echoes: Echoes::new(),
                 waits,
                 udp,
                 clients,
@@ -310,30 +319,28 @@ impl<R: Clock + Drop> ServerPorts<R> {
         ensures clients { Accepts self.old.clients self.new.clients }
         ensures flushed { self.new.clients.is_flushed ≡ self.old.clients.is_flushed }
         ensures others { self.new ≡ record self.old { clients = self.new.clients; looked = self.new.looked; may_come = self.new.may_come } }
-        ensures looked { is_looked has_waited self.old.moment self.old.looked ≡ true
-            → (self.new.looked ≡ self.old.moment) × (self.new.may_come ≡ true) }
-        ensures rests { is_looked has_waited self.old.moment self.old.looked ≡ false → self.new ≡ self.old }
+        ensures looked { is_looked has_waited self.old.clock self.old.looked ≡ true
+            → (self.new.looked ≡ self.old.clock) × (self.new.may_come ≡ true) }
+        ensures rests { is_looked has_waited self.old.clock self.old.looked ≡ false → self.new ≡ self.old }
     {
-        if has_waited
-            || self.moment < self.looked
-            || is_time(Some(self.looked), self.moment, LOOKS)
-        {
+        if has_waited || self.clock < self.looked || is_time(Some(self.looked), self.clock, LOOKS) {
             self.clients.accept(alloc, &self.waits);
-            self.looked = self.moment;
+            self.looked = self.clock;
             self.may_come = true;
         }
     }
 
-    /// Writes what waits for client starts, takes those that come, and waits until something comes or is due at a moment, what stands
-    /// beside the panes' terminals is to be told, or a frame isn't held any more, where nothing came since the last call and no datagram of
-    /// its own start waits.
+    /// Writes what waits for client starts, takes those that come, and waits until something comes or is due at a moment, the moment may
+    /// run ahead to a number that shows an echo, what stands beside the panes' terminals is to be told, or a frame isn't held any more,
+    /// where nothing came since the last call and no datagram of its own start waits. How long it waits goes by the clock.
     pub fn rest(&mut self, due: Option<u64>)
         ensures quiet { self.new.waits.quiet ≡ true }
         // A wait leaves nothing of what waits for a client start whose stream would take more.
         ensures waited { IfSome self.new.waits.longest (λ longest. (self.old.waits.quiet ≡ true) × (self.old.closer.closing ≡ None)
             × (self.new.clients.is_flushed ≡ true)
-            × (longest ≡ wait_for (sooner due (sooner (sooner self.old.telling.due self.old.clipping.due)
-            (frames_until self.old.panes.all.items))) self.old.moment
+            × (longest ≡ wait_for (sooner (before_by most_ahead self.old.echoes.wish)
+            (sooner due (sooner (sooner self.old.telling.due self.old.clipping.due)
+            (frames_until self.old.panes.all.items)))) self.old.clock
             (is_paced self.new.udp))) }
         ensures flushed { Flushes ⟦<UnixStream as Stream>⟧.answers self.old.clients self.new.clients }
         ensures telling { self.new.telling ≡ self.old.telling }
@@ -341,17 +348,42 @@ impl<R: Clock + Drop> ServerPorts<R> {
         ensures panes { self.new.panes ≡ self.old.panes }
         ensures followers { self.new.followers ≡ self.old.followers }
         ensures moment { self.new.moment ≡ self.old.moment }
+        ensures clock { self.new.clock ≡ self.old.clock }
+        ensures echoes { self.new.echoes ≡ self.old.echoes }
     {
         if !self.clients.flush() || !self.closer.is_free() {
             self.waits.stir();
         }
-        let is_paced = !flush_udp(&mut self.udp, self.moment);
+        let is_paced = !flush_udp(&mut self.udp, self.clock);
         let waits = self.waits.is_quiet();
         let telling = sooner(self.telling.due(), self.clipping.due());
         let held = self.panes.frames_until();
         let due = sooner(due, sooner(telling, held));
-        self.waits.rest(wait_for(due, self.moment, is_paced));
+        let due = sooner(self.echoes.due(), due);
+        self.waits.rest(wait_for(due, self.clock, is_paced));
         self.look(self.alloc, waits);
+    }
+
+    /// Notes how many acts the server took and which pane is in focus: if there are more than before, that pane was typed in.
+    pub fn note_acts(&mut self, acts: u64, focus: u8)
+        ensures typed { self.new.echoes ≡ record self.old.echoes {
+          acts = acts;
+          typed = typed_after (not (acts == self.old.echoes.acts)) focus self.old.clock self.old.echoes.typed;
+        } }
+        ensures others { self.new ≡ record self.old { echoes = self.new.echoes } }
+    {
+        self.echoes.note_acts(acts, focus, self.clock);
+    }
+
+    /// Lets the moment run ahead to that of the server's next number, if a program has answered what was typed.
+    pub fn aim(&mut self, number: Option<u64>)
+        ensures aims { self.new.echoes ≡ record self.old.echoes {
+          wish = if self.old.echoes.echoed then number else self.old.echoes.wish;
+          echoed = false;
+        } }
+        ensures others { self.new ≡ record self.old { echoes = self.new.echoes } }
+    {
+        self.echoes.aim(number);
     }
 
     // Takes the programs that wait at the socket `panes`, where one may.
@@ -376,6 +408,8 @@ impl<R: Clock + Drop> ServerPorts<R> {
         ensures done { self.new.followers.may_ask ≡ false → HaveAsked self.new.closer self.new.followers.all.items }
         ensures stirs { self.new.followers.may_ask ≡ true → self.new.waits.quiet ≡ false }
         ensures moment { self.new.moment ≡ self.old.moment }
+        ensures clock { self.new.clock ≡ self.old.clock }
+        ensures echoes { self.new.echoes ≡ self.old.echoes }
     {
         self.take_followers();
         let may_ask = self
@@ -394,6 +428,8 @@ impl<R: Clock + Drop> ServerPorts<R> {
         ensures noted { self.new.followers.may_ask ≡ self.old.followers.may_ask }
         ensures waits { self.new.waits ≡ self.old.waits }
         ensures moment { self.new.moment ≡ self.old.moment }
+        ensures clock { self.new.clock ≡ self.old.clock }
+        ensures echoes { self.new.echoes ≡ self.old.echoes }
     {
         tell_beside(
             self.alloc,
@@ -412,6 +448,8 @@ impl<R: Clock + Drop> ServerPorts<R> {
         ensures noted { self.new.followers.may_ask ≡ self.old.followers.may_ask }
         ensures waits { self.new.waits ≡ self.old.waits }
         ensures moment { self.new.moment ≡ self.old.moment }
+        ensures clock { self.new.clock ≡ self.old.clock }
+        ensures echoes { self.new.echoes ≡ self.old.echoes }
     {
         tell_clips(
             self.alloc,
@@ -430,6 +468,8 @@ impl<R: Clock + Drop> ServerPorts<R> {
         ensures noted { self.new.followers.may_ask ≡ self.old.followers.may_ask }
         ensures waits { self.new.waits ≡ self.old.waits }
         ensures moment { self.new.moment ≡ self.old.moment }
+        ensures clock { self.new.clock ≡ self.old.clock }
+        ensures echoes { self.new.echoes ≡ self.old.echoes }
     {
         tell_asks(self.alloc, &mut self.followers, &self.panes);
     }
@@ -455,17 +495,33 @@ fn some_bytes(count: Option<usize>) -> Option<usize>
 }
 
 impl<R: Clock + Drop> Ports for ServerPorts<R> {
-    // It stands still while a frame goes on, the beginning of which was handed on: no number is made within one (docs/DECISIONS.md, 220).
+    // It runs ahead of the clock to the number that shows an echo, and stands still while a frame goes on, the beginning of which was handed
+    // on: no number is made within one (docs/DECISIONS.md, 220 and 265).
     fn now(&mut self) -> u64
         ensures set { (moment : ℕ) → self.old.moments ≡ Moments.Set moment
             → result ≡ standing (any_goes_on self.old.panes.all.items) self.old.moment moment }
         ensures real { (clock : R) (start : Option Instant) (last : ℕ) → self.new.moments ≡ Moments.Real clock start last
-            → result ≡ standing (any_goes_on self.old.panes.all.items) self.old.moment last }
+            → result ≡ standing (any_goes_on self.old.panes.all.items) self.old.moment
+            (leading (wish_outside (any_goes_on self.old.panes.all.items) self.old.echoes.wish) self.old.moment last) }
+        ensures rises { (clock : R) (start : Option Instant) (last : ℕ) → self.new.moments ≡ Moments.Real clock start last
+            → self.old.moment ≤ result }
+        ensures ahead { (clock : R) (start : Option Instant) (last : ℕ) → self.new.moments ≡ Moments.Real clock start last
+            → self.old.moment ≤ last + most_ahead → result ≤ last + most_ahead }
+        ensures clock { (clock : R) (start : Option Instant) (last : ℕ) → self.new.moments ≡ Moments.Real clock start last
+            → self.new.clock ≡ last }
+        ensures spent { self.new.echoes ≡ record self.old.echoes {
+          wish = if has_come self.old.echoes.wish result then None else self.old.echoes.wish;
+        } }
         ensures moment { self.new.moment ≡ result }
         ensures panes { self.new.panes ≡ self.old.panes }
     {
-        let now = self.moments.now();
-        self.moment = standing(self.panes.any_goes_on(), self.moment, now);
+        self.clock = self.moments.now();
+        let goes_on = self.panes.any_goes_on();
+        let is_real = self.moments.is_real();
+        let led = self.echoes.leading(goes_on, self.moment, self.clock);
+        let now = if is_real { led } else { self.clock };
+        self.moment = standing(goes_on, self.moment, now);
+        self.echoes.pass(self.moment);
         self.moment
     }
 
@@ -492,7 +548,7 @@ impl<R: Clock + Drop> Ports for ServerPorts<R> {
         ensures others { to ≢ own_address → self.new.closer ≡ self.old.closer }
         ensures near { to ≢ own_address → result ≡ true → IfSome (number_of to) (λ _.
             IsQueuedFor self.old.clients.all.items self.new.clients.all.items (number_of to) bytes.now) }
-        ensures far { number_of to ≡ None → SendsBy self.old.moment to self.old.udp self.new.udp bytes.now result }
+        ensures far { number_of to ≡ None → SendsBy self.old.clock to self.old.udp self.new.udp bytes.now result }
         ensures panes { self.new.panes ≡ self.old.panes }
     {
         if to == OWN {
@@ -502,7 +558,7 @@ impl<R: Clock + Drop> Ports for ServerPorts<R> {
         if to.host[0] == 0 {
             self.clients.send(to, bytes)
         } else {
-            send_udp(&mut self.udp, to, bytes, self.moment)
+            send_udp(&mut self.udp, to, bytes, self.clock)
         }
     }
 
@@ -530,6 +586,10 @@ impl<R: Clock + Drop> Ports for ServerPorts<R> {
             ≡ count_asked (pane_asks (slice_get self.new.panes.all.items (pane - 1))) → ⊥)
             → AreToldAsks ⟦<UnixStream as Stream>⟧.contents self.new.panes.all.items self.old.followers.all.items
             self.new.followers.all.items }
+        // Only a pane that was typed in echoes.
+        ensures echoed { self.new.echoes ≡ record self.old.echoes {
+          echoed = self.old.echoes.echoed || is_echo (typed_in self.old.echoes.typed pane) result (length buf.old) self.old.clock;
+        } }
     {
         let had_peer = self.panes.has_peer(pane);
         let asks = self.panes.asks_at(pane);
@@ -542,13 +602,16 @@ impl<R: Clock + Drop> Ports for ServerPorts<R> {
         if count.is_some() || had_peer != self.panes.has_peer(pane) {
             self.waits.stir();
         }
-        some_bytes(count)
+        let given = some_bytes(count);
+        self.echoes.hear(pane, given, buf.len(), self.clock);
+        given
     }
 
     fn pane_out(&mut self, pane: u8, bytes: &[u8]) -> usize
         ensures within { result ≤ length bytes.now }
         ensures asks { Changes (Asks (nat_lt 0 result)) pane self.old.panes.all.items self.new.panes.all.items }
         ensures stirs { 0 < result → self.new.waits.quiet ≡ false }
+        ensures echoes { self.new.echoes ≡ self.old.echoes }
         ensures still { self.new.waits.quiet ≡ true → 1 ≤ pane → IsStill pane self.old.panes.all.items self.new.panes.all.items }
     {
         let had_peer = self.panes.has_peer(pane);

@@ -4,6 +4,7 @@ ghost use Rattle.roam_session.specs.Lives.{life_of};
 ghost use Rattle.roam_session.specs.Places.{rect_at};
 ghost use Rattle.roam_world.specs.Servers.{Server as ServerOf};
 ghost use Rattle.roam_hub.specs.Servers.{Stands};
+ghost use Rattle.roam_serving.specs.Echoes.{AimsAt};
 ghost use Rattle.roam_serving.specs.Listed.{ArePanesOf, pane_of};
 ghost use Rattle.roam_pane_sockets.specs.Peers.{frames_until};
 ghost use Rattle.roam_serving.specs.Rests.{HasRested, HasToldAll};
@@ -81,18 +82,22 @@ fn panes_of(server: &Server) -> PaneList
     panes
 }
 
-// After a turn tells who follows the panes, and waits where it brought nothing: until something is due where the turns go on for good,
-// else a short while, so that they end by themselves.
+// After a turn tells who follows the panes, lets the moment run ahead to the next number if a program has answered what was typed, and waits
+// where the turn brought nothing: until something is due where the turns go on for good, else a short while, so that they end by themselves.
 fn tell_and_rest<C: Clock + Drop>(turns: u64, server: &Server, ports: &mut ServerPorts<C>)
     ensures told { HasToldAll ⟦<UnixStream as Stream>⟧.contents server.now ports.new.moment ports.new.panes.all.items
         ports.new.followers.all.items }
-    ensures rested { HasRested turns server.now ports.new.moment ports.new.clients ports.new.followers.may_ask ports.new.udp
-        (sooner (sooner ports.new.telling.due ports.new.clipping.due) (frames_until ports.new.panes.all.items)) ports.new.waits.longest }
+    ensures rested { HasRested turns server.now ports.new.clock ports.new.clients ports.new.followers.may_ask ports.new.udp
+        (sooner (sooner ports.new.telling.due ports.new.clipping.due) (frames_until ports.new.panes.all.items))
+        ports.new.echoes.wish ports.new.waits.longest }
+    ensures aims { AimsAt server.now ports.old.echoes.echoed ports.old.echoes.wish ports.new.echoes.wish }
 {
     ports.tell_panes(&panes_of(server));
     ports.tell_beside();
     ports.tell_clips();
     ports.tell_asks();
+    ports.note_acts(server.acts_taken(), server.focus());
+    ports.aim(server.number_due());
     ports.rest(if turns == FOR_GOOD {
         server.next_due()
     } else {
@@ -111,8 +116,9 @@ fn serve_turns<C: Clock + Drop>(
     // After each turn, and so after the last.
     ensures told { 0 < turns → HasToldAll ⟦<UnixStream as Stream>⟧.contents server.new ports.new.moment ports.new.panes.all.items
         ports.new.followers.all.items }
-    ensures rested { 0 < turns → HasRested turns server.new ports.new.moment ports.new.clients ports.new.followers.may_ask ports.new.udp
-        (sooner (sooner ports.new.telling.due ports.new.clipping.due) (frames_until ports.new.panes.all.items)) ports.new.waits.longest }
+    ensures rested { 0 < turns → HasRested turns server.new ports.new.clock ports.new.clients ports.new.followers.may_ask ports.new.udp
+        (sooner (sooner ports.new.telling.due ports.new.clipping.due) (frames_until ports.new.panes.all.items))
+        ports.new.echoes.wish ports.new.waits.longest }
 {
     for _ in 0..turns {
         serve_turn(alloc, server, ports);
