@@ -1,5 +1,5 @@
 //! A client start that stays while outer terminals come and go at its socket.
-ghost use Rattle.std.specs.Prelude.{◌≡◌, ◌≢◌, ◌⊎◌, ◌≤◌, ℕ, length, min, true, false, None, IfErr, IfSome};
+ghost use Rattle.std.specs.Prelude.{◌≡◌, ◌≢◌, ◌⊎◌, ◌≤◌, ℕ, length, min, true, false, None, is_some, IfErr, IfSome};
 ghost use Rattle.roam_attaching.specs.Ways.{Goes, IsFrom, MoreGoes, Sends, StillWaits, has_ended};
 ghost use Rattle.roam_sockets.specs.declared.moments.Moments.{Moments};
 ghost use Rattle.roam_sockets.specs.Waits.{wait_until};
@@ -19,11 +19,61 @@ use std::fs::{Files, remove_file};
 use std::net::Net;
 use std::time::Clock;
 
-// The socket at which outer terminals come, and the way of their start to its server.
+/// How many datagrams are dropped at most before it is looked whether a terminal came.
+const MOST_DROPPED: u32 = 64;
+
+/// How many bytes of a datagram are read at most.
+const DATAGRAM: usize = 2048;
+
+/// So many looks end with the machine.
+const FOR_GOOD: u64 = u64::MAX;
+
+// The socket at which outer terminals come, one that came while the start slept, and the way of their start to its server.
 #[derive(Drop)]
 struct Doorway<R> {
     listener: UnixListener,
+    came: Option<UnixStream>,
     connection: Connection<R>,
+}
+
+// The terminal that came before, or one that comes now.
+fn first_at<R: Clock + Drop>(
+    came: &mut Option<UnixStream>,
+    listener: &UnixListener,
+    connection: &Connection<R>,
+) -> Option<UnixStream>
+    ensures none { result ≡ None → came.new ≡ came.old }
+    ensures taken { came.new ≡ None }
+{
+    if let Some(stream) = came.take() {
+        return Some(stream);
+    }
+    let Ok((mut stream, _)) = listener.accept() else {
+        return None;
+    };
+    connection.report(&mut stream, true);
+    Some(stream)
+}
+
+// Drops the datagrams that came: the protocol takes them for lost.
+fn drop_arrivals<R: Clock + Drop>(connection: &mut Connection<R>) {
+    let mut buf = [0; DATAGRAM];
+    for _ in 0..MOST_DROPPED {
+        if connection.receive(&mut buf).is_none() {
+            return;
+        }
+    }
+}
+
+impl<R: Clock + Drop> Doorway<R> {
+    // Looks who came while the start sleeps, and returns true if it is to wake: a terminal came, or the server has ended.
+    fn is_woken(&mut self) -> bool
+        ensures woken { result ≡ true → (is_some self.new.came ≡ true) ⊎ (has_ended self.new.connection.way ≡ true) }
+    {
+        drop_arrivals(&mut self.connection);
+        self.came = first_at(&mut self.came, &self.listener, &self.connection);
+        self.came.is_some() || self.connection.has_ended()
+    }
 }
 
 impl<R: Clock + Drop> Ports for Doorway<R> {
@@ -81,10 +131,7 @@ impl<R: Clock + Drop> Door<Opaque<UnixStream>> for Doorway<R> {
         ensures none { result ≡ None → self.new ≡ self.old }
         ensures way { self.new.connection.way ≡ self.old.connection.way }
     {
-        let Ok((mut stream, _)) = self.listener.accept() else {
-            return None;
-        };
-        self.connection.report(&mut stream, true);
+        let stream = first_at(&mut self.came, &self.listener, &self.connection)?;
         self.connection.stir();
         Some(Opaque::new(stream))
     }
@@ -110,6 +157,22 @@ impl<R: Clock + Drop> Door<Opaque<UnixStream>> for Doorway<R> {
         }
         self.connection.rest(wait);
     }
+
+    // The start takes no turn meanwhile, so the server hears nothing of it and stops sending after a minute.
+    fn sleep(&mut self, longest: u64) {
+        let begun = self.connection.moment();
+        for _ in 0..FOR_GOOD {
+            if self.is_woken() {
+                return;
+            }
+            let passed = self.connection.now().saturating_sub(begun);
+            if passed >= longest {
+                return;
+            }
+            self.connection
+                .rest(wait_until(None, 0).min(longest - passed));
+        }
+    }
 }
 
 /// Is the start of all outer terminals that connect to a socket, for so many rounds at most. `Bind` where the socket can't be bound.
@@ -131,6 +194,7 @@ pub(crate) fn host<R: Files + Net, C: Clock + Drop>(
     let mut shared = SharedStart::new(alloc, client);
     let mut door = Listening::new(Doorway {
         listener,
+        came: None,
         connection,
     });
     let end = run_shared(alloc, &mut shared, &mut door, to, rounds);

@@ -4,10 +4,11 @@ use Rattle.std.specs.Prelude.{Result, Ok, Err, OnOk, OnErr}
 use Rattle.roam_cells.specs.declared.faults.Fault.{Fault}
 use Rattle.roam_cells.specs.declared.addresses.Addr.{Addr}
 use Rattle.roam_turns.specs.Calls.{DoorCall, PortCall, Tells}
-use Rattle.roam_turns.specs.Calls.DoorCall.{Came as came}
+use Rattle.roam_turns.specs.Calls.DoorCall.{Came as came, Rested, Slept}
 use Rattle.roam_turns.specs.Calls.PortCall.{Asked}
-use Rattle.roam_terminals.specs.Running.{ArriveAll, Arrives, IsFresh, IsStep, RunStep, Runs, RunsBy, TakesTurn, TakesTurns}
+use Rattle.roam_terminals.specs.Running.{ArriveAll, Arrives, IsFresh, IsStep, Rests, RunStep, Runs, RunsBy, TakesTurn, TakesTurns}
 use Rattle.roam_terminals.specs.Running.Arrives.{let_go, taken_in}
+use Rattle.roam_terminals.specs.Running.Rests.{sleeps, waits}
 use Rattle.roam_terminals.specs.Running.RunStep.{Asks, Came, Took}
 use Rattle.roam_terminals.specs.Sharing.{Rounds, Shared, most_terminals}
 use Rattle.roam_outer_terminal.specs.declared.silence.Silence.{Silence}
@@ -35,6 +36,14 @@ module _ {S : Type 0} (remaining contents : S → Option (List ℕ)) (to : Addr)
       → Tells between calls' (Asked call ∷ []) → Runs remaining contents to calls calls' old new
   runs_asked call calls between calls' old new h tells =
       (h.0 ++ Asks call ∷ [], runs_more h.0 (Asks call) calls between calls' old new new h.1 (tells, refl))
+
+  pub runs_rested : (longest : ℕ) (calls between calls' : Calls) (old new : Shared S) → Runs remaining contents to calls between old new
+      → Rests longest between calls' new → Runs remaining contents to calls calls' old new
+  runs_rested longest calls between calls' old new h rests =
+      elim rests [
+        | sleeps idle tells ↦ runs_asked (Slept longest) calls between calls' old new h tells
+        | waits due busy next tells ↦ runs_asked (Rested longest due) calls between calls' old new h tells
+      ]
 
   runs_both : (steps later : List (RunStep S)) (calls between calls' : Calls) (old mid new : Shared S)
       → RunsBy remaining contents to steps calls between old mid → RunsBy remaining contents to later between calls' mid new

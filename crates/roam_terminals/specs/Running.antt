@@ -4,7 +4,7 @@ use Rattle.roam_hub.specs.Clients.{ClientView}
 use Rattle.roam_hub.specs.Waits.{has_come}
 use Rattle.roam_cells.specs.declared.addresses.Addr.{Addr}
 use Rattle.roam_turns.specs.Calls.{DoorCall, PortCall, Tells}
-use Rattle.roam_turns.specs.Calls.DoorCall.{Came as came, HasEnded, Rested}
+use Rattle.roam_turns.specs.Calls.DoorCall.{Came as came, HasEnded, Rested, Slept}
 use Rattle.roam_turns.specs.Calls.PortCall.{Asked}
 use Rattle.roam_typing.specs.Lines.{nothing_came}
 use Rattle.roam_world.specs.Clients.{moment_of}
@@ -122,17 +122,28 @@ pub record IsNextDue (client : ClientView) (due : Option ℕ) : Type 0 where
   pub before : (now : ℕ) → now < 2 ^ 64 → has_come due now ≡ false → is_client_due client.kept (moment_of client.kept now) ≡ false
   pub at : IfSome due (λ d. is_client_due client.kept (moment_of client.kept d) ≡ true)
 
+-- no terminal is there, none asked for the end, and all acts that were typed are acknowledged
+pub record IsIdle {S : Type 0} (s : Shared S) : Type 0 where
+  pub none : s.all ≡ []
+  pub goes_on : s.ending ≡ None
+  pub settled : s.client.kept.acts.acts ≡ []
+
+-- How a start rests behind a round, so many milliseconds at most: one that is idle until a terminal comes; any other until it next has
+-- something due.
+pub data Rests {S : Type 0} (longest : ℕ) (calls calls' : Option (List PortCall)) (s : Shared S) : Type 0 where
+  sleeps : IsIdle s → Tells calls calls' (Asked (Slept longest) ∷ []) → Rests longest calls calls' s
+  waits : (due : Option ℕ) → (IsIdle s → ⊥) → IsNextDue s.client due → Tells calls calls' (Asked (Rested longest due) ∷ [])
+      → Rests longest calls calls' s
+
 -- What follows a round: the server has ended; or it hasn't, and the run is over, and that is told as it was heard of the server; or
--- neither, and the start rests, until it next has something due.
+-- neither, and the start rests.
 pub data Follows {S : Type 0} (rounds : ℕ) (silence : Silence) (wait : ℕ) (end : Option End) (calls calls' : Option (List PortCall))
     (s : Shared S) : Type 0 where
   ended : Tells calls calls' (Asked (HasEnded true) ∷ []) → end ≡ Some Gone → Follows rounds silence wait end calls calls' s
   over : Tells calls calls' (Asked (HasEnded false) ∷ []) → IsOver s silence.moment → end ≡ Some (end_of silence)
       → Follows rounds silence wait end calls calls' s
-  rests : (between : Option (List PortCall)) (due : Option ℕ) → Tells calls between (Asked (HasEnded false) ∷ [])
-      → (IsOver s silence.moment → ⊥) → IsNextDue s.client due
-      → Tells between calls' (Asked (Rested (longest_rest s silence wait rounds) due) ∷ []) → end ≡ None
-      → Follows rounds silence wait end calls calls' s
+  rests : (between : Option (List PortCall)) → Tells calls between (Asked (HasEnded false) ∷ []) → (IsOver s silence.moment → ⊥)
+      → Rests (longest_rest s silence wait rounds) between calls' s → end ≡ None → Follows rounds silence wait end calls calls' s
 
 -- ---- a whole run
 

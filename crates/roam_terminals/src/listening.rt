@@ -1,7 +1,7 @@
 //! Ports that know when something was heard last.
-ghost use Rattle.std.specs.Prelude.{◌≡◌, ◌≤◌, ◌∷◌, [], None, Some, IfSome, is_some, length};
+ghost use Rattle.std.specs.Prelude.{◌≡◌, ◌≤◌, ◌∷◌, [], None, Some, IfSome, is_some, length, true, if◌then◌else◌};
 ghost use Rattle.roam_turns.specs.Calls.{Tells};
-ghost use Rattle.roam_turns.specs.Calls.DoorCall.{Came, HasEnded, Rested};
+ghost use Rattle.roam_turns.specs.Calls.DoorCall.{Came, HasEnded, Rested, Slept};
 ghost use Rattle.roam_turns.specs.Calls.PortCall.{Asked};
 
 use crate::running::Door;
@@ -15,6 +15,8 @@ use roam_turns::Ports;
 pub struct Listening<P> {
     ports: P,
     silence: Silence,
+    // Whether the start slept since the moment was told last. It listened to nothing meanwhile, so silence counts from the next moment on.
+    has_slept: bool,
 }
 
 impl<P: Ports + Drop> Listening<P> {
@@ -26,6 +28,7 @@ impl<P: Ports + Drop> Listening<P> {
         Listening {
             ports,
             silence: Silence::new(),
+            has_slept: false,
         }
     }
 
@@ -72,6 +75,26 @@ impl<P: Ports + Drop> Listening<P> {
     {
         self.ports.rest(longest, due);
     }
+
+    // Waits until a terminal comes or the server has ended.
+    pub(crate) fn sleep<S>(&mut self, longest: u64)
+    where
+        P: Door<S>,
+        ensures tells { Tells (P.told self.old.ports) (P.told self.new.ports) (Asked (Slept longest) ∷ []) }
+        ensures others { self.new ≡ record self.old { ports = self.new.ports; has_slept = true } }
+    {
+        self.ports.sleep(longest);
+        self.has_slept = true;
+    }
+}
+
+// Counts a silence from its moment on, if the start slept until then.
+fn hear_after(silence: &mut Silence, has_slept: bool)
+    ensures heard { silence.new ≡ (if has_slept then record silence.old { heard = Some silence.old.moment } else silence.old) }
+{
+    if has_slept {
+        silence.hear();
+    }
 }
 
 impl<P: Ports + Drop> Ports for Listening<P> {
@@ -84,6 +107,8 @@ impl<P: Ports + Drop> Ports for Listening<P> {
     fn now(&mut self) -> u64 {
         let moment = self.ports.now();
         self.silence.at(moment);
+        hear_after(&mut self.silence, self.has_slept);
+        self.has_slept = false;
         moment
     }
 

@@ -1,8 +1,8 @@
 //! The whole run of a client start that stays while outer terminals come and go.
 ghost use Rattle.std.specs.Prelude.{◌≡◌, ◌∷◌, [], ℕ, is_some};
-ghost use Rattle.roam_terminals.specs.Running.{Runs, RunsOut, TakesIn, TakesTurn, is_for_good, longest_rest, within};
+ghost use Rattle.roam_terminals.specs.Running.{Rests, Runs, RunsOut, TakesIn, TakesTurn, is_for_good, longest_rest, within};
 ghost use Rattle.roam_turns.specs.Calls.{Tells};
-ghost use Rattle.roam_turns.specs.Calls.DoorCall.{Came, HasEnded, Rested};
+ghost use Rattle.roam_turns.specs.Calls.DoorCall.{Came, HasEnded, Rested, Slept};
 ghost use Rattle.roam_turns.specs.Calls.PortCall.{Asked};
 
 use crate::listening::Listening;
@@ -39,6 +39,10 @@ pub trait Door<S>: Ports {
     /// which something is due.
     fn rest(&mut self, longest: u64, due: Option<u64>)
         ensures tells { Tells (Self.told self.old) (Self.told self.new) (Asked (Rested longest due) ∷ []) };
+
+    /// Waits until a terminal comes or the server has ended, so many milliseconds at most. What the server sends meanwhile is dropped.
+    fn sleep(&mut self, longest: u64)
+        ensures tells { Tells (Self.told self.old) (Self.told self.new) (Asked (Slept longest) ∷ []) };
 }
 
 // Says to one above sixteen that there is no room, and lets it go.
@@ -92,6 +96,23 @@ fn longest_rest<S: Duplex + Drop>(
     within(rounds != FOR_GOOD, SHORT, while_ending)
 }
 
+// Rests behind a round, so many milliseconds at most: until a terminal comes if none is there and nothing is left to do, else until the
+// start next has something due.
+fn rest_behind<S: Duplex + Drop, D: Door<S> + Drop>(
+    shared: &SharedStart<S>,
+    door: &mut Listening<D>,
+    longest: u64,
+)
+    ensures rests { Rests longest (D.told door.old.ports) (D.told door.new.ports) shared.now }
+    ensures silence { door.new.silence ≡ door.old.silence }
+{
+    if shared.is_idle() {
+        door.sleep(longest);
+    } else {
+        door.rest(longest, shared.client().next_due());
+    }
+}
+
 // A turn of a run: those who come are taken in, a round is taken, and the start rests. Where that was the end it is answered what was heard
 // of the server.
 fn take_turn<S: Duplex + Drop, D: Door<S> + Drop>(
@@ -114,10 +135,7 @@ fn take_turn<S: Duplex + Drop, D: Door<S> + Drop>(
     if shared.is_over(silence) {
         return Some(silence.end());
     }
-    door.rest(
-        longest_rest(shared, silence, wait, rounds),
-        shared.client().next_due(),
-    );
+    rest_behind(shared, door, longest_rest(shared, silence, wait, rounds));
     None
 }
 

@@ -3,7 +3,7 @@ ghost use Rattle.std.specs.Prelude.{◌≡◌, ◌⊎◌, ◌↔◌, ◌<◌, �
 ghost use Rattle.std.specs.List.{list_any};
 ghost use Rattle.roam_screens.specs.Screenshot.{Screenshot};
 ghost use Rattle.roam_outer_terminal.specs.Painted.{MayPaint, is_guessing};
-ghost use Rattle.roam_terminals.specs.Running.{IsFresh, IsOver};
+ghost use Rattle.roam_terminals.specs.Running.{IsFresh, IsIdle, IsOver};
 ghost use Rattle.roam_terminals.specs.Sharing.{AreEach, AreEachBehind, AreHeard, Rounds, ending_after, is_any_waiting, most_terminals, turned_round, wait_after, wait_for, who_stay};
 ghost use Rattle.roam_outer_terminal.specs.Writing.{Settles};
 ghost use Rattle.roam_outer_terminal.specs.declared.terminal.Terminal.{Terminal as TerminalOf};
@@ -176,6 +176,13 @@ impl<S: Duplex + Drop> SharedStart<S> {
         ensures ending { result ≡ is_some self.now.ending }
     {
         self.ending.is_some()
+    }
+
+    /// Returns true if no terminal is there, none asked for the end, and all acts that were typed are acknowledged.
+    pub fn is_idle(&self) -> bool
+        ensures idle { IsTrue result ↔ IsIdle self.now }
+    {
+        self.all.is_empty() && self.ending.is_none() && self.client.is_settled()
     }
 
     /// Whether it is over at a moment, as one of them asked: all acts that were typed are acknowledged, or a second passed since.

@@ -98,6 +98,10 @@ impl<'a> Door<Opaque<TypedStream<'a>>> for MemoryDoor<'a> {
         self.moment = self.moment.saturating_add(longest);
         self.ports.set_moment(self.moment);
     }
+
+    fn sleep(&mut self, longest: u64) {
+        self.rest(longest, None);
+    }
 }
 
 /// A run: what the terminal types, or that none comes; whether the server has ended; how many rounds there are at most; how it ends, how

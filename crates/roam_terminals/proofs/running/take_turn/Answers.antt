@@ -1,13 +1,13 @@
 use Rattle.std.proofs.Common.{◌≡◌, ◌∷◌, [], ap, ◌∙◌, None, Some, refl, sym, subst, false}
 use Rattle.std.specs.Prelude.{IsTrue}
 use Rattle.roam_turns.specs.Calls.{Tells}
-use Rattle.roam_turns.specs.Calls.DoorCall.{HasEnded, Rested}
+use Rattle.roam_turns.specs.Calls.DoorCall.{HasEnded}
 use Rattle.roam_turns.specs.Calls.PortCall.{Asked}
-use Rattle.roam_terminals.specs.Running.{Follows, IsNextDue, IsOver, longest_rest}
+use Rattle.roam_terminals.specs.Running.{Follows, IsOver, Rests, longest_rest}
 use Rattle.roam_terminals.specs.Running.Follows.{over, rests}
 use Rattle.roam_terminals.specs.Sharing.{Rounds}
 use Rattle.roam_outer_terminal.specs.Silence.{end_of}
-use Rattle.roam_terminals.proofs.Joined.{runs_asked, runs_round}
+use Rattle.roam_terminals.proofs.Joined.{runs_asked, runs_rested, runs_round}
 use Rattle.roam_terminals.proofs.running.take_turn.Goals as goal
 
 pub returns-then-has_ended-clause-runs : goal.returns-then-has_ended-clause-runs
@@ -43,14 +43,14 @@ returns-clause-runs g c =
     let first = g.D.Ports.told c.args.door.now.ports in
     let took = g.D.Ports.told c.round-wait.new.ports.ports in
     let asked = g.D.Ports.told c.has_ended.new.self.ports in
-    let rested = g.D.Ports.told c.rest.new.self.ports in
-    runs_asked remaining contents c.args.to _ first asked rested c.args.shared.now c.round-wait.new.self
+    let rested = g.D.Ports.told c.rest_behind.new.door.ports in
+    runs_rested remaining contents c.args.to _ first asked rested c.args.shared.now c.round-wait.new.self
     (runs_asked remaining contents c.args.to (HasEnded c.has_ended.result) first took asked c.args.shared.now c.round-wait.new.self
     (runs_round remaining contents c.args.to c.round-wait.new.ports.silence c.round-wait.result first
     (g.D.Ports.told c.take_in.new.door.ports) took c.args.shared.now c.take_in.new.shared c.round-wait.new.self c.take_in.ensures.runs
     c.round-wait.ensures.rounds)
     c.has_ended.ensures.tells)
-    c.rest.ensures.tells
+    c.rest_behind.ensures.rests
 
 pub returns-then-is_over-clause-takes : goal.returns-then-is_over-clause-takes
 returns-then-is_over-clause-takes g c =
@@ -81,17 +81,13 @@ returns-clause-takes g c =
     let shared = c.round-wait.new.self in
     let before : c.silence-silence.result ≡ c.round-wait.new.ports.silence =
     c.silence-silence.ensures.silence ∙ ap (λ d. d.silence) c.has_ended.ensures.others in
-    let after : c.rest.new.self.silence ≡ c.silence-silence.result =
-    ap (λ d. d.silence) c.rest.ensures.others ∙ sym c.silence-silence.ensures.silence in
+    let after : c.rest_behind.new.door.silence ≡ c.silence-silence.result =
+    c.rest_behind.ensures.silence ∙ sym c.silence-silence.ensures.silence in
     let tells : Tells took asked (Asked (HasEnded false) ∷ []) =
     subst (λ b. Tells took asked (Asked (HasEnded b) ∷ [])) c.if-has_ended.false c.has_ended.ensures.tells in
-    let rested = g.D.Ports.told c.rest.new.self.ports in
-    let rest_tells : Tells asked rested (Asked (Rested (longest_rest shared c.silence-silence.result c.round-wait.result c.args.rounds)
-    c.next_due.result) ∷ []) =
-    subst (λ n. Tells asked rested (Asked (Rested n c.next_due.result) ∷ [])) c.longest_rest.ensures.rest c.rest.ensures.tells in
-    let due : IsNextDue shared.client c.next_due.result =
-    subst (λ k. IsNextDue k c.next_due.result) c.client.ensures.client
-    (record { before = c.next_due.ensures.before; at = c.next_due.ensures.at }) in
+    let rested = g.D.Ports.told c.rest_behind.new.door.ports in
+    let rests_so : Rests (longest_rest shared c.silence-silence.result c.round-wait.result c.args.rounds) asked rested shared =
+    subst (λ n. Rests n asked rested shared) c.longest_rest.ensures.rest c.rest_behind.ensures.rests in
     let not_over : IsOver shared c.silence-silence.result.moment → ⊥ = λ o.
     let yes : IsTrue c.is_over.result = c.is_over.ensures.over.1 o in
     let no = c.if-is_over.false in
@@ -105,5 +101,5 @@ returns-clause-takes g c =
       round = subst (λ s. Rounds g.S.Read.remaining g.S.Write.contents c.args.to s c.round-wait.result came took c.take_in.new.shared
           shared) (sym (after ∙ before)) c.round-wait.ensures.rounds;
       follows = subst (λ s. Follows c.args.rounds s c.round-wait.result None took rested shared) (sym after)
-          (rests asked c.next_due.result tells not_over due rest_tells refl);
+          (rests asked tells not_over rests_so refl);
     }

@@ -1,4 +1,4 @@
-use Rattle.std.proofs.Common.{◌≡◌, min, ap, ◌∙◌, rules, subst, false}
+use Rattle.std.proofs.Common.{◌≡◌, min, rules, subst, false}
 use Rattle.std.specs.Prelude.{◌≢◌, IfSome}
 use Rattle.roam_sockets.specs.Waits.{wait_until}
 use Rattle.roam_attaching.proofs.Waiting.{waits_no_longer}
