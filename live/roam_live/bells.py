@@ -83,7 +83,7 @@ class BellSource:
     def take(self, peer: socket.socket) -> None:
         """Takes one who follows."""
         self.followers.append(peer)
-        self.loop.add(peer, lambda: self.hear(peer))
+        self.loop.add(peer, lambda: self.hear(peer), fails=lambda fault: self.drop(peer))
         lines = [f"keypad {pane} application" for pane in sorted(self.keypads)] + [f"say {self.standing}"] * bool(self.standing)
         if lines:
             self.send("\n".join(lines), [peer])

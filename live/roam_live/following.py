@@ -56,6 +56,8 @@ class Following:
     def __init__(self, connects: Callable[[], socket.socket], loop: Loop, hears: Callable[[list[str]], object],
                  loses: Callable[[], object]) -> None:
         self.connects, self.loop, self.hears, self.loses = connects, loop, hears, loses
+        # What takes a fault in what is told here, where that isn't the process's end.
+        self.fails: Callable[[Exception], object] | None = None
         # What is asked for at each connection, before all else.
         self.words: list[str] = []
         self.peer: socket.socket | None = None
@@ -73,7 +75,7 @@ class Following:
         self.peer, self.lines, self.since = peer, Lines(), self.loop.clock()
         self.lengthen()
         self.waiting.clear()
-        self.loop.add(peer, self.hear, lambda: write(peer.fileno(), self.waiting), has_more=lambda: self.waiting)
+        self.loop.add(peer, self.hear, lambda: write(peer.fileno(), self.waiting), has_more=lambda: self.waiting, fails=self.fails)
         for word in self.words:
             self.ask(word)
 
@@ -152,7 +154,7 @@ class KeeperFollowing(Following):
     def __init__(self, path: str, loop: Loop, hears: Callable[[list[str]], object], loses: Callable[[], object],
                  tells: Callable[[str], None] = say, peer: socket.socket | None = None) -> None:
         super().__init__(lambda: connected_now(path), loop, self.heard, loses)
-        self.takes, self.tells, self.told = hears, tells, ""
+        self.takes, self.tells, self.told, self.fails = hears, tells, "", self.lose_for
         self.quiet = "panes are quiet"
         if peer:
             # Other windows have such moments too.
@@ -175,6 +177,10 @@ class KeeperFollowing(Following):
         """Follows no more."""
         self.loop.drop(self.quiet)
         super().end()
+
+    def lose_for(self, fault: Exception) -> None:
+        """Lets go of a connection in which there was a fault: the panes stay, and all is told anew."""
+        self.lost(f"what it tells can't be gone by: {reason(fault)}")
 
     def heard(self, lines: list[str]) -> None:
         """Takes lines that came."""

@@ -2,11 +2,11 @@
 from __future__ import annotations
 
 import contextlib
-import math
+import errno
 import select
-import selectors
 import time
 from collections.abc import Callable
+from operator import itemgetter
 
 TYPE_CHECKING = False
 if TYPE_CHECKING:
@@ -20,11 +20,27 @@ if TYPE_CHECKING:
 
     End = Union[int, HasEnd]
     Does = Callable[[], object]
+    TakesFault = Callable[[Exception], object]
 
-READ, WRITE = selectors.EVENT_READ, selectors.EVENT_WRITE
+READ, WRITE = 1, 2
 
-# The system's select takes descriptors below this.
+# What the system tells of an end, as events here. Any other, as that its other end is gone, is all that is waited for there.
+FOUND = {select.EPOLLIN: READ, select.EPOLLOUT: WRITE, select.EPOLLIN | select.EPOLLOUT: READ | WRITE}
+WATCHED = {READ: select.EPOLLIN, WRITE: select.EPOLLOUT, READ | WRITE: select.EPOLLIN | select.EPOLLOUT}
+
+# epoll counts in milliseconds: a wait of fewer seconds is had by select, which takes descriptors below this.
+FINE = 0.01
 MOST_SELECTED = 1024
+
+# So many seconds an end rests after a fault of which nobody said what it ends, and so many later a moment's fault is tried again.
+RESTS = 1.0
+
+MOMENT = itemgetter(0)
+
+
+def place_of(found: tuple[LoopEnd, int, int]) -> int:
+    """The place of an end at which something was found, among all that were added."""
+    return found[0].place
 
 
 def always() -> bool:
@@ -39,9 +55,9 @@ def number_of(end: End) -> int:
 
 def ready(end: End, events: int, seconds: float) -> int:
     """Which of these events an end has within so many seconds."""
-    with selectors.SelectSelector() as selector:
-        selector.register(number_of(end), events)
-        return sum(found for _, found in selector.select(seconds))
+    poll = select.poll()
+    poll.register(number_of(end), (select.POLLIN if events & READ else 0) | (select.POLLOUT if events & WRITE else 0))
+    return sum(FOUND.get(found, READ | WRITE) & events for _, found in poll.poll(max(0.0, seconds) * 1000))
 
 
 def comes(end: End, seconds: float) -> bool:
@@ -54,28 +70,79 @@ def is_taken(end: End, seconds: float) -> bool:
     return bool(ready(end, WRITE, seconds))
 
 
-def polled(reads: list[int], writes: list[int], seconds: float | None) -> dict[int, int]:
-    """The events that these ends have within so many seconds, also of those that are more than may be selected."""
-    poll = select.poll()
-    for end in {*reads, *writes}:
-        poll.register(end, (select.POLLIN if end in reads else 0) | (select.POLLOUT if end in writes else 0))
-    found = {}
-    for end, events in poll.poll(None if seconds is None else math.ceil(seconds * 1000)):
-        is_odd = events & ~(select.POLLIN | select.POLLOUT)
-        found[end] = ((READ if end in reads and (events & select.POLLIN or is_odd) else 0)
-                      | (WRITE if end in writes and (events & select.POLLOUT or is_odd) else 0))
-    return found
+class Watched:
+    """The descriptors that the system watches, and which events of each. Of what isn't waited for nothing is told, not even its end. A file
+    that can't be watched is always ready, as one that is no stream."""
+
+    def __init__(self) -> None:
+        self.poller = select.epoll()
+        self.events: dict[int, int] = {}
+        self.files: set[int] = set()
+
+    def watch(self, number: int, events: int) -> None:
+        """Has these events of a descriptor be told from now on; OSError where the system refuses that."""
+        if events == self.events.get(number, 0):
+            return
+        if not events:
+            self.forget(number)
+            return
+        if number not in self.files:
+            self.tell_system(number, WATCHED[events])
+        self.events[number] = events
+
+    def tell_system(self, number: int, mask: int) -> None:
+        """Has the system watch a descriptor, which may be another file than was watched under its number."""
+        with contextlib.suppress(FileNotFoundError):
+            if number in self.events:
+                self.poller.modify(number, mask)
+                return
+        try:
+            self.poller.register(number, mask)
+        except FileExistsError:
+            self.poller.modify(number, mask)
+        except PermissionError:
+            self.files.add(number)
+
+    def forget(self, number: int) -> None:
+        """Watches a descriptor no more, which may be closed already."""
+        if self.events.pop(number, None) is not None and number not in self.files:
+            with contextlib.suppress(OSError):
+                self.poller.unregister(number)
+        self.files.discard(number)
+
+    def found(self, seconds: float | None) -> dict[int, int]:
+        """Waits until something can be done at one of them, so many seconds at most, and tells the events by their numbers."""
+        if self.files:
+            seconds = 0
+        elif seconds and seconds < FINE and self.poller.fileno() < MOST_SELECTED:
+            select.select((self.poller,), (), (), seconds)
+            seconds = 0
+        found = {}
+        for number, events in self.poller.poll(seconds):
+            found[number] = FOUND.get(events, READ | WRITE) & self.events.get(number, 0)
+        for number in self.files:
+            found[number] = self.events[number]
+        return found
 
 
 class LoopEnd:
-    """What is done where something comes at an end, and where the end takes something, each while it is wanted."""
+    """What is done where something comes at an end, and where the end takes something, each while it is wanted; and what a fault in that
+    ends, where that is known."""
 
-    def __init__(self, reads: Does | None, writes: Does | None, hears: Callable[[], object], has_more: Callable[[], object]) -> None:
-        self.reads, self.writes, self.hears, self.has_more = reads, writes, hears, has_more
+    def __init__(self, reads: Does | None, writes: Does | None, hears: Callable[[], object], has_more: Callable[[], object],
+                 fails: TakesFault | None = None, is_told: bool = False) -> None:
+        self.reads, self.writes, self.hears, self.has_more, self.fails = reads, writes, hears, has_more, fails
+        # Whether who added it tells when something else may be waited for there; else that is asked before each wait.
+        self.is_told = is_told or hears is always and (writes is None or has_more is always)
+        # Its place among all that were added, and whether it rests after a fault.
+        self.place, self.rests = 0, False
 
     def events(self) -> int:
         """What is waited for now."""
-        return (READ if self.reads and self.hears() else 0) | (WRITE if self.writes and self.has_more() else 0)
+        if self.rests:
+            return 0
+        return ((READ if self.reads and (self.hears is always or self.hears()) else 0)
+                | (WRITE if self.writes and (self.has_more is always or self.has_more()) else 0))
 
     def do(self, events: int) -> bool:
         """Does what can be done for the first of these events, and tells whether others are left."""
@@ -88,24 +155,60 @@ class LoopEnd:
 
 
 class Loop:
-    """Waits until something can be done, and does it."""
+    """Waits until something can be done, and does it.
+
+    What goes wrong there unforeseen is the process's end, as anywhere, but where an end says what a fault in it ends, and where somebody
+    takes faults: then all else goes on."""
 
     def __init__(self, clock: Callable[[], float] | None = None) -> None:
         self.clock = clock or time.monotonic
+        self.watched = Watched()
         self.sources: dict[int, LoopEnd] = {}
+        self.added = 0
+        # Those that are asked before each wait what they wait for, and those of which that may be something else now.
+        self.asked: dict[int, LoopEnd] = {}
+        self.changes: dict[int, LoopEnd] = {}
         self.due: dict[str, tuple[float, Does]] = {}
         self.before: list[Callable[[], float | None]] = []
+        self.next: dict[Does, None] = {}
+        # Who takes faults that nobody foresaw.
+        self.faults: TakesFault | None = None
 
     # ---- ends
 
     def add(self, end: End, reads: Does | None = None, writes: Does | None = None, *, hears: Callable[[], object] = always,
-            has_more: Callable[[], object] = always) -> None:
-        """Has an end read where something came and `hears` holds, and written where it takes something and `has_more` holds."""
-        self.sources[number_of(end)] = LoopEnd(reads, writes, hears, has_more)
+            has_more: Callable[[], object] = always, fails: TakesFault | None = None, is_told: bool = False) -> None:
+        """Has an end read where something came and `hears` holds, and written where it takes something and `has_more` holds. These two are
+        asked before each wait; of many ends they are better asked only where somebody tells by `changed` that they may be others
+        (`is_told`). A fault there is for `fails`."""
+        number = number_of(end)
+        self.remove(number)
+        source = self.sources[number] = LoopEnd(reads, writes, hears, has_more, fails, is_told)
+        self.added += 1
+        source.place = self.added
+        (self.changes if source.is_told else self.asked)[number] = source
+
+    def changed(self, end: End) -> None:
+        """Has it asked before the next wait what an end waits for."""
+        number = end if isinstance(end, int) else end.fileno()
+        source = self.sources.get(number)
+        if source:
+            self.changes[number] = source
 
     def remove(self, end: End) -> None:
         """Lets an end go, before it is closed."""
-        self.sources.pop(number_of(end), None)
+        number = number_of(end)
+        if self.sources.pop(number, None):
+            self.asked.pop(number, None)
+            self.changes.pop(number, None)
+            self.watched.forget(number)
+
+    def hear(self, end: End) -> None:
+        """Does at once what is done where something comes at an end."""
+        number = number_of(end)
+        source = self.sources.get(number)
+        if source:
+            self.do(number, source, READ)
 
     # ---- moments
 
@@ -130,49 +233,138 @@ class Loop:
         if does in self.before:
             self.before.remove(does)
 
+    def soon(self, does: Does) -> None:
+        """Has something done before the next wait, once, however often that is said."""
+        self.next[does] = None
+
     def do_due(self) -> None:
         """Does what is due."""
         now = self.clock()
+        if not self.due or min(self.due.values(), key=MOMENT)[0] > now:
+            return
         for name in [name for name, (moment, _) in self.due.items() if moment <= now]:
             # What was done before may have made it needless, or later.
             if name in self.due and self.due[name][0] <= now:
-                self.due.pop(name)[1]()
+                does = self.due.pop(name)[1]
+                if not self.is_done(does) and name not in self.due:
+                    self.later(name, RESTS, does)
+
+    def do_next(self) -> None:
+        """Does what is to be done before the next wait; what that has done soon is done before another."""
+        if self.next:
+            calls, self.next = self.next, {}
+            for does in calls:
+                self.is_done(does)
+
+    # ---- faults
+
+    def is_done(self, does: Does) -> bool:
+        """Does something, and tells whether that went without a fault that nobody foresaw."""
+        try:
+            does()
+        except Exception as fault:
+            if not self.faults:
+                raise
+            self.faults(fault)
+            return False
+        return True
+
+    def fail(self, number: int, source: LoopEnd, fault: Exception) -> None:
+        """Has a fault at an end, which is told, end what it is said to end. Where nothing is said of that the end rests for a while; where
+        that fails too it is let go."""
+        if self.faults:
+            self.faults(fault)
+        fails = source.fails
+        if not fails:
+            self.rest(number, source)
+        elif not self.is_done(lambda: fails(fault)) and self.sources.get(number) is source:
+            self.remove(number)
+
+    def rest(self, number: int, source: LoopEnd) -> None:
+        """Waits for nothing at an end for a while, since what comes there can't be taken now."""
+
+        def go_on() -> None:
+            source.rests = False
+            if self.sources.get(number) is source:
+                self.changes[number] = source
+
+        source.rests = True
+        self.changes[number] = source
+        self.later(f"rest of end {number}", RESTS, go_on)
 
     # ---- turns
 
+    def ask(self, number: int, source: LoopEnd) -> None:
+        """Has the system watch for what an end waits for now."""
+        try:
+            self.watched.watch(number, source.events())
+        except Exception as fault:
+            if isinstance(fault, OSError) and fault.errno in (errno.ENOMEM, errno.ENOSPC):
+                self.rest(number, source)
+            elif source.fails or self.faults:
+                self.fail(number, source, fault)
+            else:
+                raise
+
     def ready(self, seconds: float | None) -> dict[int, int]:
         """Waits until something can be done at an end, so many seconds at most, and tells the events by their ends."""
-        reads, writes = [], []
-        for number, source in self.sources.items():
-            events = source.events()
-            if events & READ:
-                reads.append(number)
-            if events & WRITE:
-                writes.append(number)
-        if max([*reads, *writes], default=0) >= MOST_SELECTED:
-            # Where the limit was lowered below as many as there are those go on that may be selected.
-            with contextlib.suppress(OSError):
-                return polled(reads, writes, seconds)
-            reads, writes = ([number for number in numbers if number < MOST_SELECTED] for numbers in (reads, writes))
-        # This needs no descriptor of its own, takes any file, and as many as there are where the limit was lowered since.
-        readable, writable, _ = select.select(reads, writes, (), seconds)
-        found = dict.fromkeys(readable, READ)
-        for number in writable:
-            found[number] = found.get(number, 0) | WRITE
-        return found
+        if self.asked:
+            for number, source in list(self.asked.items()):
+                self.ask(number, source)
+        if self.changes:
+            changes, self.changes = self.changes, {}
+            for number, source in changes.items():
+                if self.sources.get(number) is source:
+                    self.ask(number, source)
+        return self.watched.found(seconds)
 
     def wait_time(self) -> float | None:
         """Does what is done before each wait, and tells how long nothing is due then; None where nothing ever is."""
-        told = [does() for does in self.before]
-        moments = [moment for moment in told if moment is not None] + [moment for moment, _ in self.due.values()]
-        return max(0.0, min(moments) - self.clock()) if moments else None
+        self.do_next()
+        least = None
+        for does in list(self.before) if self.before else ():
+            moment = self.hooked(does)
+            if moment is not None and (least is None or moment < least):
+                least = moment
+        if self.next:
+            return 0.0
+        if self.due:
+            first = min(self.due.values(), key=MOMENT)[0]
+            least = first if least is None or first < least else least
+        return None if least is None else max(0.0, least - self.clock())
+
+    def hooked(self, does: Callable[[], float | None]) -> float | None:
+        """Does something that is done before each wait, and tells by when it has to be done again."""
+        try:
+            return does()
+        except Exception as fault:
+            if not self.faults:
+                raise
+            self.faults(fault)
+            return self.clock() + RESTS
+
+    def do(self, number: int, source: LoopEnd, events: int) -> int:
+        """Does what can be done first at an end, and tells the events that are left."""
+        if source.is_told:
+            self.changes[number] = source
+        try:
+            return WRITE if source.do(events) else 0
+        except Exception as fault:
+            if not (source.fails or self.faults):
+                raise
+            self.fail(number, source, fault)
+            return 0
 
     def turn(self) -> None:
         """Waits until something can be done, and does it: what has come before what is due."""
         ready = self.ready(self.wait_time())
-        for number, source in [(number, source) for number, source in self.sources.items() if number in ready]:
-            events = ready[number]
-            # What was done before may have let it go, or closed it and opened another.
-            while events and self.sources.get(number) is source:
-                events = WRITE if source.do(events) else 0
+        if ready:
+            found = [(self.sources[number], number, events) for number, events in ready.items()]
+            if len(found) > 1:
+                found.sort(key=place_of)
+            for source, number, events in found:
+                # What was done before may have let it go, or closed it and opened another.
+                while events and self.sources.get(number) is source:
+                    events = self.do(number, source, events)
         self.do_due()
+        self.do_next()

@@ -13,6 +13,7 @@ from collections.abc import Callable
 from roam_live import terminal
 from roam_live.bells import Bells
 from roam_live.brought import AGENT, NAMES, Brought, agent_in
+from roam_live.faults import SoonFaults
 from roam_live.keypads import Keypad
 from roam_live.loops import Loop, always
 from roam_live.program import ASKS_WHY, UNREAD_LIMIT, connected_now, read, reason, say, write
@@ -34,6 +35,7 @@ SETTLES = 0.5
 # So many seconds a server has until it reads what a pane's programs write.
 READ_WAIT = 3.0
 
+GIVEN_UP = b"\r\n[ended after several faults of roam; a key begins anew]\r\n"
 DROPPED = b"\r\n[a new shell; what was typed since the last one ended is dropped]\r\n"
 NOT_RUN = "[not run: {}; a key tries again]\r\n"
 
@@ -125,6 +127,9 @@ class PaneCommand:
         # What takes all that is written to the pane, for the rows that are kept, and whether it takes more now.
         self.keeps: Callable[[bytes], object] = lambda data: None
         self.hears: Callable[[], bool] = always
+        # Faults at its ends, and what is called where there are too many.
+        self.faults = SoonFaults(loop.clock)
+        self.gives_up: Callable[[], object] = lambda: None
 
     def connect(self, look: Callable[[], object]) -> None:
         """Connects to the pane; a call is for when it can be looked whether the server reads what is written."""
@@ -132,7 +137,7 @@ class PaneCommand:
         self.peer.setsockopt(socket.SOL_SOCKET, socket.SO_SNDBUF, SOCKET_LIMIT)
         self.is_connected = True
         # What is typed is read whatever waits: a command that doesn't read would stop the server else.
-        self.loop.add(self.peer, self.hear, self.write_pane, has_more=lambda: self.to_pane)
+        self.loop.add(self.peer, self.hear, self.write_pane, has_more=lambda: self.to_pane, fails=self.fail)
         self.loop.later(f"look at {self.named}", READ_WAIT, look)
 
     def settle(self) -> None:
@@ -167,7 +172,7 @@ class PaneCommand:
         os.set_inheritable(self.terminal, False)
         os.set_blocking(self.terminal, False)
         self.loop.add(self.terminal, self.hear_terminal, self.write_terminal, has_more=lambda: self.to_terminal,
-                      hears=lambda: len(self.to_pane) < LIMIT and self.hears())
+                      hears=lambda: len(self.to_pane) < LIMIT and self.hears(), fails=self.fail)
 
     def resize(self, size: terminal.Size) -> None:
         """Tells the programs a new size."""
@@ -192,12 +197,28 @@ class PaneCommand:
             self.peer = None
         self.to_pane.clear()
 
+    def fail(self, fault: Exception) -> None:
+        """Goes on without the piece in which there was a fault; too many soon behind each other are taken no more."""
+        if self.faults.is_last():
+            self.gives_up()
+
+    def give_up(self) -> None:
+        """Ends the programs, whose terminal can't be gone on with: a key begins anew."""
+        self.end_programs()
+        self.to_pane.clear()
+        self.process, self.has_ended = None, False
+        self.show(GIVEN_UP)
+
     def hang_up(self) -> None:
         """Ends the pane's programs, and the connection to the pane."""
         for what in ("look at", "settle", "close"):
             self.loop.drop(f"{what} {self.named}")
-        self.close_terminal()
         self.close_peer()
+        self.end_programs()
+
+    def end_programs(self) -> None:
+        """Ends the pane's programs."""
+        self.close_terminal()
         if self.process is not None and self.runs():
             for number in (signal.SIGHUP, signal.SIGCONT):
                 # A process that has become another user's is hung up by its terminal alone.

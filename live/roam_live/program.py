@@ -71,15 +71,20 @@ def log_to(folder: str | os.PathLike[str]) -> None:
     logs[:] = [path] if path.is_file() else []
 
 
-def unforeseen(fault: Exception) -> str:
-    """The line for what a tool didn't foresee; the logs get all of it."""
-    import traceback
-
-    told = "\n".join(map(printable, traceback.format_exc().split("\n")))
+def log_in_full(text: str) -> None:
+    """Has the logs get several lines."""
+    told = "\n".join(map(printable, text.split("\n")))
     make_room_in_logs(len(told))
     for path in logs:
         with contextlib.suppress(OSError), open(path, "a", encoding="utf-8", errors="backslashreplace") as log:
             log.write(f"{tool_name()}, process {os.getpid()}:\n{told}")
+
+
+def unforeseen(fault: Exception) -> str:
+    """The line for what a tool didn't foresee; the logs get all of it."""
+    import traceback
+
+    log_in_full(traceback.format_exc())
     line = one_line(traceback.format_exception_only(type(fault), fault)[-1])
     return f"roam: {tool_name()} failed: {line}" + "".join(f"; {path} has more" for path in logs)
 
@@ -398,12 +403,19 @@ class Lines:
 
     def __init__(self, longest: int = LONGEST_LINE) -> None:
         self.rest, self.longest = b"", longest
+        # Whether what comes is still of a line that is too long to be one.
+        self.is_cut = False
 
     def fed(self, piece: bytes) -> list[str]:
         """The lines that are whole now."""
-        *lines, self.rest = (self.rest + piece).split(b"\n")
-        self.rest = self.rest if len(self.rest) < self.longest else b""
-        return [line.decode("utf-8", "replace") for line in lines]
+        lines = (self.rest + piece).split(b"\n")
+        self.rest = lines.pop()
+        if self.is_cut and lines:
+            del lines[0]
+            self.is_cut = False
+        if self.is_cut or len(self.rest) >= self.longest:
+            self.rest, self.is_cut = b"", True
+        return [line.decode("utf-8", "replace") for line in lines if len(line) < self.longest]
 
 
 class Home:

@@ -5,8 +5,9 @@ import pathlib
 
 from roam_live.colours import NUMBERS, Colours
 
-# What a server is asked for by who answers, and the word that begins each line of that.
+# What a server is asked for by who answers, and the word that begins each line of that. No number there has more digits.
 ASKS = "asks"
+MOST_DIGITS = 19
 
 # What the terminal of a pane is called (XTVERSION).
 VERSION = "0.1.0"
@@ -62,6 +63,6 @@ BEHIND = {"version": [], "frames": ["set"], "pastes": ["set"], "foreground": ["b
 def question_in(line: str) -> PaneQuestion | None:
     """The question that a line tells, `asks P LIFE WHAT`; None where it is another line."""
     word, *words = line.split(" ")
-    if word != ASKS or len(words) < 3 or words[2] not in BEHIND or not all(part.isascii() and part.isdigit() for part in words[:2]):
+    if word != ASKS or len(words) < 3 or words[2] not in BEHIND or not all(part.isascii() and part.isdigit() and len(part) <= MOST_DIGITS for part in words[:2]):
         return None
     return PaneQuestion(words) if words[3:] in ([], BEHIND[words[2]]) else None

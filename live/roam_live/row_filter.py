@@ -78,7 +78,18 @@ class RowRecords:
         self.missing = 0
 
     def fed(self, piece: bytes) -> list[RowRecord]:
-        """The records that are whole now; BadRecord where one can't be."""
+        """The records that are whole now; BadRecord where one can't be. Where there is no memory for them it is as if the piece hadn't
+        come."""
+        before, count = (self.rest, self.head, self.parts, self.missing), len(self.parts)
+        try:
+            return self.taken_apart(piece)
+        except MemoryError:
+            self.rest, self.head, self.parts, self.missing = before
+            del self.parts[count:]
+            raise
+
+    def taken_apart(self, piece: bytes) -> list[RowRecord]:
+        """The records that are whole with a piece."""
         found, at = [], 0
         if self.missing:
             self.parts.append(piece[: self.missing])
@@ -141,11 +152,13 @@ def spawned(words: list[str]) -> tuple[int, list[int]]:
 
 class RowFilter:
     """One process of the filter: records to it, which wait here, and from it. A call takes each record, one is for what waits having become
-    less, and one for its end, with why and its status, None where that isn't known. What it prints is read while a call says so."""
+    less, and one for its end, with why and its status, None where that isn't known. What it prints is read while a call says so; one has
+    memory be free where that is short."""
 
     def __init__(self, loop: Loop, words: list[str], takes: Callable[[RowRecord], object], wrote: Callable[[], object],
-                 ended: Callable[[str, int | None], object], reads: Callable[[], bool] = always) -> None:
-        self.loop, self.takes, self.wrote, self.ended = loop, takes, wrote, ended
+                 ended: Callable[[str, int | None], object], reads: Callable[[], bool] = always,
+                 sheds: Callable[[], object] = lambda: None) -> None:
+        self.loop, self.takes, self.wrote, self.ended, self.sheds = loop, takes, wrote, ended, sheds
         self.process, (self.input, self.output, self.error) = spawned(words)
         self.records = RowRecords()
         self.waiting = bytearray()
@@ -158,8 +171,8 @@ class RowFilter:
         # Whether it takes records, and prints them; why it was ended.
         self.is_there = True
         self.why = ""
-        loop.add(self.input, None, self.write, has_more=self.has_batch)
-        loop.add(self.output, self.hear, hears=reads)
+        loop.add(self.input, None, self.write, has_more=self.has_batch, fails=self.fail)
+        loop.add(self.output, self.hear, hears=reads, fails=self.fail)
 
     def size(self) -> int:
         """How many bytes wait for it."""
@@ -218,12 +231,20 @@ class RowFilter:
             self.end("it ended")
             return
         try:
-            records = self.records.fed(piece)
+            records = self.fed(piece)
         except BadRecord as fault:
             self.kill(str(fault))
             return
         for record in records:
             self.takes(record)
+
+    def fed(self, piece: bytes) -> list[RowRecord]:
+        """The records that are whole with a piece; where memory is short for them some is made free."""
+        try:
+            return self.records.fed(piece)
+        except MemoryError:
+            self.sheds()
+            return self.records.fed(piece)
 
     # ---- its end
 
@@ -240,6 +261,10 @@ class RowFilter:
         self.loop.drop(f"hand rows {self.process}")
         self.loop.later(f"end rows {self.process}", ENDS, self.signal_kill)
         self.reap()
+
+    def fail(self, fault: Exception) -> None:
+        """Ends it, since something of what it takes or prints is lost by a fault."""
+        self.kill("memory is short" if isinstance(fault, MemoryError) else "there is a fault in what is done with it")
 
     def kill(self, why: str) -> None:
         """Ends it, since it can't be gone on with."""

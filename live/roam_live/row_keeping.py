@@ -2,6 +2,7 @@
 it doesn't keep up or ends."""
 from __future__ import annotations
 
+import contextlib
 from collections import deque
 from collections.abc import Callable
 
@@ -26,6 +27,9 @@ WAITS = 1.0
 SCREEN_WAIT = 2.0
 MOST_AWAITED = 64
 
+# So many bytes are kept for making memory free where it is short.
+RESERVED = 1 << 18
+
 # The pauses before the filter is spawned again; one that ran for so many seconds was sound. The same isn't told again for so many.
 PAUSES = (0.1, 1, 5, 15, 60)
 SOUND = 10.0
@@ -42,6 +46,7 @@ UNKNOWN = 2
 
 BEHIND = "rows of history are lost: what filters them doesn't keep up"
 ENDED = "rows of history are lost: what filters them ended: {}; it is spawned again"
+SHORT = "rows of history are dropped: memory is short"
 NOT_RUN = "no rows of history are kept: {}; tried again"
 EARLIER = "no rows of history are kept: the program is an earlier one"
 
@@ -106,6 +111,7 @@ class RowKeeper:
         self.faults, self.since = 0, 0.0
         self.is_off = self.room.most_rows == 0
         self.told, self.told_until = "", 0.0
+        self.reserve = bytes(RESERVED)
         # How many write rows down; what is called where rows of a pane came that are, and whether one of those is waited for.
         self.logs = 0
         self.logs_came: Callable[[PaneRows], object] = lambda rows: None
@@ -125,7 +131,7 @@ class RowKeeper:
         if self.is_off:
             return
         try:
-            self.filter = RowFilter(self.loop, self.words(), self.take, self.wrote, self.ended, self.reads)
+            self.filter = RowFilter(self.loop, self.words(), self.take, self.wrote, self.ended, self.reads, self.shed)
         except (Fault, OSError) as fault:
             self.tell(NOT_RUN.format(reason(fault)))
             self.spawn_later()
@@ -161,6 +167,14 @@ class RowKeeper:
         if words != self.told or self.loop.clock() >= self.told_until:
             self.told, self.told_until = words, self.loop.clock() + TOLD_FOR
             self.tells(words)
+
+    def shed(self) -> None:
+        """Drops the older half of all rows, since memory is short: they are the least of what is kept here."""
+        self.reserve = b""
+        with contextlib.suppress(MemoryError):
+            self.room.shed()
+            self.tell(SHORT)
+            self.reserve = bytes(RESERVED)
 
     def hears(self) -> bool:
         """Whether panes are read now."""
@@ -221,8 +235,12 @@ class RowKeeper:
         if not self.filter or not self.filter.is_there or self.is_losing:
             pane.lacks = True
             return
-        self.demand_terminal(pane)
-        self.filter.add_bytes(pane.terminal, data)
+        try:
+            self.demand_terminal(pane)
+            self.filter.add_bytes(pane.terminal, data)
+        except MemoryError:
+            pane.lacks = True
+            self.shed()
         self.demand_room()
 
     def demand_terminal(self, pane: KeptPane) -> None:
@@ -307,7 +325,7 @@ class RowKeeper:
             pane.is_cut = False
             pane.rows.lose(None)
         if record.word == ROWS:
-            pane.rows.add(record.count, record.data)
+            self.add_rows(pane.rows, record)
         elif record.word == LOST:
             pane.rows.lose(record.count)
         elif record.word == CLEARED:
@@ -318,6 +336,14 @@ class RowKeeper:
                 told(self.room.snapshot(pane.rows, record.count, record.data))
         if pane.logs:
             self.logs_came(pane.rows)
+
+    def add_rows(self, rows: PaneRows, record: RowRecord) -> None:
+        """Keeps rows; where memory is short for them older ones go, and these are lost too."""
+        try:
+            rows.add(record.count, record.data)
+        except MemoryError:
+            self.shed()
+            rows.lose(record.count)
 
     # ---- what is asked
 

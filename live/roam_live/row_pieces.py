@@ -91,9 +91,9 @@ class PaneRows:
         """Keeps rows that came."""
         last = self.pieces[-1] if self.pieces else None
         if last and len(last.data) < JOINED and not last.holders and self.lost == 0:
+            joined = last.data + data
+            last.data, last.count = joined, last.count + count
             self.room.charge(len(data))
-            last.data += data
-            last.count += count
         else:
             self.put(count, data)
         self.lost = 0
@@ -103,8 +103,8 @@ class PaneRows:
     def put(self, count: int, data: bytes) -> None:
         """Has a piece more."""
         piece = Piece(self.end, count, data, self.room.next_place())
-        self.room.charge(piece.charge())
         self.pieces.append(piece)
+        self.room.charge(piece.charge())
 
     def lose(self, count: int | None) -> None:
         """Has a row say that rows are lost here, so many where that is known; one stands for all that are lost together."""
@@ -176,7 +176,18 @@ class RowsRoom:
 
     def keep_most(self) -> None:
         """Drops the oldest pieces while there are too many bytes in all."""
-        while self.kept + self.held > self.most_bytes:
+        self.drop_oldest(self.most_bytes)
+
+    def shed(self) -> None:
+        """Drops the older half of what is kept, and all that snapshots hold, since memory is short."""
+        while self.snapshots:
+            self.snapshots[0].is_lost = True
+            self.release(self.snapshots[0])
+        self.drop_oldest(self.kept // 2)
+
+    def drop_oldest(self, most: int) -> None:
+        """Drops the oldest pieces while there are more bytes than so many in all."""
+        while self.kept + self.held > most:
             oldest = min((rows for rows in self.panes if rows.pieces), key=lambda rows: rows.pieces[0].place, default=None)
             if not oldest:
                 return

@@ -188,7 +188,7 @@ class ShellsSocket:
             peer.asker = RowAsker(self.rows, lambda data: self.answer(peer, data), lambda line: self.send(peer, [line]),
                                   lambda: self.take_lines(peer), self.window)
         self.loop.add(end, lambda: self.hear(peer), lambda: self.write(peer), has_more=lambda: peer.waiting,
-                      hears=lambda: not peer.is_busy())
+                      hears=lambda: not peer.is_busy(), fails=lambda fault: self.drop(peer))
 
     # ---- what comes
 

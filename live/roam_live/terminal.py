@@ -24,6 +24,9 @@ if TYPE_CHECKING:
 LEAST = (4, 8)
 MOST = (200, 500)
 
+# The system's terminals have no more rows or columns.
+MOST_CELLS = 65535
+
 # The least terminal on which something of a session is shown: two rows of it and four columns, above a row of the front end's own.
 LEAST_SHOWN = (3, 4)
 
@@ -78,6 +81,7 @@ def size_of(terminal: int) -> Size:
 
 def set_size(terminal: int, rows: int, cols: int) -> None:
     """Gives a terminal a size; its programs are told where it is another."""
+    rows, cols = (min(max(one, 0), MOST_CELLS) for one in (rows, cols))
     fcntl.ioctl(terminal, termios.TIOCSWINSZ, struct.pack("HHHH", rows, cols, 0, 0))
 
 

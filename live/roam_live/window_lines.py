@@ -3,6 +3,8 @@ from __future__ import annotations
 
 import re
 
+from roam_live.terminal import largest
+
 TYPE_CHECKING = False
 if TYPE_CHECKING:
     from collections.abc import Callable
@@ -36,7 +38,7 @@ if TYPE_CHECKING:
 # The words of lines that are said, and of those that are told.
 WINDOWS, WINDOW, GONE, OPENED, BELL, ACTIVITY, RUNS = "windows", "window", "gone", "opened", "bell", "activity", "runs"
 
-# How one asks for a window to be opened, named and shut.
+# How one asks for a window to be opened, named and shut. A size is cut to the largest that a session may have.
 OPEN = re.compile(r"open ([1-9]\d{0,4}) ([1-9]\d{0,4})", re.ASCII)
 NAME = re.compile(r"name ([1-9]\d?) (-|(?:[0-9a-f]{2}){1,119})", re.ASCII)
 SHUT = re.compile(r"shut ([1-9]\d?)", re.ASCII)
@@ -104,7 +106,7 @@ class WindowLines:
             runs = [f"{RUNS} {number} {name}" for number, name in self.table.in_front().items()]
             socket.send(peer, [*told, f"{WINDOWS} {len(told)}", *runs])
         elif opens:
-            self.open(socket, peer, (int(opens[1]), int(opens[2])))
+            self.open(socket, peer, largest((int(opens[1]), int(opens[2]))))
         elif peer.watches():
             return False
         elif names and name_in(names[2]) is not None:

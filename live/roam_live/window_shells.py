@@ -9,12 +9,13 @@ import socket
 import time
 
 from roam_live.bells import BellSource
+from roam_live.faults import FaultLog
 from roam_live.following import KeeperFollowing
 from roam_live.fronts import Fronts
 from roam_live.lasting import Lasting
 from roam_live.loops import Loop
 from roam_live.pane_commands import Options, PaneCommand, Spare, has_ended, say_in
-from roam_live.places import ASIDES, BRACKETED, FOCUS, OTHER, Rect, ToldPanes
+from roam_live.places import BRACKETED, FOCUS, OTHER, Rect, ToldPanes
 from roam_live.program import Fault, begun, is_running, note_end, read, reason, say
 from roam_live.programs import working_folder
 from roam_live.questions import ASKS, holds_frames, question_in
@@ -54,6 +55,7 @@ class Common:
 
     def __init__(self, wakeup: int, loop: Loop | None = None) -> None:
         self.wakeup, self.loop = wakeup, loop or Loop()
+        self.faults = FaultLog(self.loop.clock)
         # The panes of each window, by its number; 0 is that of a session that has no others.
         self.windows: dict[int, Shells] = {}
         self.hung: list[int] = []
@@ -70,6 +72,13 @@ class Common:
         self.rows = RowKeeper(self.loop, self.tell)
         self.rows.is_other = self.shows_other
         self.shells = CommonShells(self.loop, self.rows)
+        self.loop.faults = self.take_fault
+
+    def take_fault(self, fault: Exception) -> None:
+        """Takes a fault of anything here, which ends no window. Of what is kept rows are the least: where memory is short they go."""
+        if isinstance(fault, MemoryError):
+            self.rows.shed()
+        self.faults.take(fault)
 
     def tell(self, text: str) -> None:
         """Tells what a person has to know, in the log and to who follows the bells of any window."""
@@ -111,14 +120,14 @@ class Common:
         if any(number in LEAVING for number in read(self.wakeup) or b""):
             self.is_over = True
         self.hung = [process for process in self.hung if not has_ended(process)]
-        for window in self.windows.values():
-            window.reap()
+        for window in list(self.windows.values()):
+            self.loop.is_done(window.reap)
 
     def turn(self) -> None:
         """Waits until something can be done, and does it."""
         self.loop.turn()
         for window in list(self.windows.values()):
-            window.tend()
+            self.loop.is_done(window.tend)
 
     def run(self) -> int:
         """Keeps the shells of a session of one window until it ends."""
@@ -197,14 +206,10 @@ class Shells:
     def told(self, line: str) -> None:
         """Takes a line of D/panes: where a pane is, that it is gone, the focus, or what stands beside a pane's terminal; counts of starts
         are nothing here, and others answer what was asked."""
-        words = line.split()
-        self.aside.take(line)
-        if words[0] in ASIDES:
-            return
-        if words[0] == ASKS:
-            self.answer(line)
-            return
-        if words[0] == "focus":
+        words, is_known = line.split(), self.aside.take(line)
+        if not is_known:
+            self.take_other(words, line)
+        elif words[0] == "focus":
             before, self.focus, self.is_again = self.focus, int(words[1]), False
             self.report_focus(before)
             self.history = [self.focus] + [pane for pane in self.history if pane != self.focus]
@@ -214,10 +219,15 @@ class Shells:
             self.untold.clear()
         elif words[1:] == ["gone"]:
             self.drop(int(words[0]))
-        elif len(words) == 6:
+        elif words[0].isdigit() and len(words) == 6:
             number, *rect, life = map(int, words)
             self.there_is(number, Rect(*rect), life)
-        elif words[0].isdigit():
+
+    def take_other(self, words: list[str], line: str) -> None:
+        """Takes a line of D/panes that tells nothing of panes."""
+        if words[:1] == [ASKS]:
+            self.answer(line)
+        elif words and words[0].isdigit():
             raise Fault("the server is of an earlier roam: it doesn't tell where panes are")
 
     def answer(self, line: str) -> None:
@@ -249,6 +259,7 @@ class Shells:
             typed = TypedQueue(self.common.shells.texts, lambda: self.aside.has_set(number, BRACKETED))
             self.panes[number] = PaneCommand(self.asked, self.loop, number, life, size, self.is_again, folder, typed)
             self.panes[number].follows, self.panes[number].brought = self.follow_now, self.common.shells.brought
+            self.panes[number].gives_up = lambda: self.give_up(number)
             key = self.key(number)
             self.rows.begin(key, life, size)
             self.panes[number].keeps, self.panes[number].hears = lambda data: self.rows.feed(key, data), self.rows.hears
@@ -321,6 +332,13 @@ class Shells:
             pane.hang_up()
             self.common.hung += [pane.process] if pane.process is not None and pane.runs() else []
 
+    def give_up(self, number: int) -> None:
+        """Ends the programs of a pane in which there were too many faults, and closes it; where it is the only one a line there says so."""
+        pane = self.panes[number]
+        self.common.hung += [pane.process] if pane.process is not None and pane.runs() else []
+        pane.give_up()
+        pane.has_ended = self.asked.close and len(self.panes) > 1
+
     def hear(self, lines: list[str]) -> None:
         """Takes what came from D/panes."""
         if self.is_new:
@@ -334,7 +352,7 @@ class Shells:
     def follow_now(self) -> None:
         """Takes what came from D/panes so far."""
         if self.following.peer:
-            self.following.hear()
+            self.loop.hear(self.following.peer)
 
     def lost(self) -> None:
         """Goes on without D/panes, which is connected to again; where the server's process has ended the session has."""

@@ -2,6 +2,7 @@
 from __future__ import annotations
 
 import contextlib
+import functools
 import os
 import signal
 import socket
@@ -398,7 +399,7 @@ class Windows:
         """Waits until something can be done, does it, and tells what is new in windows."""
         self.common.turn()
         for window in [one for one in self.windows.values() if one.shells and one.state == THERE]:
-            self.tell_news(window)
+            self.loop.is_done(functools.partial(self.tell_news, window))
 
     def tell_news(self, window: KeptWindow) -> None:
         """Tells what is new in a window: that panes rang, that something was written where nobody is, and that it is over."""
@@ -456,7 +457,7 @@ class SizeAct:
         self.loop, self.peer = loop, peer
         # A start that is stopped takes nothing: it is closed then too.
         self.name = f"size {peer.fileno()} is taken"
-        loop.add(peer, self.hear)
+        loop.add(peer, self.hear, fails=lambda fault: self.close())
         loop.later(self.name, OPENS, self.close)
         try:
             peer.send(f"{size_act(size)}\n".encode())

@@ -11,6 +11,7 @@ from roam_live import display, front_end, links, mouse, pastes, terminal, visits
 from roam_live.colours import ASKED
 from roam_live.extended_keys import QUERY, WANTED, given_back
 from roam_live.front_end import FrontEnd
+from roam_live.loops import comes
 from roam_live.program import Fault, begun
 from roam_live.places import Places, Rect
 from roam_live.shells_link import FEW
@@ -118,6 +119,8 @@ class Fronts(Case):
     def type(self, text):
         """Types."""
         os.write(self.master, text)
+        # The system hands it to the other end a moment later.
+        comes(0, 1)
         self.turn()
 
     def shown(self):

@@ -120,9 +120,18 @@ class Panes(Keeper):
         self.assertEqual(self.keeper.panes, {})
 
     def test_earlier(self):
-        """An earlier server tells no places."""
-        with self.assertRaisesRegex(Fault, "^the server is of an earlier roam: it doesn't tell where panes are$"):
+        """An earlier server tells no places: it isn't followed, which is logged once, and is connected to again after pauses that grow."""
+        panes = self.begin()
+        self.tell("1 23 80")
+        for _ in range(2):
+            self.now = self.keeper.loop.due["follow panes"][0]
+            self.turn()
+            self.server = self.taken(self.listeners["panes"])
             self.tell("1 23 80")
+        why = "a fault of roam, which goes on: Fault: the server is of an earlier roam: it doesn't tell where panes are\n"
+        self.assertTrue(self.said.getvalue().endswith(why))
+        self.assertEqual((list(self.keeper.panes), self.keeper.is_over, self.keeper.common.faults.count), ([1, 2], False, 3))
+        self.assertTrue(panes)
 
     def test_there(self):
         """Who is at the session is told at the socket `shells`."""

@@ -177,6 +177,183 @@ class Ends(Case):
 
 
 
+class Told(Case):
+    """What is waited for at an end of which somebody tells when that may be something else."""
+
+    def setUp(self):
+        self.loop, self.done, self.asked = StillLoop(), [], []
+        self.one, self.other = self.pair()
+
+    def turn(self):
+        """What is done in a turn."""
+        self.loop.turn()
+        done = list(self.done)
+        self.done.clear()
+        return done
+
+    def test_changed(self):
+        """It is asked what it waits for once it came, after something was done there, and where somebody tells so, and never else."""
+        waiting = bytearray()
+        self.loop.add(self.one, lambda: self.done.append(self.one.recv(9)), lambda: self.done.append(b"written"),
+                      has_more=lambda: self.asked.append(1) or waiting, is_told=True)
+        self.loop.turns(3)
+        self.assertEqual(len(self.asked), 1)
+        waiting += b"x"
+        self.assertEqual(self.turn(), [])
+        self.loop.changed(self.one)
+        self.assertEqual(self.turn(), [b"written"])
+        waiting.clear()
+        self.loop.changed(self.one)
+        self.assertEqual((self.turn(), len(self.asked)), ([], 3))
+        self.other.send(b"y")
+        self.assertEqual(self.turn(), [b"y"])
+        self.loop.turns(3)
+        self.assertEqual(len(self.asked), 4)
+        self.loop.changed(self.other)
+        self.loop.changed(77)
+
+    def test_many(self):
+        """A turn asks none of many ends at which nothing is."""
+        for _ in range(30):
+            self.loop.add(self.pair()[0], self.fail, self.fail, hears=lambda: self.asked.append(1) or True,
+                          has_more=lambda: self.asked.append(1), is_told=True)
+        self.loop.turns(5)
+        self.assertEqual(len(self.asked), 60)
+
+    def test_hung_up(self):
+        """The end of the other end of what nothing is waited for wakes nobody."""
+        self.loop.add(self.one, self.fail, self.fail, hears=lambda: False, has_more=lambda: False, is_told=True)
+        self.loop.turn()
+        self.other.close()
+        self.loop.turns(3)
+        self.assertEqual(self.loop.found, 0)
+
+    def test_another_file(self):
+        """A descriptor that was closed and is another file now is watched as that."""
+        self.loop.add(self.one, lambda: self.done.append("one"))
+        self.assertEqual(self.turn(), [])
+        two, there = self.pair()
+        os.dup2(two.fileno(), self.one.fileno())
+        self.loop.add(self.one, lambda: self.done.append("two"), lambda: self.done.append("written"))
+        there.send(b"x")
+        self.assertEqual(self.turn(), ["two", "written"])
+
+    def test_high(self):
+        """Descriptors may be more than can be selected."""
+        import fcntl
+        import resource
+
+        before = resource.getrlimit(resource.RLIMIT_NOFILE)
+        resource.setrlimit(resource.RLIMIT_NOFILE, (max(before[0], min(before[1], 1200)), before[1]))
+        self.addCleanup(resource.setrlimit, resource.RLIMIT_NOFILE, before)
+        high = fcntl.fcntl(self.one, fcntl.F_DUPFD_CLOEXEC, 1100)
+        self.addCleanup(os.close, high)
+        self.loop.add(high, lambda: self.done.append("high"))
+        self.assertEqual((self.turn(), comes(high, 0)), ([], False))
+        self.other.send(b"x")
+        self.assertEqual((self.turn(), comes(high, 0)), (["high"], True))
+
+    def test_soon(self):
+        """What is to be done soon is done once, before the next wait, which isn't long where more is."""
+        def again():
+            self.done.append("again")
+            self.loop.soon(again)
+
+        for does in (again, again, lambda: self.done.append("once")):
+            self.loop.soon(does)
+        self.assertEqual(self.loop.wait_time(), 0.0)
+        self.assertEqual(self.done, ["again", "once"])
+        self.loop.next.clear()
+        self.assertIsNone(self.loop.wait_time())
+
+
+class Faults(Case):
+    """What goes wrong at an end, at a moment, or before a wait."""
+
+    def setUp(self):
+        self.now, self.done, self.faults = 100.0, [], []
+        self.loop = StillLoop(lambda: self.now)
+        self.one, self.other = self.pair()
+        self.other.send(b"x")
+
+    def fault(self):
+        """What goes wrong."""
+        self.done.append(self.now)
+        raise ValueError("wrong")
+
+    def test_none(self):
+        """It is the process's, where nobody takes it."""
+        self.loop.add(self.one, self.fault)
+        with self.assertRaisesRegex(ValueError, "wrong"):
+            self.loop.turn()
+        self.loop.remove(self.one)
+        for begin in (self.loop.each, self.loop.soon, lambda does: self.loop.later("moment", 0, does)):
+            begin(self.fault)
+            with self.assertRaisesRegex(ValueError, "wrong"):
+                self.loop.turn()
+            self.loop.end_each(self.fault)
+
+    def test_ends(self):
+        """It ends what it is said to end, and is told; others go on, and so where that goes wrong too."""
+        two, there = self.pair()
+        there.send(b"x")
+        self.loop.faults = self.faults.append
+        self.loop.add(self.one, self.fault, fails=lambda fault: self.loop.remove(self.one))
+        self.loop.add(two, lambda: self.done.append("two"), fails=self.fail)
+        self.loop.turn()
+        self.assertEqual((self.done, list(self.loop.sources), list(map(str, self.faults))), ([100.0, "two"], [two.fileno()], ["wrong"]))
+        self.loop.add(self.one, self.fault, fails=lambda fault: self.fault())
+        self.loop.turn()
+        self.assertEqual((list(self.loop.sources), len(self.faults)), ([two.fileno()], 3))
+        self.loop.add(self.one, self.done.append, hears=self.fault, fails=lambda fault: self.done.append("asked"))
+        self.loop.ready(0)
+        self.assertEqual((self.done[-1], len(self.faults)), ("asked", 4))
+
+    def test_rests(self):
+        """An end of which nothing is said rests for a second; a moment's call is tried again a second later; a hook stays."""
+        self.loop.faults = self.faults.append
+        self.loop.add(self.one, self.fault)
+        self.loop.turns(4)
+        self.assertEqual((self.done, self.loop.found, self.loop.waited), ([100.0], 1, 1.0))
+        self.now = 101.0
+        self.loop.turns(3)
+        self.assertEqual(self.done, [100.0, 101.0])
+        self.loop.remove(self.one)
+        self.now = 103.0
+        self.loop.later("moment", 0, self.fault)
+        self.loop.turns(3)
+        self.assertEqual((self.done[2:], self.loop.due["moment"][0]), ([103.0], 104.0))
+        self.loop.drop("moment")
+        self.loop.each(self.fault)
+        self.assertEqual(self.loop.wait_time(), 1.0)
+        self.loop.turns(2)
+        self.assertEqual((len(self.done), len(self.faults)), (6, 6))
+
+    def test_ended(self):
+        """What ends a process by its own word does so."""
+        def end():
+            raise SystemExit(3)
+
+        self.loop.faults = self.faults.append
+        self.loop.add(self.one, end, fails=self.fail)
+        with self.assertRaises(SystemExit):
+            self.loop.turn()
+
+    def test_refused(self):
+        """An end that the system can't watch for want of memory is tried again."""
+        self.loop.add(self.one, lambda: self.done.append("one"))
+        with mock.patch.object(self.loop.watched, "watch", side_effect=OSError(errno.ENOMEM, "memory")):
+            self.loop.turn()
+        self.loop.turn()
+        self.assertEqual((self.done, self.loop.waited), ([], 1.0))
+        self.now = 101.0
+        self.loop.turns(2)
+        self.assertEqual(self.done, ["one"])
+        with mock.patch.object(self.loop.watched, "watch", side_effect=OSError(errno.EBADF, "bad")), self.assertRaises(OSError):
+            self.loop.add(self.one, lambda: self.done.append("one"))
+            self.loop.turn()
+
+
 class Many(Ends):
     """The same where a process has more ends than may be selected."""
 

@@ -336,7 +336,9 @@ class Ends(Case):
             self.assertEqual(lines.fed(text[:cut]) + lines.fed(text[cut:]), ["1 23 80 1", "focus 1", "\u00e9\ufffd"], cut)
         lines = program.Lines()
         self.assertEqual((lines.fed(b"x" * 65535), lines.fed(b"\n")), ([], ["x" * 65535]))
-        self.assertEqual((lines.fed(b"x" * 65536), lines.fed(b"y\n")), ([], ["y"]))
+        self.assertEqual((lines.fed(b"x" * 65536), lines.fed(b"y\nz\n")), ([], ["z"]))
+        self.assertEqual((lines.fed(b"x" * 65535), lines.fed(b"y"), lines.fed(b"y" * 70000), lines.fed(b"\n\nz\n")), ([], [], [], ["", "z"]))
+        self.assertEqual(lines.fed(b"a\n" + b"x" * 65536 + b"\nb\n"), ["a", "b"])
 
 
 class Due(Case):

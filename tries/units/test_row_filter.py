@@ -137,6 +137,10 @@ class Handed(Case):
 class Spawned(Case):
     """A real process."""
 
+    def setUp(self):
+        self.loop = Loop()
+        self.loop.each(lambda: self.loop.clock() + 0.02)
+
     def until(self, test):
         """Takes turns until something holds."""
         end = time.monotonic() + 10
@@ -146,8 +150,7 @@ class Spawned(Case):
 
     def spawn(self, words):
         """A filter."""
-        self.loop, self.records, self.ends = Loop(), [], []
-        self.loop.each(lambda: self.loop.clock() + 0.02)
+        self.records, self.ends = [], []
         one = RowFilter(self.loop, words, lambda record: self.records.append(tuple(record)), lambda: None,
                         lambda why, status: self.ends.append((why, status)))
         self.addCleanup(one.signal_kill)

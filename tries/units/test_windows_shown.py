@@ -10,6 +10,7 @@ from roam_live import command_runner, front_end, terminal, visits
 from roam_live.choices import choose_by_file
 from roam_live.front_end import FrontEnd
 from roam_live.keys import acts_of_bytes
+from roam_live.loops import comes
 from roam_live.own_settings import OWN, settings_path
 from roam_live.program import Fault
 from roam_live.choosing import WINDOWS_LINE
@@ -175,6 +176,8 @@ class Windows(Case):
     def type(self, text, **more):
         """Types, in one piece."""
         os.write(self.master, text)
+        # The system hands it to the other end a moment later.
+        comes(0, 1)
         self.turn(**more)
 
     def rows(self):

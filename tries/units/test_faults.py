@@ -1,0 +1,229 @@
+"""Faults that nobody foresaw at the keeper of shells: what of it each ends, and what the log is told."""
+import errno
+import os
+import socket
+from unittest import mock
+
+from aids import Case, read_now
+from roam_live import faults, row_filter, row_pieces, window_lines
+from roam_live.faults import FaultLog, SoonFaults
+from roam_live.given import GivenTexts
+from roam_live.program import logs
+from roam_live.row_pieces import RowsRoom
+from roam_live.shells import ShellsSocket
+from test_keeper import Keeper
+
+
+class Logged(Case):
+    """What the log is told."""
+
+    def setUp(self):
+        self.now = 100.0
+        self.path = self.made_folder() / "log"
+        self.path.touch()
+        logs.append(self.path)
+        self.addCleanup(logs.remove, self.path)
+        self.said, self.log = self.heard(), FaultLog(lambda: self.now)
+
+    def fault(self, words, depth=0):
+        """Has a fault be logged."""
+        try:
+            self.deep(words, depth)
+        except ValueError as fault:
+            self.log.take(fault)
+
+    def deep(self, words, depth):
+        """Raises a fault from that many calls further in."""
+        if depth:
+            self.deep(words, depth - 1)
+        raise ValueError(words)
+
+    def test_told(self):
+        """A fault is a line, and in full where the log is, printable and not too long."""
+        self.fault("\x1b[2J" + "x" * 9000, 200)
+        text = self.path.read_text()
+        self.assertEqual(self.said.getvalue()[:64], f"unit: a fault of roam, which goes on: ValueError: ?[2J{'x' * 10}")
+        self.assertTrue(text.startswith(f"unit, process {os.getpid()}:\nTraceback (most recent call last):\n"))
+        self.assertTrue("deep" in text and "\x1b" not in text and len(text) < faults.MOST_LOGGED + 100 and len(self.said.getvalue()) < 400)
+
+    def test_apart(self):
+        """One at the same place isn't logged again within a minute, and how many came is told then; one at another is."""
+        for _ in range(5):
+            self.fault("one")
+        self.fault("two", 3)
+        try:
+            int("x")
+        except ValueError as fault:
+            self.log.take(fault)
+        self.assertEqual((self.said.getvalue().count("a fault"), self.log.count), (2, 7))
+        self.now += faults.APART
+        self.fault("one")
+        self.assertIn("ValueError: one (5 more since the last that was logged)\n", self.said.getvalue())
+
+    def test_refused(self):
+        """Where it can't be told nothing more goes wrong; and not more places are known than some."""
+        with mock.patch.object(faults, "say", side_effect=MemoryError):
+            self.fault("one")
+        with mock.patch.object(faults, "place_of", side_effect=map(str, range(100))):
+            for _ in range(100):
+                self.fault("x")
+        self.assertEqual(len(self.log.logged), faults.MOST_PLACES)
+
+    def test_soon(self):
+        """The third within ten seconds is one too many."""
+        soon = SoonFaults(lambda: self.now)
+        told = []
+        for now in (100, 101, 109.9, 110.5, 120, 121, 131):
+            self.now = now
+            told.append(soon.is_last())
+        self.assertEqual(told, [False, False, True, True, False, False, False])
+
+
+class Kept(Keeper):
+    """What a fault ends."""
+
+    def asker(self, *lines):
+        """One who says lines at the socket `shells`."""
+        one = socket.socket(socket.AF_UNIX, socket.SOCK_STREAM)
+        self.addCleanup(one.close)
+        one.connect(str(self.folder / "shells"))
+        one.setblocking(False)
+        one.send("".join(f"{line}\n" for line in lines).encode())
+        return one
+
+    def test_peer(self):
+        """One in the line of somebody who is connected ends that connection alone."""
+        panes = self.begin()
+        other = self.asker("who")
+        take_line = ShellsSocket.take_line
+        with mock.patch.object(ShellsSocket, "take_line", lambda one, peer, line: 1 / 0 if line == "zero" else take_line(one, peer, line)):
+            one = self.asker("zero", "who")
+            self.turn(4)
+        self.assertEqual((one.recv(9), [peer.asks for peer in self.keeper.socket.peers], self.keeper.common.faults.count), (b"", [True], 1))
+        self.assertIn(b"keeper ", read_now(other))
+        self.made[0].send(b"goes on")
+        self.turn()
+        self.assertEqual(read_now(panes[0]), b"goes on")
+
+    def test_piece(self):
+        """One in what a pane's program wrote drops that piece; the third soon behind closes the pane, and no other."""
+        panes = self.begin()
+        self.keeper.asked.close = True
+        pane = self.keeper.panes[2]
+        with mock.patch.object(pane.bells, "rung", side_effect=ValueError("wrong")):
+            for text in (b"one", b"two"):
+                self.made[1].send(text)
+                self.turn()
+        self.made[1].send(b"three")
+        self.turn()
+        self.assertEqual((read_now(panes[1]), pane.has_ended), (b"three", False))
+        with mock.patch.object(pane.bells, "rung", side_effect=ValueError("wrong")):
+            self.made[1].send(b"four")
+            self.turn(4)
+        self.assertEqual((pane.terminal, self.keeper.common.hung, list(self.keeper.panes), self.keeper.is_over), (None, [72], [1, 2], False))
+        self.assertIn(b"[ended after several faults of roam; a key begins anew]", read_now(panes[1]))
+        self.assertTrue(read_now(self.server).endswith(b"close 2 5\n"))
+        self.made[0].send(b"goes on")
+        self.turn()
+        self.assertEqual(read_now(panes[0]), b"goes on")
+
+    def test_only(self):
+        """The only pane of a window stays: a key has its command begin anew."""
+        self.tell("1 1 1 23 80 4", "focus 1")
+        self.keeper.asked.close = True
+        end = self.taken(self.listeners["p1"])
+        pane = self.keeper.panes[1]
+        with mock.patch.object(pane.bells, "rung", side_effect=ValueError("wrong")):
+            for _ in range(3):
+                self.made[0].send(b"x")
+                self.turn()
+        self.assertEqual((pane.terminal, pane.process, self.keeper.is_over), (None, None, False))
+        read_now(end)
+        end.send(b"k")
+        self.turn()
+        self.made[1].send(b"new")
+        self.turn()
+        self.assertEqual((pane.process, read_now(end), self.keeper.common.windows), (72, b"new", {0: self.keeper}))
+
+    def test_moment(self):
+        """One at a moment, and one before a wait, are logged, and all else goes on."""
+        panes = self.begin()
+        self.keeper.loop.later("moment", 0, lambda: 1 / 0)
+        self.keeper.loop.each(lambda: [][0])
+        with mock.patch.object(self.keeper, "tend", side_effect=KeyError("tend")):
+            self.turn(3)
+        self.made[0].send(b"goes on")
+        self.turn()
+        self.assertEqual((read_now(panes[0]), self.keeper.common.is_over), (b"goes on", False))
+        self.assertEqual([name in self.said.getvalue() for name in ("ZeroDivisionError", "IndexError", "KeyError")], [True] * 3)
+
+    def test_panes(self):
+        """One in what the server tells lets that connection go, which is had again; lines of any kind are none."""
+        self.begin()
+        self.tell("", " ", "focus", "focus 9 9", "1 2", "asks 1 " + "9" * 9000 + " version", "1 1 1 99999 99999 4", "\u0661 gone", "modes")
+        self.assertEqual((self.keeper.common.faults.count, sorted(self.keeper.panes)), (1, [1, 2]))
+
+    def test_bells(self):
+        """One who follows the bells is let go by one."""
+        self.begin()
+        one = socket.socket(socket.AF_UNIX, socket.SOCK_STREAM)
+        self.addCleanup(one.close)
+        one.connect(str(self.folder / "bells"))
+        self.turn()
+        with mock.patch.object(self.keeper.bells, "hear", side_effect=ValueError("wrong")):
+            one.send(b"x")
+            self.turn()
+        self.assertEqual((self.keeper.bells.followers, self.keeper.common.faults.count), ([], 1))
+
+    def test_memory(self):
+        """Where memory is short the older half of what is kept of rows goes."""
+        self.begin()
+        self.keeper.rows.shed = mock.Mock()
+        with mock.patch.object(self.keeper.panes[1].bells, "rung", side_effect=MemoryError):
+            self.made[0].send(b"x")
+            self.turn()
+        self.keeper.rows.shed.assert_called_once_with()
+        self.keeper.common.rows.shed = mock.Mock()
+
+
+class Sizes(Case):
+    """The sizes that somebody asks for."""
+
+    def test_open(self):
+        """Above the largest that a session may have they are cut to that; what is no size is no line."""
+        asked = []
+        table = mock.Mock(open=lambda size, beside, told: asked.append(size))
+        lines = window_lines.WindowLines(table, [])
+        peer = mock.Mock(watches=lambda: False, opening=0, asks_windows=False)
+        one = mock.Mock(window=1)
+        words = ("24 80", "1 1", "24 65536", "99999 99999", "65537 80", "200 500", "201 501", "0 80", "100000 80", "24", "-1 80")
+        taken = []
+        for word in words:
+            peer.opening = 0
+            taken.append(lines.take(one, peer, f"open {word}"))
+        self.assertEqual(asked, [(24, 80), (1, 1), (24, 500), (200, 500), (200, 80), (200, 500), (200, 500)])
+        self.assertEqual(taken, [True] * 7 + [False] * 4)
+
+
+class Short(Case):
+    """Rows where memory is short."""
+
+    def test_shed(self):
+        """The older half goes, of whichever pane, and what snapshots hold."""
+        room = RowsRoom(1000)
+        panes = [room.pane(number, 1) for number in (1, 2)]
+        for count in range(8):
+            panes[count % 2].add(1, bytes(row_pieces.JOINED - 1) + b"\n")
+        snapshot = room.snapshot(panes[0], 1, b"x\n")
+        room.shed()
+        self.assertEqual(([len(pane.pieces) for pane in panes], snapshot.is_lost, room.held), ([2, 2], True, 0))
+        self.assertEqual(room.kept, sum(piece.charge() for pane in panes for piece in pane.pieces))
+
+    def test_records(self):
+        """A piece for which there was no memory is taken again."""
+        records = row_filter.RowRecords()
+        self.assertEqual(records.fed(b"rows 7 2 6\n a"), [])
+        with mock.patch.object(records, "made", side_effect=MemoryError), self.assertRaises(MemoryError):
+            records.fed(b"\n b\nrows 8 1 3\n c\nrow")
+        found = records.fed(b"\n b\nrows 8 1 3\n c\nrow") + records.fed(b"s 9 0 0\n")
+        self.assertEqual([tuple(one) for one in found], [("rows", 7, 2, b" a\n b\n"), ("rows", 8, 1, b" c\n"), ("rows", 9, 0, b"")])
