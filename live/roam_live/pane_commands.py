@@ -3,6 +3,7 @@ from __future__ import annotations
 
 import contextlib
 import fcntl
+import math
 import os
 import signal
 import socket
@@ -34,6 +35,13 @@ SETTLES = 0.5
 
 # So many seconds a server has until it reads what a pane's programs write.
 READ_WAIT = 3.0
+
+# Of what is left on the terminal of a command that has ended all is read. Where another process still has that terminal it is all once there
+# was nothing twice, so many seconds apart, or so many bytes came since: a terminal holds fewer. Where it can't be taken now it is looked
+# again later.
+LAST_WAIT = 0.02
+MOST_LAST = 1 << 16
+LAST_LATER = 0.25
 
 GIVEN_UP = b"\r\n[ended after several faults of roam; a key begins anew]\r\n"
 DROPPED = b"\r\n[a new shell; what was typed since the last one ended is dropped]\r\n"
@@ -110,7 +118,9 @@ class PaneCommand:
         self.to_pane, self.to_terminal = bytearray(), typed
         # Whether something that was typed was dropped since its programs had read all.
         self.is_dropping = False
+        # Whether its command has ended; how much was read since then, when there first was nothing, and what is shown behind all.
         self.has_ended = False
+        self.last_read, self.empty_at, self.last_words = 0, math.inf, b""
         # How much was written there, and whether what was typed before another kept the shell may still come.
         self.written = 0
         self.is_settling = False
@@ -172,7 +182,11 @@ class PaneCommand:
         os.set_inheritable(self.terminal, False)
         os.set_blocking(self.terminal, False)
         self.loop.add(self.terminal, self.hear_terminal, self.write_terminal, has_more=lambda: self.to_terminal,
-                      hears=lambda: len(self.to_pane) < LIMIT and self.hears(), fails=self.fail)
+                      hears=self.has_room, fails=self.fail)
+
+    def has_room(self) -> bool:
+        """Whether more of what the programs write is taken now."""
+        return len(self.to_pane) < LIMIT and self.hears()
 
     def resize(self, size: terminal.Size) -> None:
         """Tells the programs a new size."""
@@ -211,7 +225,7 @@ class PaneCommand:
 
     def hang_up(self) -> None:
         """Ends the pane's programs, and the connection to the pane."""
-        for what in ("look at", "settle", "close"):
+        for what in ("look at", "settle", "close", "last of"):
             self.loop.drop(f"{what} {self.named}")
         self.close_peer()
         self.end_programs()
@@ -229,15 +243,42 @@ class PaneCommand:
         """Whether its command was spawned, and hasn't ended."""
         return self.process is not None and not self.has_ended
 
-    def ends(self) -> None:
-        """Takes what an ended command wrote last; what it left behind may write for ever, and is hung up."""
-        self.has_ended = True
-        while self.terminal is not None and len(self.to_pane) < LIMIT:
-            piece = read(self.terminal)
-            if not piece:
-                break
-            self.take(piece)
-        self.close_terminal()
+    def is_typed_into(self) -> bool:
+        """Whether programs are there that may read what is typed."""
+        return self.terminal is not None and not self.has_ended
+
+    def ends(self, words: bytes = b"") -> None:
+        """Takes note that its command has ended: nothing more is typed, and what it wrote last is read as the pane takes it, until nobody has
+        the terminal. What it left behind may write for ever, and is hung up. Words are shown behind all."""
+        self.has_ended, self.last_words = True, words
+        self.to_terminal.clear()
+        if self.terminal is None:
+            self.finish()
+        else:
+            self.read_last()
+
+    def read_last(self) -> None:
+        """Reads what is left of an ended command, where the pane takes more."""
+        if self.terminal is not None and self.has_room():
+            self.hear_terminal()
+        elif self.terminal is not None:
+            self.loop.later(f"last of {self.named}", LAST_LATER, self.read_last)
+
+    def note_last(self, count: int, is_empty: bool) -> None:
+        """Takes note of how much was read of an ended command, and whether there was nothing more; closes the terminal where that is all."""
+        now = self.loop.clock()
+        self.last_read += count
+        self.empty_at = min(self.empty_at, now) if is_empty else self.empty_at
+        if self.last_read >= MOST_LAST or is_empty and now >= self.empty_at + LAST_WAIT:
+            self.take(b"")
+        elif is_empty:
+            self.loop.at(f"last of {self.named}", self.empty_at + LAST_WAIT, self.read_last)
+
+    def finish(self) -> None:
+        """Shows what stands behind all that an ended command wrote."""
+        self.loop.drop(f"last of {self.named}")
+        self.show(self.last_words)
+        self.last_words = b""
 
     def hear(self) -> None:
         """Takes what was typed. Where no command could be spawned a key tries again."""
@@ -251,7 +292,7 @@ class PaneCommand:
             self.close_peer()
         elif self.is_settling:
             self.settle()
-        elif self.terminal is not None:
+        elif self.is_typed_into():
             self.wait_typed(typed or b"")
         elif typed and self.process is None:
             self.run()
@@ -270,6 +311,8 @@ class PaneCommand:
             self.take(b"".join(pieces))
         if written == b"":
             self.take(written)
+        elif self.has_ended:
+            self.note_last(sum(map(len, pieces)), room > 0)
 
     def write_terminal(self) -> None:
         """Writes what the programs take; what is gone takes no more."""
@@ -308,6 +351,8 @@ class PaneCommand:
         """Takes what the programs wrote; where none has the terminal any more it is closed."""
         if written == b"":
             self.close_terminal()
+            if self.has_ended:
+                self.finish()
         elif written:
             self.is_touched = self.has_news = True
             self.has_rung = self.bells.rung(written) or self.has_rung

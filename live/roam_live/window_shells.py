@@ -234,7 +234,7 @@ class Shells:
         """Types the answer to what a pane's program asks of its terminal, where its keeper knows one."""
         question = question_in(line)
         pane = self.panes.get(question.pane) if question else None
-        if question and pane and pane.life == question.life and pane.terminal is not None:
+        if question and pane and pane.life == question.life and pane.is_typed_into():
             typed = question.answer(self.common.shells.colours, holds_frames(self.server))
             pane.to_terminal.add(typed)
 
@@ -243,7 +243,7 @@ class Shells:
         that."""
         for number, report in ((before, FOCUS_OUT), (self.focus, FOCUS_IN)):
             pane = self.panes.get(number)
-            if before != self.focus and pane and pane.terminal is not None and self.aside.has_set(number, FOCUS):
+            if before != self.focus and pane and pane.is_typed_into() and self.aside.has_set(number, FOCUS):
                 pane.to_terminal.add(report)
 
     def there_is(self, number: int, rect: Rect, life: int) -> None:
@@ -382,12 +382,11 @@ class Shells:
         """Takes note of commands that ended."""
         for pane in self.panes.values():
             if pane.process is not None and pane.runs() and has_ended(pane.process):
-                pane.ends()
-                pane.show(b"" if self.asked.close else ENDED)
+                pane.ends(b"" if self.asked.close else ENDED)
 
     def done(self) -> list[PaneCommand]:
         """The panes whose command has ended, and whose last words are written."""
-        return [pane for pane in self.panes.values() if pane.has_ended and not pane.to_pane]
+        return [pane for pane in self.panes.values() if pane.has_ended and pane.terminal is None and not pane.to_pane]
 
     def close_ended(self) -> None:
         """Has panes closed whose commands have ended; the last one's end is the session's."""

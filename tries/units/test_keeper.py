@@ -391,9 +391,11 @@ class Refused(Keeper):
 class Ended(Keeper):
     """Commands that end, and the session's end."""
 
-    def end(self, process):
-        """Has a command end."""
+    def end(self, process, is_left=False):
+        """Has a command end, which leaves nobody at its terminal."""
         self.ended[process] = True
+        if not is_left:
+            self.made[process - 71].close()
         os.write(self.wakes, bytes([signal.SIGCHLD]))
         self.turn()
 
@@ -406,12 +408,56 @@ class Ended(Keeper):
         self.assertEqual((self.keeper.panes[1].terminal, self.keeper.panes[1].runs(), self.keeper.is_over), (None, False, False))
 
     def test_last_words(self):
-        """What it left behind may write for ever: 16,384 bytes and a piece are taken."""
+        """All that it wrote is taken, as the pane takes it, however much that is; what is typed behind its end isn't."""
+        panes = self.begin()
+        for _ in range(6):
+            self.made[0].send(b"x" * 10_000)
+        self.end(71)
+        pane, got = self.keeper.panes[1], b""
+        panes[0].send(b"typed")
+        self.assertEqual((pane.has_ended, self.keeper.done()), (True, []))
+        for _ in range(100):
+            got += read_now(panes[0])
+            self.turn(1)
+        self.assertEqual((got, pane.terminal, len(pane.to_terminal)), (b"x" * 60_000 + b"\r\n[ended]", None, 0))
+        self.assertEqual([name for name in self.keeper.loop.due if name.startswith("last")], [])
+
+    def test_left(self):
+        """Where another process has the terminal still all is read until there was nothing twice, 20 ms apart; or 64 kB came, which no
+        terminal holds. Then that process is hung up."""
+        panes = self.begin()
+        self.made[0].send(b"bye")
+        self.end(71, True)
+        pane = self.keeper.panes[1]
+        self.now += 0.01
+        self.made[0].send(b" and more")
+        self.turn()
+        self.assertIsNotNone(pane.terminal)
+        self.now += 0.01
+        self.turn()
+        self.assertEqual((read_now(panes[0]), pane.terminal), (b"bye and more\r\n[ended]", None))
+        self.end(72, True)
+        pane = self.keeper.panes[2]
+        for count in range(8):
+            self.assertIsNotNone(pane.terminal, count)
+            self.made[1].send(b"x" * 8192)
+            self.turn()
+            read_now(panes[1])
+        self.assertIsNone(pane.terminal)
+
+    def test_last_waits(self):
+        """Where the pane takes nothing of an ended command's now nothing is read, and it is looked again, not often."""
         self.begin()
         pane = self.keeper.panes[1]
-        with mock.patch.object(pane_commands, "read", return_value=b"x" * 10_000) as reads:
-            pane.ends()
-        self.assertEqual((reads.call_count, len(pane.to_pane)), (2, 20_000))
+        pane.hears = lambda: False
+        self.made[0].send(b"bye")
+        self.end(71)
+        self.assertEqual((self.keeper.loop.due["last of pane 1"][0], pane.terminal is None), (self.now + 0.25, False))
+        pane.hears = lambda: True
+        self.now += 0.25
+        self.turn(1)
+        self.assertIsNone(pane.terminal)
+        self.assertNotIn("last of pane 1", self.keeper.loop.due)
 
     def test_closes(self):
         """With --close the server is asked to close it, and again after three seconds; the focus goes where it was before."""
@@ -552,6 +598,7 @@ class Waits(Keeper):
         self.now += 0.25
         self.turn()
         self.keeper.asked.close = True
+        self.keeper.panes[1].close_terminal()
         self.keeper.panes[1].has_ended = True
         self.turn()
         self.now += 1.0

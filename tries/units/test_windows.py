@@ -529,7 +529,9 @@ class Ended(Played):
         one = self.asker(1)
         read_now(one)
         for number, process in ((2, 72), (1, 71)):
-            self.windows.windows[number].shells.panes[1].has_ended = True
+            pane = self.windows.windows[number].shells.panes[1]
+            pane.close_terminal()
+            pane.ends()
             self.turns()
             self.alive.clear() if number == 1 else self.alive.discard(2001)
             self.turns(4)
