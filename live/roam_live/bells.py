@@ -40,6 +40,8 @@ class Bells:
 
     def rung(self, piece: bytes) -> bool:
         """Whether a bell rings in a piece."""
+        if not self.is_string and not self.rest and b"\x07" not in piece and b"\x1b" not in piece:
+            return False
         *parts, last = (self.rest + piece).split(b"\x07")
         rings = False
         for part in parts:
@@ -72,7 +74,7 @@ class BellSource:
         self.standing = ""
         self.keypads: set[int] = set()
         try:
-            self.listener = Listener(loop, os.path.join(folder, "bells"), self.take, self.has_room, lambda fault: None)
+            self.listener = Listener(loop, os.path.join(folder, "bells"), self.take, self.has_room, lambda fault: None, True)
         except (Fault, OSError) as fault:
             say(f"no bells are told: {reason(fault)}")
 
@@ -124,6 +126,8 @@ class BellSource:
         self.loop.remove(peer)
         peer.close()
         self.followers.remove(peer)
+        if self.listener:
+            self.listener.room_changed()
 
     def close(self) -> None:
         """Closes the socket, and removes it."""

@@ -75,7 +75,8 @@ class Following:
         self.peer, self.lines, self.since = peer, Lines(), self.loop.clock()
         self.lengthen()
         self.waiting.clear()
-        self.loop.add(peer, self.hear, lambda: write(peer.fileno(), self.waiting), has_more=lambda: self.waiting, fails=self.fails)
+        self.loop.add(peer, self.hear, lambda: write(peer.fileno(), self.waiting), has_more=lambda: self.waiting, fails=self.fails,
+                      is_told=True)
         for word in self.words:
             self.ask(word)
 
@@ -95,6 +96,7 @@ class Following:
         """Asks the server for something, while it is followed."""
         if self.peer:
             self.waiting += f"{line}\n".encode()
+            self.loop.changed(self.peer)
 
     def hear(self) -> None:
         """Takes what came."""
@@ -102,7 +104,7 @@ class Following:
         if piece == b"":
             self.lost(LET_GO)
             return
-        lines = self.lines.fed(piece or b"")
+        lines = self.lines.fed(piece) if piece else []
         if lines:
             self.faults = 0
             self.hears(lines)

@@ -11,6 +11,9 @@ from roam_live.texts import MOST_BYTES
 MOST_TEXTS = 64
 KEPT = 60.0
 
+# What the moment is called at which one has waited for too long.
+WAITED = "given texts"
+
 # So many names are known that were spent.
 MOST_SPENT = 1024
 
@@ -44,7 +47,6 @@ class GivenTexts:
         # How many bytes are still to come of texts for which there is room.
         self.coming = 0
         self.spent: OrderedDict[str, str] = OrderedDict()
-        loop.each(self.tend)
 
     def refusal(self, length: int) -> str:
         """Why a text of so many bytes can't wait too; nothing where it can."""
@@ -61,6 +63,8 @@ class GivenTexts:
     def renew(self, text: GivenText) -> None:
         """Has a text wait longer, since something was done with it."""
         text.until = self.loop.clock() + KEPT
+        if WAITED not in self.loop.due:
+            self.loop.at(WAITED, text.until, self.tend)
 
     def state(self, name: str) -> str:
         """What is told of the text of a name."""
@@ -86,8 +90,8 @@ class GivenTexts:
         while len(self.spent) > MOST_SPENT:
             self.spent.popitem(last=False)
 
-    def tend(self) -> float | None:
-        """Drops what has waited for too long, and tells when that is due again."""
+    def tend(self) -> None:
+        """Drops what has waited for too long, and does so again when that is due."""
         now = self.loop.clock()
         for text in [text for text in self.texts.values() if text.until <= now]:
             self.drop(text)
@@ -95,4 +99,5 @@ class GivenTexts:
                 text.stop()
             else:
                 self.tells(text.name, LOST)
-        return min((text.until for text in self.texts.values()), default=None)
+        if self.texts:
+            self.loop.at(WAITED, min(text.until for text in self.texts.values()), self.tend)

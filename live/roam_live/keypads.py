@@ -20,6 +20,8 @@ class Keypad:
 
     def fed(self, piece: bytes) -> None:
         """Goes on with a piece."""
+        if not self.rest and b"\x1b" not in piece:
+            return
         text = self.rest + piece
         for found in ASKED.finditer(text):
             self.is_application = found[1] is not None

@@ -29,15 +29,16 @@ def listening(path: str | os.PathLike[str]) -> socket.socket:
 
 
 class Listener:
-    """Takes who connects and is of this user, while there is room for another; who comes waits else."""
+    """Takes who connects and is of this user, while there is room for another; who comes waits else. Whether there is room is asked before
+    each wait, or only where somebody tells that it may have changed."""
 
     def __init__(self, loop: Loop, path: str | os.PathLike[str], takes: Callable[[socket.socket], object], has_room: Callable[[], bool],
-                 refused: Callable[[OSError], object]) -> None:
+                 refused: Callable[[OSError], object], is_told: bool = False) -> None:
         self.loop, self.path, self.takes, self.has_room, self.refused = loop, path, takes, has_room, refused
         self.end = listening(path)
         self.made = os.lstat(path)
         self.is_deaf = False
-        loop.add(self.end, self.take, hears=self.hears)
+        loop.add(self.end, self.take, hears=self.hears, is_told=is_told)
 
     def hears(self) -> bool:
         """Whether another is taken now."""
@@ -64,6 +65,11 @@ class Listener:
     def hear_again(self) -> None:
         """Takes others again, after it had no descriptor for one."""
         self.is_deaf = False
+        self.room_changed()
+
+    def room_changed(self) -> None:
+        """Looks whether there is room now."""
+        self.loop.changed(self.end)
 
     def close(self) -> None:
         """Closes the socket, and removes it."""

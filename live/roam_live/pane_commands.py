@@ -128,8 +128,10 @@ class PaneCommand:
         self.asked_until = 0.0
         self.bells, self.has_rung = Bells(), False
         self.keypad = Keypad()
-        # Whether something was typed or written since that was looked at; and whether something was written.
+        # Whether something was typed or written since that was looked at, and whether something was written; and what is called then, and
+        # where all is written of a command that has ended.
         self.is_touched = self.has_news = False
+        self.touches: Callable[[], object] = lambda: None
         # What new panes have of those who attached.
         self.brought = Brought()
         # What has it known what the server told of the panes before it handed out what was typed.
@@ -147,7 +149,7 @@ class PaneCommand:
         self.peer.setsockopt(socket.SOL_SOCKET, socket.SO_SNDBUF, SOCKET_LIMIT)
         self.is_connected = True
         # What is typed is read whatever waits: a command that doesn't read would stop the server else.
-        self.loop.add(self.peer, self.hear, self.write_pane, has_more=lambda: self.to_pane, fails=self.fail)
+        self.loop.add(self.peer, self.hear, self.write_pane, has_more=lambda: self.to_pane, fails=self.fail, is_told=True)
         self.loop.later(f"look at {self.named}", READ_WAIT, look)
 
     def settle(self) -> None:
@@ -162,9 +164,20 @@ class PaneCommand:
         self.run()
 
     def show(self, text: bytes) -> None:
-        """Has what is written to the pane wait for it, and kept."""
+        """Has what is written to the pane go there, as far as it takes more now, and kept."""
+        is_first = not self.to_pane
         self.to_pane += text
         self.keeps(text)
+        if is_first:
+            self.write_pane()
+        if self.to_pane:
+            self.see_to_ends()
+
+    def see_to_ends(self) -> None:
+        """Has it looked what is waited for at both ends."""
+        for end in (self.peer, self.terminal):
+            if end is not None:
+                self.loop.changed(end)
 
     def run(self) -> None:
         """Runs the command; where it can't be spawned a line in the pane says why."""
@@ -181,8 +194,8 @@ class PaneCommand:
                 os._exit(127)
         os.set_inheritable(self.terminal, False)
         os.set_blocking(self.terminal, False)
-        self.loop.add(self.terminal, self.hear_terminal, self.write_terminal, has_more=lambda: self.to_terminal,
-                      hears=self.has_room, fails=self.fail)
+        self.loop.add(self.terminal, self.hear_terminal, self.write_terminal, has_more=lambda: self.to_terminal.parts,
+                      hears=self.has_room, fails=self.fail, is_told=True)
 
     def has_room(self) -> bool:
         """Whether more of what the programs write is taken now."""
@@ -210,6 +223,7 @@ class PaneCommand:
             self.peer.close()
             self.peer = None
         self.to_pane.clear()
+        self.see_to_ends()
 
     def fail(self, fault: Exception) -> None:
         """Goes on without the piece in which there was a fault; too many soon behind each other are taken no more."""
@@ -279,6 +293,7 @@ class PaneCommand:
         self.loop.drop(f"last of {self.named}")
         self.show(self.last_words)
         self.last_words = b""
+        self.touches()
 
     def hear(self) -> None:
         """Takes what was typed. Where no command could be spawned a key tries again."""
@@ -287,7 +302,8 @@ class PaneCommand:
             # By what was told the pane is gone.
             return
         typed = read(self.peer.fileno())
-        self.is_touched = self.is_touched or bool(typed)
+        if typed:
+            self.touch()
         if typed == b"":
             self.close_peer()
         elif self.is_settling:
@@ -296,6 +312,11 @@ class PaneCommand:
             self.wait_typed(typed or b"")
         elif typed and self.process is None:
             self.run()
+
+    def touch(self) -> None:
+        """Takes note that something was typed or written."""
+        self.is_touched = True
+        self.touches()
 
     def hear_terminal(self) -> None:
         """Takes what the programs wrote, as far as there is room: a program that writes line by line hands out little at once."""
@@ -319,13 +340,19 @@ class PaneCommand:
         if self.terminal is not None:
             self.to_terminal.write(self.terminal)
             self.is_dropping = self.is_dropping and bool(self.to_terminal)
+            if self.to_terminal.parts:
+                self.loop.changed(self.terminal)
 
     def write_pane(self) -> None:
         """Writes what the pane takes now of what waits for it."""
         waiting = len(self.to_pane)
-        if self.peer and not write(self.peer.fileno(), self.to_pane):
+        if self.peer and waiting and not write(self.peer.fileno(), self.to_pane):
             self.close_peer()
         self.written += waiting - len(self.to_pane)
+        if waiting >= LIMIT:
+            self.see_to_ends()
+        if self.has_ended and not self.to_pane:
+            self.touches()
 
     def is_unread(self) -> bool:
         """Whether something was written to the pane, no more than the socket holds, and is there still."""
@@ -342,6 +369,14 @@ class PaneCommand:
         if not self.to_terminal.take(typed) and not self.is_dropping:
             self.is_dropping = True
             say(f"{self.named}: what is typed isn't read there; above {UNREAD_LIMIT} bytes it is dropped")
+        if self.to_terminal.parts:
+            self.write_terminal()
+
+    def type(self, answer: bytes) -> None:
+        """Types what a program asked for, where it takes that."""
+        if self.is_typed_into():
+            self.to_terminal.add(answer)
+            self.write_terminal()
 
     def in_front(self) -> list[int | None]:
         """The processes by whose working folder a new pane's is chosen: the first of those in front here, and this pane's command."""
@@ -354,7 +389,8 @@ class PaneCommand:
             if self.has_ended:
                 self.finish()
         elif written:
-            self.is_touched = self.has_news = True
+            self.has_news = True
+            self.touch()
             self.has_rung = self.bells.rung(written) or self.has_rung
             self.keypad.fed(written)
             self.show(written)

@@ -171,7 +171,7 @@ class RowFilter:
         # Whether it takes records, and prints them; why it was ended.
         self.is_there = True
         self.why = ""
-        loop.add(self.input, None, self.write, has_more=self.has_batch, fails=self.fail)
+        loop.add(self.input, None, self.write, has_more=self.has_batch, fails=self.fail, is_told=True)
         loop.add(self.output, self.hear, hears=reads, fails=self.fail)
 
     def size(self) -> int:
@@ -185,6 +185,7 @@ class RowFilter:
     def hand(self) -> None:
         """Has what waits go now."""
         self.is_due = self.is_there and self.size() > 0
+        self.loop.changed(self.input)
 
     # ---- records to it
 
@@ -193,6 +194,7 @@ class RowFilter:
         self.join()
         self.is_due = True
         self.waiting += f"{line}\n".encode()
+        self.loop.changed(self.input)
 
     def add_bytes(self, terminal: int, data: bytes) -> None:
         """Has what was written for a terminal wait for it."""
@@ -203,6 +205,8 @@ class RowFilter:
             self.loop.later(f"hand rows {self.process}", GATHERS, self.hand)
         self.pieces.append(data)
         self.pieces_size += len(data)
+        if self.size() >= BATCH:
+            self.loop.changed(self.input)
 
     def join(self) -> None:
         """Makes one record of what was written for one terminal."""

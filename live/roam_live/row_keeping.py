@@ -116,6 +116,10 @@ class RowKeeper:
         self.logs = 0
         self.logs_came: Callable[[PaneRows], object] = lambda rows: None
         self.waits_for_logs: Callable[[], bool] = lambda: False
+        # What is called where something may be told of rows that came, or of a pane that is gone, to who asked for that; and where panes
+        # are read from now on, or aren't.
+        self.came: Callable[[], object] = lambda: None
+        self.hears_changed: Callable[[], object] = lambda: None
         # Whether a pane's program is known to show the other screen: no row leaves that, also of a terminal that is new.
         self.is_other: Callable[[int], bool] = lambda number: False
         self.spawn()
@@ -149,7 +153,8 @@ class RowKeeper:
         self.loop.drop("rows are behind")
         self.terminals.clear()
         self.ending.clear()
-        self.is_behind = self.is_losing = False
+        self.is_losing = False
+        self.set_behind(False)
         for pane in [*self.panes.values(), *self.leaving]:
             self.cut(pane)
         self.faults = 0 if self.loop.clock() >= self.since + SOUND else self.faults
@@ -188,17 +193,23 @@ class RowKeeper:
         """Whether the filter takes records beside what is written."""
         return self.filter is not None and self.filter.is_there and not self.is_losing and self.filter.size() < 2 * QUEUE
 
+    def set_behind(self, is_behind: bool) -> None:
+        """Has panes be read, or not, as the filter keeps up."""
+        if is_behind != self.is_behind:
+            self.is_behind = is_behind
+            self.hears_changed()
+
     def demand_room(self) -> None:
         """Has no pane read for a while where too much waits for the filter."""
         if self.filter and not self.is_behind and not self.is_losing and self.filter.size() >= QUEUE:
-            self.is_behind = True
+            self.set_behind(True)
             self.loop.later("rows are behind", WAITS, self.lose)
 
     def wrote(self) -> None:
         """Goes on once the filter took enough."""
         size = self.filter.size() if self.filter else 0
         if self.is_behind and size <= QUEUE // 2:
-            self.is_behind = False
+            self.set_behind(False)
             self.loop.drop("rows are behind")
         if not size:
             self.is_losing = False
@@ -207,7 +218,8 @@ class RowKeeper:
 
     def lose(self) -> None:
         """Reads panes again, and hands nothing to the filter until it has taken what waits."""
-        self.is_behind, self.is_losing = False, True
+        self.is_losing = True
+        self.set_behind(False)
         self.tell(BEHIND)
 
     # ---- panes
@@ -294,6 +306,7 @@ class RowKeeper:
             self.room.release(snapshot)
             pane.rows.add(len(rows), b"".join(row + b"\n" for row in rows))
         pane.has_last = True
+        self.came()
         self.loop.later(f"last of {id(pane)}", LAST_WAIT, lambda: self.forget(pane))
         self.unlogged(pane)
 
@@ -313,6 +326,7 @@ class RowKeeper:
         self.end_terminal(pane)
         self.answer_all(pane)
         self.room.drop(pane.rows)
+        self.came()
 
     # ---- what the filter prints
 
@@ -336,6 +350,8 @@ class RowKeeper:
                 told(self.room.snapshot(pane.rows, record.count, record.data))
         if pane.logs:
             self.logs_came(pane.rows)
+        if pane.logs or self.room.snapshots:
+            self.came()
 
     def add_rows(self, rows: PaneRows, record: RowRecord) -> None:
         """Keeps rows; where memory is short for them older ones go, and these are lost too."""

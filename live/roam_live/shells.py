@@ -45,6 +45,9 @@ LOG_WAIT = 1.0
 # So often it is looked again whether all are known who may be at the session, while somebody waits to be told of them.
 MEETS_AGAIN = 0.1
 
+# What the moment is called at which it is gone on with what was asked of rows.
+ROWS_DUE = "rows are asked for"
+
 # What one says that is to be told what runs in front in the panes.
 COMMANDS = "commands"
 
@@ -71,6 +74,7 @@ class CommonShells:
         self.loop, self.rows = loop, rows
         if rows:
             rows.logs_came, rows.waits_for_logs = self.tell_logged, self.has_full_log
+            rows.came = self.see_to_rows
         self.sockets: list[ShellsSocket] = []
         self.last = 0
         # By it those who come again know whether this is the keeper that was there before.
@@ -105,6 +109,27 @@ class CommonShells:
         for peer in self.peers():
             if peer.asker and peer.asker.logged and peer.asker.logged.rows is rows and not peer.is_full():
                 peer.asker.tell_logged()
+
+    def see_to_rows(self) -> None:
+        """Has what was asked of rows be gone on with before the next wait."""
+        self.loop.soon(self.tell_rows)
+
+    def tell_rows(self) -> None:
+        """Goes on with what was asked of rows, and does so again when that is due."""
+        now, dues = self.loop.clock(), []
+        for peer in self.peers():
+            due = peer.asker.turn(now, not peer.is_full()) if peer.asker else None
+            dues += [] if due is None else [due]
+        if dues:
+            self.loop.at(ROWS_DUE, min(dues), self.tell_rows)
+        else:
+            self.loop.drop(ROWS_DUE)
+
+    def room_changed(self) -> None:
+        """Looks at all sockets whether another may connect."""
+        for one in self.sockets:
+            if one.listener:
+                one.listener.room_changed()
 
     def has_full_log(self) -> bool:
         """Whether somebody who writes rows down doesn't take them and is waited for: for a second, and not again until he has all."""
@@ -166,15 +191,11 @@ class ShellsSocket:
         self.peers: list[ShellsPeer] = []
         # What is noted of a zoom of this window.
         self.zoom = NotedZoom()
-        # Whether something is new of who is there.
-        self.is_new = False
         self.listener: Listener | None = None
         try:
-            self.listener = Listener(loop, os.path.join(folder, "shells"), self.take, self.has_room, lambda fault: None)
+            self.listener = Listener(loop, os.path.join(folder, "shells"), self.take, self.has_room, lambda fault: None, True)
         except (Fault, OSError) as fault:
             say(f"who is at the session isn't told: {reason(fault)}")
-        loop.each(self.tell_news)
-        loop.each(self.tell_rows)
 
     def has_room(self) -> bool:
         """Whether another may connect."""
@@ -188,7 +209,7 @@ class ShellsSocket:
             peer.asker = RowAsker(self.rows, lambda data: self.answer(peer, data), lambda line: self.send(peer, [line]),
                                   lambda: self.take_lines(peer), self.window)
         self.loop.add(end, lambda: self.hear(peer), lambda: self.write(peer), has_more=lambda: peer.waiting,
-                      hears=lambda: not peer.is_busy(), fails=lambda fault: self.drop(peer))
+                      hears=lambda: not peer.is_busy(), fails=lambda fault: self.drop(peer), is_told=True)
 
     # ---- what comes
 
@@ -203,6 +224,8 @@ class ShellsSocket:
 
     def take_lines(self, peer: ShellsPeer) -> None:
         """Takes the lines that came of one, as far as those before are answered."""
+        if peer in self.peers:
+            self.loop.changed(peer.end)
         while peer in self.peers and not peer.is_busy():
             if peer.giving:
                 peer.giving.take(peer.came)
@@ -225,7 +248,8 @@ class ShellsSocket:
         if presence:
             self.comes(peer, presence)
         elif line == WHO:
-            peer.asks = self.is_new = True
+            peer.asks = True
+            self.renew()
             self.send(peer, [f"keeper {self.common.name}"])
         elif line == COMMANDS:
             peer.asks_commands = True
@@ -237,12 +261,14 @@ class ShellsSocket:
             self.send(peer, [f"{self.texts.state(asks[1])} {asks[1]}"])
         elif line == BROUGHT:
             self.send(peer, self.common.brought.lines())
-        elif self.take_buffer_line(peer, line) or peer.asker and peer.asker.take(line) or self.take_client_line(peer, line):
+        elif self.take_buffer_line(peer, line) or self.take_client_line(peer, line):
             pass
+        elif peer.asker and peer.asker.take(line):
+            self.common.see_to_rows()
         elif self.common.lines and self.common.lines.take(self, peer, line):
             pass
         elif not peer.watches() and self.zoom.take(peer.number, line):
-            self.is_new = True
+            self.renew()
         elif peer.watches() or not (self.common.brought.take(line) or self.common.colours.take(line)):
             self.send(peer, [BAD_LINE])
 
@@ -250,11 +276,13 @@ class ShellsSocket:
 
     def sized(self, size: Size | None) -> None:
         """Takes note of the size that the window has; None where it isn't known."""
-        self.is_new = self.zoom.sized(size) or self.is_new
+        if self.zoom.sized(size):
+            self.renew()
 
     def end_zoom(self) -> None:
         """Notes no zoom any more whose maker has left, where the window hasn't a size of it."""
-        self.is_new = self.zoom.end_left() or self.is_new
+        if self.zoom.end_left():
+            self.renew()
 
     # ---- who is there
 
@@ -264,7 +292,8 @@ class ShellsSocket:
             peer.since = self.common.attended.comes(presence.name, self.loop.clock())
             if self.common.lines:
                 self.common.lines.comes(self.window)
-        peer.presence, self.is_new = presence, True
+        peer.presence = presence
+        self.renew()
 
     def has_terminals(self) -> bool:
         """Whether a terminal is here."""
@@ -356,30 +385,20 @@ class ShellsSocket:
 
     # ---- what goes
 
+    def renew(self) -> None:
+        """Has what is new of who is there told before the next wait."""
+        self.loop.soon(self.tell_news)
+
     def tell_news(self) -> None:
         """Tells each who asked what is new of the others, all that came at once together; who asked just now, once it is known who they
         are."""
-        if not self.is_new:
-            return
-        self.is_new = False
         asked = [peer for peer in self.peers if peer.asks]
         if any(peer.told is None for peer in asked) and self.common.unmet.are_awaited():
             asked = [peer for peer in asked if peer.told is not None]
-            self.loop.later(f"others of {self.window}", MEETS_AGAIN, self.look_again)
+            self.loop.later(f"others of {self.window}", MEETS_AGAIN, self.renew)
         there = {peer.number: peer.presence for peer in self.peers if peer.presence}
         for peer in asked:
             self.send(peer, peer.news({number: one for number, one in there.items() if number != peer.number}, self.zoom.line()))
-
-    def look_again(self) -> None:
-        """Looks again whether it is known who is there."""
-        self.is_new = True
-
-    def tell_rows(self) -> float | None:
-        """Goes on with what was asked of rows, and tells when that is due again."""
-        now, dues = self.loop.clock(), []
-        for peer in list(self.peers):
-            dues += [peer.asker.turn(now, not peer.is_full())] if peer.asker else []
-        return min((due for due in dues if due is not None), default=None)
 
     def has_asked_commands(self) -> bool:
         """Whether somebody is there who asked what runs in front in the panes."""
@@ -394,14 +413,21 @@ class ShellsSocket:
     def send(self, peer: ShellsPeer, lines: list[str]) -> None:
         """Has lines go to one, who is let go where too much waits for it."""
         peer.waiting += "".join(f"{line}\n" for line in lines).encode("utf-8", "replace")
+        self.waits(peer)
         if len(peer.waiting) > MOST_WAITING + peer.answers:
             self.drop(peer)
+
+    def waits(self, peer: ShellsPeer) -> None:
+        """Has something be written to one."""
+        if peer in self.peers:
+            self.loop.changed(peer.end)
 
     def answer(self, peer: ShellsPeer, data: bytes) -> None:
         """Has an answer with bytes behind it go to one: he asks no more until he took most of it. Where too much waits for all he is let
         go."""
         peer.waiting += data
         peer.answers += len(data)
+        self.waits(peer)
         if sum(one.answers for one in self.common.peers()) > MOST_ANSWERS:
             self.drop(peer)
         elif peer in self.peers and f"unread by {peer.number}" not in self.loop.due:
@@ -423,6 +449,8 @@ class ShellsSocket:
             self.loop.drop(f"unread by {peer.number}")
         elif len(peer.waiting) < waiting and peer.answers:
             self.loop.later(f"unread by {peer.number}", UNREAD, lambda: self.drop_unread(peer))
+        if peer.logs():
+            self.common.see_to_rows()
         if peer.came:
             self.take_lines(peer)
 
@@ -438,10 +466,12 @@ class ShellsSocket:
             self.peers.remove(peer)
             if peer.presence:
                 self.common.attended.leaves(peer.presence.name, self.loop.clock())
-            if self.zoom.leave(peer.number):
-                self.is_new = True
+            is_zoomer = self.zoom.leave(peer.number)
+            if is_zoomer:
                 self.loop.later(f"zoom left in {self.window}", OVER, self.end_zoom)
-            self.is_new = self.is_new or peer.presence is not None
+            if is_zoomer or peer.presence:
+                self.renew()
+            self.common.room_changed()
 
     def close(self) -> None:
         """Closes the socket, and removes it: what is told last, as that a pane is gone, goes as far as it is taken."""
@@ -453,7 +483,5 @@ class ShellsSocket:
             self.listener = None
         for moment in ("others of", "zoom left in"):
             self.loop.drop(f"{moment} {self.window}")
-        self.loop.end_each(self.tell_news)
-        self.loop.end_each(self.tell_rows)
         if self in self.common.sockets:
             self.common.sockets.remove(self)

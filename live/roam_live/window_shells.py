@@ -3,16 +3,18 @@ windows."""
 from __future__ import annotations
 
 import contextlib
+import functools
 import os
 import signal
 import socket
 import time
+from collections.abc import Callable
 
 from roam_live.bells import BellSource
 from roam_live.faults import FaultLog
 from roam_live.following import KeeperFollowing
 from roam_live.fronts import Fronts
-from roam_live.lasting import Lasting
+from roam_live.lasting import LOOKS, Lasting
 from roam_live.loops import Loop
 from roam_live.pane_commands import Options, PaneCommand, Spare, has_ended, say_in
 from roam_live.places import BRACKETED, FOCUS, OTHER, Rect, ToldPanes
@@ -73,12 +75,33 @@ class Common:
         self.rows.is_other = self.shows_other
         self.shells = CommonShells(self.loop, self.rows)
         self.loop.faults = self.take_fault
+        self.rows.hears_changed = self.see_to_panes
+        # What sees to what has to last of folders.
+        self.lasting: list[Callable[[], object]] = []
+        self.loop.later("folders", LOOKS, self.look_at_folders)
 
     def take_fault(self, fault: Exception) -> None:
         """Takes a fault of anything here, which ends no window. Of what is kept rows are the least: where memory is short they go."""
         if isinstance(fault, MemoryError):
             self.rows.shed()
         self.faults.take(fault)
+
+    def see_to_panes(self) -> None:
+        """Has it looked at all panes whether they are read now."""
+        for window in self.windows.values():
+            for pane in window.panes.values():
+                pane.see_to_ends()
+
+    def see_to(self, lasts: Callable[[], object]) -> None:
+        """Has it seen to now and again what has to last of a folder."""
+        self.lasting.append(lasts)
+        self.loop.soon(lasts)
+
+    def look_at_folders(self) -> None:
+        """Sees to what has to last of all folders."""
+        for lasts in list(self.lasting):
+            self.loop.is_done(lasts)
+        self.loop.later("folders", LOOKS, self.look_at_folders)
 
     def tell(self, text: str) -> None:
         """Tells what a person has to know, in the log and to who follows the bells of any window."""
@@ -126,8 +149,6 @@ class Common:
     def turn(self) -> None:
         """Waits until something can be done, and does it."""
         self.loop.turn()
-        for window in list(self.windows.values()):
-            self.loop.is_done(window.tend)
 
     def run(self) -> int:
         """Keeps the shells of a session of one window until it ends."""
@@ -173,9 +194,12 @@ class Shells:
         self.aside, self.is_new = ToldPanes(), False
         # Whether it is over, and on purpose: its last command has ended.
         self.is_over = self.is_meant = False
-        # In which panes a bell rang, and whether something was written in one, since that was told.
+        # In which panes a bell rang, and whether something was written in one, since that was told; the panes at which something is new, and
+        # what is called once that is seen to.
         self.rung: set[int] = set()
         self.has_news = False
+        self.touched: dict[int, PaneCommand] = {}
+        self.tended: Callable[[], object] = lambda: None
         # The panes that are there at first, where another kept their shells before, end with the first focus.
         self.is_again = asked.again
         # Whether a pane said that the panes can't be followed.
@@ -184,7 +208,7 @@ class Shells:
         self.awaited = size
         # Where that one's command begins, where another window tells it.
         self.folder = folder
-        self.loop.each(self.last)
+        common.see_to(self.last)
         self.following = KeeperFollowing(f"{asked.dir}/panes", self.loop, self.hear, self.lost, self.tell, peer)
         # The process whose end is the window's: who listens there, where it isn't named.
         self.server = asked.server or self.following.server or None
@@ -201,6 +225,7 @@ class Shells:
     def tell(self, text: str) -> None:
         """Tells what a person has to know, in the log and to who follows the bells here."""
         say(f"window {self.asked.window}: {text}" if self.asked.window else text)
+        self.bells.standing = self.following.told
         self.bells.say(text)
 
     def told(self, line: str) -> None:
@@ -235,8 +260,7 @@ class Shells:
         question = question_in(line)
         pane = self.panes.get(question.pane) if question else None
         if question and pane and pane.life == question.life and pane.is_typed_into():
-            typed = question.answer(self.common.shells.colours, holds_frames(self.server))
-            pane.to_terminal.add(typed)
+            pane.type(question.answer(self.common.shells.colours, holds_frames(self.server)))
 
     def report_focus(self, before: int) -> None:
         """Reports to the programs of the pane that had the focus before, and of that which has it now, that it went, where they asked for
@@ -244,7 +268,7 @@ class Shells:
         for number, report in ((before, FOCUS_OUT), (self.focus, FOCUS_IN)):
             pane = self.panes.get(number)
             if before != self.focus and pane and pane.is_typed_into() and self.aside.has_set(number, FOCUS):
-                pane.to_terminal.add(report)
+                pane.type(report)
 
     def there_is(self, number: int, rect: Rect, life: int) -> None:
         """Makes, moves or sizes a pane."""
@@ -260,6 +284,7 @@ class Shells:
             self.panes[number] = PaneCommand(self.asked, self.loop, number, life, size, self.is_again, folder, typed)
             self.panes[number].follows, self.panes[number].brought = self.follow_now, self.common.shells.brought
             self.panes[number].gives_up = lambda: self.give_up(number)
+            self.panes[number].touches = functools.partial(self.note, self.panes[number])
             key = self.key(number)
             self.rows.begin(key, life, size)
             self.panes[number].keeps, self.panes[number].hears = lambda data: self.rows.feed(key, data), self.rows.hears
@@ -338,6 +363,7 @@ class Shells:
         self.common.hung += [pane.process] if pane.process is not None and pane.runs() else []
         pane.give_up()
         pane.has_ended = self.asked.close and len(self.panes) > 1
+        self.note(pane)
 
     def hear(self, lines: list[str]) -> None:
         """Takes what came from D/panes."""
@@ -345,6 +371,7 @@ class Shells:
             self.aside, self.is_new = ToldPanes(), False
         for line in lines:
             self.told(line)
+        self.loop.soon(self.tend)
         places = self.aside.places() if any(line[:1].isdigit() for line in lines) else None
         if places and places.is_covered():
             self.socket.sized(places.size())
@@ -367,6 +394,7 @@ class Shells:
     def goes_on(self) -> None:
         """Sees to it that the session ends with the server; where it can't be followed from the start a pane says so."""
         following = self.following
+        self.loop.soon(self.tend)
         if not self.has_server():
             self.is_over = True
             return
@@ -401,7 +429,7 @@ class Shells:
         for pane in done:
             if now >= pane.asked_until:
                 pane.asked_until = now + CLOSE_WAIT
-                self.loop.later(f"close {pane.named}", CLOSE_WAIT, lambda: None)
+                self.loop.later(f"close {pane.named}", CLOSE_WAIT, functools.partial(self.note, pane))
                 self.following.ask(self.close_line(pane))
 
     def close_line(self, pane: PaneCommand) -> str:
@@ -410,10 +438,15 @@ class Shells:
         heir = f" {others[0]}" if pane.number == self.focus and others else ""
         return f"close {pane.number} {pane.life}{heir}"
 
-    def last(self) -> float:
-        """Sees to what has to last of the folder, and tells when that is due again."""
+    def last(self) -> None:
+        """Sees to what has to last of the folder."""
+        self.lasting.due = 0.0
         self.lasting.turn()
-        return self.lasting.due
+
+    def note(self, pane: PaneCommand) -> None:
+        """Takes note of a pane at which something is new, which is seen to before the next wait."""
+        self.touched[pane.number] = pane
+        self.loop.soon(self.tend)
 
     def is_followed(self) -> bool:
         """Whether it is known which panes are there."""
@@ -421,12 +454,14 @@ class Shells:
 
     def tend(self) -> None:
         """Sees to what is new of the panes."""
-        self.bells.standing = self.following.told
-        for pane in self.panes.values():
-            self.ring(pane)
-            self.touch(pane)
+        touched, self.touched = self.touched, {}
+        for pane in touched.values():
+            if self.panes.get(pane.number) is pane:
+                self.ring(pane)
+                self.touch(pane)
         if self.asked.close and not self.is_over and self.is_followed():
             self.close_ended()
+        self.tended()
 
     def look(self, pane: PaneCommand) -> None:
         """Tells of a pane whose programs have written for a while what the server doesn't read."""
@@ -445,6 +480,7 @@ class Shells:
         """Tells what runs in front in that making of a pane."""
         self.in_front[number] = name
         self.socket.tell_command(number, life, name)
+        self.loop.soon(self.tend)
 
     def look_at_fronts(self) -> None:
         """Looks up what runs in front in all panes, for one more who wants to know."""
@@ -469,5 +505,5 @@ class Shells:
     def close(self) -> None:
         """Closes the sockets, and forgets the window."""
         self.socket.close()
-        self.loop.end_each(self.last)
+        self.common.lasting.remove(self.last)
         self.common.windows.pop(self.asked.window, None)

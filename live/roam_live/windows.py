@@ -90,7 +90,7 @@ class Windows:
         self.spare: WindowProcesses | None = None
         self.spared_at = 0.0
         self.lasting = Lasting(asked.common)
-        self.loop.each(self.make_last)
+        common.see_to(self.make_last)
         self.lines = common.shells.lines = WindowLines(self, common.shells.sockets)
         if asked.is_first:
             self.await_first()
@@ -304,6 +304,7 @@ class Windows:
             asked = self.asked.of_window(window.number, processes.folder, processes.server(), window.is_again)
             size = (window.size[0] - 1, window.size[1]) if window.size else None
             window.shells = Shells(asked, self.common, peer, size, window.begins_in)
+            window.shells.tended = functools.partial(self.tell_news, window)
         except BaseException:
             peer.close()
             raise
@@ -334,6 +335,8 @@ class Windows:
         window.state = THERE
         if window.shells and window.shells.awaited:
             self.loop.later(f"window {window.number} has its size", OPENS, window.shells.await_no_more)
+        if window.shells:
+            self.loop.soon(window.shells.tend)
         self.lines.tell_window(window.number)
         window.told(window.number, "")
         self.await_spare()
@@ -351,7 +354,8 @@ class Windows:
         """Ends a window: its programs are hung up, and its server and start ended, by force where they don't end in time."""
         was_there = window.state == THERE
         window.state = ENDING
-        self.loop.drop(f"window {window.number} begins")
+        for moment in (f"window {window.number} begins", f"news of window {window.number}"):
+            self.loop.drop(moment)
         if is_meant and window.processes.server():
             note_ends(self.asked.common, [window.processes.ending()])
         if was_there:
@@ -396,15 +400,13 @@ class Windows:
     # ---- what is new
 
     def turn(self) -> None:
-        """Waits until something can be done, does it, and tells what is new in windows."""
+        """Waits until something can be done, and does it."""
         self.common.turn()
-        for window in [one for one in self.windows.values() if one.shells and one.state == THERE]:
-            self.loop.is_done(functools.partial(self.tell_news, window))
 
     def tell_news(self, window: KeptWindow) -> None:
         """Tells what is new in a window: that panes rang, that something was written where nobody is, and that it is over."""
         shells, now = window.shells, self.loop.clock()
-        if not shells:
+        if not shells or window.state != THERE:
             return
         for pane in shells.rung:
             if now >= window.rung_at.get(pane, 0.0):
@@ -421,15 +423,17 @@ class Windows:
         elif shells.has_news and now >= window.active_at:
             shells.has_news, window.active_at = False, now + APART
             self.lines.tell(f"{ACTIVITY} {window.number}")
+        elif shells.has_news:
+            self.loop.at(f"news of window {window.number}", window.active_at, functools.partial(self.tell_news, window))
         if shells.is_over:
             if not shells.is_meant:
                 self.common.tell(f"window {window.number}: its server was killed, or has failed")
             self.end(window, is_meant=shells.is_meant)
 
-    def make_last(self) -> float:
-        """Sees to what has to last of the session's folder, and tells when that is due again."""
+    def make_last(self) -> None:
+        """Sees to what has to last of the session's folder."""
+        self.lasting.due = 0.0
         self.lasting.turn()
-        return self.lasting.due
 
     def run(self) -> int:
         """Keeps the windows until the last of them ends. Where that can't be gone on with another takes them over: they stay then."""

@@ -124,7 +124,7 @@ class Rowed(Asked):
     def test_log(self):
         """Rows as they come, and the last screen; rows that were kept no longer are told."""
         steps = [lambda: None, lambda: self.prints(b"rows 0 2 6\n+c\n d\n"),
-                 lambda: [self.keeper.panes[1].rows.add(100, b" x\n" * 100) for _ in range(2)],
+                 lambda: [self.keeper.panes[1].rows.add(100, b" x\n" * 100) for _ in range(2)] and self.keeper.came(),
                  lambda: self.keeper.drop(1), lambda: self.prints(b"screen 0 2 6\n s\n  \n")]
 
         def step(end, events, seconds):

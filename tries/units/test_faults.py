@@ -150,7 +150,8 @@ class Kept(Keeper):
         panes = self.begin()
         self.keeper.loop.later("moment", 0, lambda: 1 / 0)
         self.keeper.loop.each(lambda: [][0])
-        with mock.patch.object(self.keeper, "tend", side_effect=KeyError("tend")):
+        with mock.patch.object(self.keeper, "ring", side_effect=KeyError("ring")):
+            self.made[1].send(b"x")
             self.turn(3)
         self.made[0].send(b"goes on")
         self.turn()

@@ -248,6 +248,7 @@ class Panes(Keeper):
         pane.to_pane += b"x"
         self.assertEqual((peer.events(), terminal.events()), (READ | WRITE, READ | WRITE))
         pane.is_dropping = True
+        pane.see_to_ends()
         self.turn(1)
         self.assertEqual((len(pane.to_terminal), pane.is_dropping, pane.written), (0, False, 1))
 
@@ -450,6 +451,7 @@ class Ended(Keeper):
         self.begin()
         pane = self.keeper.panes[1]
         pane.hears = lambda: False
+        pane.see_to_ends()
         self.made[0].send(b"bye")
         self.end(71)
         self.assertEqual((self.keeper.loop.due["last of pane 1"][0], pane.terminal is None), (self.now + 0.25, False))
@@ -599,7 +601,7 @@ class Waits(Keeper):
         self.turn()
         self.keeper.asked.close = True
         self.keeper.panes[1].close_terminal()
-        self.keeper.panes[1].has_ended = True
+        self.keeper.panes[1].ends()
         self.turn()
         self.now += 1.0
         self.assertAlmostEqual(self.wait_time(), 2.0)
@@ -644,7 +646,7 @@ class Rows(Keeper):
     def test_behind(self):
         """A pane isn't read while the filter doesn't keep up, for a second at most."""
         pane = self.begin()[0]
-        self.keeper.rows.is_behind = True
+        self.keeper.rows.set_behind(True)
         self.keeper.loop.later("rows are behind", row_keeping.WAITS, self.keeper.rows.lose)
         self.made[0].send(b"out")
         self.turn()

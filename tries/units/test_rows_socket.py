@@ -130,7 +130,7 @@ class Asked(Rows):
             self.now += 0.125
             self.prints(b"rows 0 1 3\n c\n")
             told.append(read_now(one))
-        self.assertEqual([line for line in told if line], [b"more 1 5 1\n", b"more 1 5 4\n"])
+        self.assertEqual([line for line in told if line], [b"more 1 5 1\n", b"more 1 5 5\n"])
         self.assertEqual(self.loop.waited, 0.125)
         self.now += 1
         self.loop.turns(3)
@@ -173,6 +173,7 @@ class Asked(Rows):
         for at in range(0, 3000, 100):
             data = b"".join(row + b"\n" for row in rows[at : at + 100])
             self.keeper.panes[1].rows.add(100, data)
+        self.keeper.came()
         self.loop.turns(3)
         self.assertEqual(read_now(one).split(b"\n")[:2], [b"rows 1 5 2903 100 600", b" 2900"])
 
