@@ -16,7 +16,7 @@ from roam_live.bells import Bells
 from roam_live.brought import AGENT, NAMES, Brought, agent_in
 from roam_live.faults import SoonFaults
 from roam_live.keypads import Keypad
-from roam_live.loops import Loop, always
+from roam_live.loops import Loop, always, comes
 from roam_live.program import ASKS_WHY, UNREAD_LIMIT, connected_now, read, reason, say, write
 from roam_live.programs import PANE, group_in_front
 from roam_live.typed import TypedQueue
@@ -32,6 +32,9 @@ FOREIGN = ("COLUMNS", "LINES", "TERMCAP", "TMUX", "TMUX_PANE", "STY", "WINDOWID"
 
 # What was typed before a shell is there again has come once nothing more comes for so many seconds: a client says again what wasn't taken.
 SETTLES = 0.5
+
+# What opens the other end of a pseudo-terminal without its name (Linux, TIOCGPTPEER). Python has no name for it before 3.13.
+OPENS_THEIRS = 0x5441
 
 # So many seconds a server has until it reads what a pane's programs write.
 READ_WAIT = 3.0
@@ -116,6 +119,7 @@ class PaneCommand:
         self.terminal: int | None = None
         self.is_connected = self.is_told = False
         self.to_pane, self.to_terminal = bytearray(), typed
+        typed.drops_unread = self.drops_unread
         # Whether something that was typed was dropped since its programs had read all.
         self.is_dropping = False
         # Whether its command has ended; how much was read since then, when there first was nothing, and what is shown behind all.
@@ -371,6 +375,22 @@ class PaneCommand:
             say(f"{self.named}: what is typed isn't read there; above {UNREAD_LIMIT} bytes it is dropped")
         if self.to_terminal.parts:
             self.write_terminal()
+
+    def drops_unread(self, behind: int) -> bool:
+        """Drops what the programs haven't read of what was typed, where that is more than so many bytes, and tells whether it was: at the end
+        of the terminal that they have, which is opened for this alone, since here what they wrote would be dropped."""
+        with contextlib.suppress(OSError, termios.error):
+            assert self.terminal is not None
+            theirs = fcntl.ioctl(self.terminal, OPENS_THEIRS, os.O_RDWR | os.O_NOCTTY | os.O_CLOEXEC)
+            try:
+                # What is still on its way within the terminal is there once that was asked.
+                comes(theirs, 0)
+                if struct.unpack("i", fcntl.ioctl(theirs, termios.FIONREAD, bytes(4)))[0] > behind:
+                    termios.tcflush(theirs, termios.TCIFLUSH)
+                    return True
+            finally:
+                os.close(theirs)
+        return False
 
     def type(self, answer: bytes) -> None:
         """Types what a program asked for, where it takes that."""

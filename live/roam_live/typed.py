@@ -81,6 +81,11 @@ class TypedQueue:
         self.parts: deque[bytearray | PlacedText] = deque()
         # How many bytes wait that were typed as such.
         self.typed = 0
+        # Whether something of a text was written since the last interrupt, also between brackets, and how many bytes behind the last of that;
+        # and what drops what the programs haven't read, where that is more than so many bytes, and tells whether it did.
+        self.is_pasted = self.is_bracketed = False
+        self.behind = 0
+        self.drops_unread: Callable[[int], bool] = lambda behind: False
 
     def __bool__(self) -> bool:
         return bool(self.parts)
@@ -108,9 +113,9 @@ class TypedQueue:
             self.parts.append(placed)
 
     def add(self, typed: bytes) -> bool:
-        """Has bytes wait, as far as there is room, and tells whether all were kept. An interrupt drops what waits of texts before it."""
+        """Has bytes wait, as far as there is room, and tells whether all were kept. An interrupt drops what wasn't read of texts before it."""
         if INTERRUPT in typed:
-            self.stop()
+            typed = self.interrupted(typed)
         if not self.parts or not isinstance(self.parts[-1], bytearray):
             self.parts.append(bytearray())
         last = self.parts[-1]
@@ -122,12 +127,34 @@ class TypedQueue:
             self.parts.pop()
         return is_kept
 
-    def stop(self) -> None:
-        """Drops what still waits of texts."""
-        for part in self.parts:
+    def interrupted(self, typed: bytes) -> bytes:
+        """What is typed where an interrupt is among these bytes: they alone, where the programs have read all texts. Else what wasn't read is
+        dropped, with all that was typed between and behind texts; the interrupt comes behind the bracket that ends one that has begun."""
+        is_dropped = self.is_pasted and self.drops_unread(self.behind)
+        first = next((place for place, part in enumerate(self.parts) if isinstance(part, PlacedText)), len(self.parts))
+        if first == len(self.parts) and not is_dropped:
+            self.is_pasted = self.is_bracketed = False
+            return typed
+        closes = CLOSES if is_dropped and self.is_bracketed and self.wants_brackets() else b""
+        self.is_pasted = self.is_bracketed = False
+        begun = self.parts[0] if self.parts and not is_dropped else None
+        if isinstance(begun, PlacedText) and begun.has_begun:
+            # What closes its brackets is still typed, and the rest of a character.
+            begun.stop()
+            self.texts.drop(begun.text)
+            first = 1
+        self.drop_from(0 if is_dropped else first)
+        return closes + INTERRUPT * typed.count(INTERRUPT) + typed.rpartition(INTERRUPT)[2]
+
+    def drop_from(self, place: int) -> None:
+        """Drops all that waits from a place on."""
+        while len(self.parts) > place:
+            part = self.parts.pop()
             if isinstance(part, PlacedText):
                 part.stop()
                 self.texts.drop(part.text)
+            else:
+                self.typed -= len(part)
 
     def write(self, end: int) -> None:
         """Writes what the programs take now; what is gone takes no more."""
@@ -139,12 +166,20 @@ class TypedQueue:
         if waiting and not write(end, waiting):
             self.clear()
             return
-        if isinstance(part, bytearray):
-            self.typed -= before - len(waiting)
+        self.note_written(part, before - len(waiting))
         if len(waiting) < before:
             self.renew()
         if self.parts and not waiting:
             self.end_first()
+
+    def note_written(self, part: bytearray | PlacedText, count: int) -> None:
+        """Takes note that so many bytes were written."""
+        if isinstance(part, bytearray):
+            self.typed -= count
+            self.behind += count
+        elif count:
+            self.is_pasted, self.behind = True, 0
+            self.is_bracketed = self.is_bracketed or part.tail > 0
 
     def renew(self) -> None:
         """Has texts wait longer, since the programs read."""
@@ -163,3 +198,4 @@ class TypedQueue:
         while self.parts:
             self.end_first()
         self.typed, self.marks = 0, Marks()
+        self.is_pasted = self.is_bracketed = False

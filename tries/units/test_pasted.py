@@ -2,12 +2,14 @@
 import os
 import random
 import re
+import termios
 import unittest
 from unittest import mock
 
 from aids import Case, StillLoop, read_now
-from roam_live import given, texts, typed
+from roam_live import given, pane_commands, terminal, texts, typed
 from roam_live.given import HELD, KEPT, LOST, MOST_SPENT, MOST_TEXTS, PUT, TOO_LONG, TOO_MANY, GivenText, GivenTexts
+from roam_live.loops import comes
 from roam_live.shells import LONGEST_LINE
 from roam_live.texts import CLOSES, MOST_BYTES, OPENS, cleaned, mark_acts, random_name, without_brackets
 from roam_live.typed import Marks, TypedQueue
@@ -89,6 +91,71 @@ class Found(unittest.TestCase):
         self.assertEqual(self.found([whole[:6] + whole]), ([whole[:6], NAME.encode(), b""], b""))
 
 
+class Unread(Case):
+    """A real terminal whose program doesn't read."""
+
+    def setUp(self):
+        self.loop = StillLoop(lambda: self.now)
+        self.texts = GivenTexts(self.loop, lambda name, word: None)
+        self.queue = TypedQueue(self.texts, lambda: True)
+        asked = pane_commands.Options(folder="/nowhere", command=["sh"])
+        self.pane = pane_commands.PaneCommand(asked, self.loop, 1, 4, (24, 80), False, "", self.queue)
+        self.master, self.slave = os.openpty()
+        for end in (self.master, self.slave):
+            self.addCleanup(os.close, end)
+            os.set_blocking(end, False)
+        self.pane.terminal = self.master
+
+    def write(self, *names):
+        """Writes what the terminal takes, of texts of these names too."""
+        for name in names:
+            self.texts.spent.clear()
+            self.texts.take(GivenText(name, b"line of a text\n" * 4000, False))
+            self.queue.take(mark(name))
+        for _ in range(40):
+            self.queue.write(self.master)
+
+    def test_dropped(self):
+        """What it hasn't read of a text is dropped there, and the interrupt comes at once; what it wrote stays."""
+        for change in (lambda modes: modes, terminal.raw):
+            termios.tcsetattr(self.slave, termios.TCSANOW, change(termios.tcgetattr(self.slave)))
+            os.write(self.slave, b"written")
+            self.write(NAME, OTHER)
+            self.assertGreater(len(self.queue), 60000)
+            self.queue.take(b"typed\x03")
+            self.write()
+            self.assertEqual((len(self.queue), self.texts.texts), (0, {}))
+            self.assertTrue(comes(self.master, 1))
+            self.assertTrue(read_now(self.master).startswith(b"written"))
+        self.assertTrue(comes(self.slave, 1))
+        self.assertEqual(read_now(self.slave), CLOSES + b"\x03")
+
+    def test_ahead(self):
+        """What is typed ahead isn't dropped where no text was, nor once the program has read those that were."""
+        termios.tcsetattr(self.slave, termios.TCSANOW, terminal.raw(termios.tcgetattr(self.slave)))
+        self.queue.take(b"ahead\x03")
+        self.write()
+        self.assertTrue(comes(self.slave, 1))
+        self.assertEqual(read_now(self.slave), b"ahead\x03")
+        self.write(NAME)
+        while self.queue or comes(self.slave, 0.05):
+            read_now(self.slave)
+            self.write()
+        self.queue.take(b"ahead")
+        self.write()
+        self.queue.take(b"\x03")
+        self.write()
+        self.assertTrue(comes(self.slave, 1))
+        self.assertEqual(read_now(self.slave), b"ahead\x03")
+
+    def test_refused(self):
+        """Where the other end can't be opened the interrupt comes behind what is there."""
+        self.write(NAME)
+        with mock.patch.object(pane_commands.fcntl, "ioctl", side_effect=OSError(25, "none")):
+            self.queue.take(b"\x03")
+        self.assertEqual(self.queue.parts[-1], b"\x03")
+
+
 class Queues(Case):
     """What waits for a pane's programs, at a pipe."""
 
@@ -154,7 +221,8 @@ class Queues(Case):
         self.assertEqual(self.written(), b"a" + OPENS + b"1" * 200000 + CLOSES + b"b" + OPENS + b"2" * 200000 + CLOSES + b"c")
 
     def test_interrupted(self):
-        """A C-c that is typed behind one drops what of it still waits; brackets that are open are closed, and no character is cut."""
+        """A C-c that is typed behind one drops what of it still waits, and what was typed between and behind; brackets that are open are closed,
+        and no character is cut."""
         for count in range(40):
             queue, waiting = TypedQueue(self.texts, lambda: True), "\u4e2d\u00e9x".encode() * 5
             for name in (NAME, OTHER):
@@ -170,11 +238,49 @@ class Queues(Case):
                     queue.write(self.writer)
             text = bytes(got)
             self.assertEqual(self.texts.texts, {}, count)
-            self.assertTrue(text.startswith(b"a") and text.endswith(b"bcd\x03e"), (count, text))
-            inside = text[1:-5]
+            self.assertTrue(text.startswith(b"a") and text.endswith(b"\x03e"), (count, text))
+            inside = text[1:-2]
             self.assertTrue(not inside or inside.startswith(OPENS) and inside.endswith(CLOSES), (count, text))
             self.assertTrue(waiting.startswith(inside[6:-6]) and inside[6:-6].decode() is not None, (count, text))
             self.assertLessEqual(len(text), 1 + count + 12 + 3 + 6, count)
+
+    def test_interrupt_read(self):
+        """Where the programs have read all texts what was typed ahead of it stays, and what was typed before the first that waits."""
+        asked = []
+        self.queue.drops_unread = lambda behind: bool(asked.append(behind))
+        self.queue.take(b"ls\r\x03")
+        self.give(NAME, b"text")
+        self.queue.take(mark(NAME))
+        self.assertEqual((self.written(), asked), (b"ls\r\x03" + OPENS + b"text" + CLOSES, []))
+        self.queue.take(b"ls")
+        self.written()
+        self.queue.take(b"\r\x03")
+        self.assertEqual((self.written(), asked), (b"\r\x03", [2]))
+        self.queue.take(b"x\x03")
+        self.give(OTHER, b"text")
+        self.queue.take(b"ahead" + mark(OTHER) + b"behind\x03z\x03more")
+        self.assertEqual((self.written(), asked), (b"x\x03ahead\x03\x03more", [2]))
+        self.assertEqual((self.texts.texts, self.queue.typed, bool(self.queue)), ({}, 0, False))
+
+    def test_interrupt_unread(self):
+        """Where they haven't all is dropped; a bracket ends one that had some, while the program wants them."""
+        for wants, before in ((True, CLOSES), (False, b"")):
+            self.wants, self.queue.drops_unread = True, lambda behind: True
+            self.texts.spent.clear()
+            self.give(NAME, b"text")
+            self.give(OTHER, b"two", True)
+            self.queue.take(mark(NAME))
+            self.written()
+            self.queue.take(b"typed" + mark(OTHER) + b"behind")
+            self.wants = wants
+            self.queue.take(b"more\x03")
+            self.assertEqual((self.written(), self.queue.typed), (before + b"\x03", 0))
+            self.give(OTHER, b"plain", True)
+            self.texts.spent.clear()
+            self.queue.take(mark(OTHER))
+            self.assertEqual(self.written(), b"plain")
+            self.queue.take(b"\x03")
+            self.assertEqual(self.written(), b"\x03")
 
     def test_typed_room(self):
         """What is typed behind a text waits to 65,536 bytes, as before; the text doesn't count."""
