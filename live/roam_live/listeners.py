@@ -34,11 +34,30 @@ class Listener:
 
     def __init__(self, loop: Loop, path: str | os.PathLike[str], takes: Callable[[socket.socket], object], has_room: Callable[[], bool],
                  refused: Callable[[OSError], object], is_told: bool = False) -> None:
-        self.loop, self.path, self.takes, self.has_room, self.refused = loop, path, takes, has_room, refused
+        self.loop, self.path, self.takes, self.has_room, self.refused, self.is_told = loop, path, takes, has_room, refused, is_told
         self.end = listening(path)
         self.made = os.lstat(path)
         self.is_deaf = False
-        loop.add(self.end, self.take, hears=self.hears, is_told=is_told)
+        self.join()
+
+    def join(self) -> None:
+        """Has the loop see who comes."""
+        self.loop.add(self.end, self.take, hears=self.hears, is_told=self.is_told)
+
+    def is_found(self) -> bool:
+        """Whether the socket lies where it was made: a cleaner of old files may have removed it, and another may be there."""
+        try:
+            return os.path.samestat(self.made, os.lstat(self.path))
+        except OSError:
+            return False
+
+    def move(self, path: str | os.PathLike[str]) -> None:
+        """Listens at another socket from now on, which is made; Fault or OSError where that can't be."""
+        end = listening(path)
+        self.loop.remove(self.end)
+        self.end.close()
+        self.end, self.path, self.made = end, path, os.lstat(path)
+        self.join()
 
     def hears(self) -> bool:
         """Whether another is taken now."""

@@ -15,6 +15,7 @@ from roam_live.faults import FaultLog
 from roam_live.following import KeeperFollowing
 from roam_live.fronts import Fronts
 from roam_live.lasting import LOOKS, Lasting
+from roam_live.listeners import Listener
 from roam_live.loops import Loop
 from roam_live.pane_commands import Options, PaneCommand, Spare, has_ended, say_in
 from roam_live.places import BRACKETED, FOCUS, OTHER, Rect, ToldPanes
@@ -34,6 +35,10 @@ CLOSE_WAIT = 3.0
 
 # So many seconds later what the system refused is tried again.
 AGAIN = 0.25
+
+# What is told where the sockets were removed at which it is found.
+MENDED = "sockets were removed, as by a cleaner of old files: they are there again"
+UNMENDED = "sockets were removed, and can't be made anew: {}"
 
 UNREAD = "{} isn't shown: the server doesn't read it, as where no descriptor is left for it"
 
@@ -96,6 +101,11 @@ class Common:
         """Has it seen to now and again what has to last of a folder."""
         self.lasting.append(lasts)
         self.loop.soon(lasts)
+
+    def see_no_more(self, lasts: Callable[[], object]) -> None:
+        """Sees to it no more."""
+        if lasts in self.lasting:
+            self.lasting.remove(lasts)
 
     def look_at_folders(self) -> None:
         """Sees to what has to last of all folders."""
@@ -208,6 +218,8 @@ class Shells:
         self.awaited = size
         # Where that one's command begins, where another window tells it.
         self.folder = folder
+        # Whether it was told that its sockets can't be made anew.
+        self.has_missed = False
         common.see_to(self.last)
         self.following = KeeperFollowing(f"{asked.dir}/panes", self.loop, self.hear, self.lost, self.tell, peer)
         # The process whose end is the window's: who listens there, where it isn't named.
@@ -220,6 +232,8 @@ class Shells:
         self.in_front: dict[int, str] = {}
         self.fronts = Fronts(self.loop, self.tell_front, f"window {asked.window} " if asked.window else "")
         common.windows[asked.window] = self
+        if not asked.window:
+            common.see_to(self.listen_again)
         common.keep_spares()
 
     def tell(self, text: str) -> None:
@@ -448,6 +462,37 @@ class Shells:
         self.touched[pane.number] = pane
         self.loop.soon(self.tend)
 
+    def listeners(self) -> list[Listener]:
+        """What others find it by."""
+        return [one for one in (self.socket.listener, self.bells.listener) if one]
+
+    def is_found(self) -> bool:
+        """Whether who looks for its sockets finds them."""
+        return all(one.is_found() for one in self.listeners())
+
+    def listen_in(self, folder: str) -> None:
+        """Listens in a folder from now on, where its sockets aren't found any more; Fault or OSError where that can't be."""
+        for one in self.listeners():
+            if not one.is_found():
+                one.move(os.path.join(folder, os.path.basename(one.path)))
+        if folder == self.asked.dir:
+            self.lasting.own = self.lasting.found()
+
+    def listen_again(self) -> None:
+        """Listens anew in its folder where that is there and its sockets aren't, and nobody else listens."""
+        if self.is_found():
+            return
+        try:
+            self.lasting.demand()
+            self.listen_in(self.asked.dir)
+        except (Fault, OSError) as fault:
+            if not self.has_missed:
+                say(UNMENDED.format(reason(fault)))
+            self.has_missed = True
+        else:
+            self.has_missed = False
+            self.tell(MENDED)
+
     def is_followed(self) -> bool:
         """Whether it is known which panes are there."""
         return bool(self.following.peer) and not self.untold
@@ -505,5 +550,6 @@ class Shells:
     def close(self) -> None:
         """Closes the sockets, and forgets the window."""
         self.socket.close()
-        self.common.lasting.remove(self.last)
+        for lasts in (self.last, self.listen_again):
+            self.common.see_no_more(lasts)
         self.common.windows.pop(self.asked.window, None)

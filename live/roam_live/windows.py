@@ -9,6 +9,7 @@ import socket
 from collections.abc import Callable
 
 from roam_live.lasting import Lasting
+from roam_live.mending import Mending
 from roam_live.pane_commands import Options
 from roam_live.program import Fault, connected_now, read, reason, say
 from roam_live.programs import working_folder
@@ -89,13 +90,18 @@ class Windows:
         # A server that stands ready for the next window, and when it was spawned: it has no start, so it sleeps, and is told nowhere.
         self.spare: WindowProcesses | None = None
         self.spared_at = 0.0
-        self.lasting = Lasting(asked.common)
+        self.begin_lasting()
+        common.see_to(Mending(self).look)
         common.see_to(self.make_last)
         self.lines = common.shells.lines = WindowLines(self, common.shells.sockets)
         if asked.is_first:
             self.await_first()
         else:
             self.take_over()
+
+    def begin_lasting(self) -> None:
+        """Sees to what has to last of the session's folder from now on."""
+        self.lasting = Lasting(self.asked.common)
 
     # ---- what is asked
 

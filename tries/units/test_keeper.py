@@ -294,6 +294,22 @@ class Panes(Keeper):
             other.accept()
         self.assertEqual(os.listdir(self.folder), ["p3"])
 
+    def test_sockets_removed(self):
+        """Its own sockets are made anew a minute after a cleaner removed them, but where somebody else listens there; that is told once."""
+        self.begin()
+        for name in ("shells", "bells"):
+            (self.folder / name).unlink()
+        other = self.listening(self.folder / "shells")
+        for _ in range(3):
+            self.now += window_shells.LOOKS
+            self.turn(1)
+        self.assertEqual(self.said.getvalue().count("sockets were removed, and can't be made anew: somebody listens at "), 1)
+        other.close()
+        self.now += window_shells.LOOKS
+        self.turn(1)
+        self.assertTrue(self.keeper.is_found())
+        self.assertIn(window_shells.MENDED, self.said.getvalue())
+
     def test_terminal_gone(self):
         """A terminal that no program has any more is closed, and so is a connection that the server ends."""
         panes = self.begin()

@@ -1,11 +1,14 @@
 """Windows at the keeper: how they are opened, named, told, shut and taken over, with processes and servers that are played."""
+import fcntl
+import json
 import os
+import shutil
 import signal
 import socket
 from unittest import mock
 
 from aids import Case, StillLoop, read_now
-from roam_live import pane_commands, window_processes, window_shells, windows
+from roam_live import mending, pane_commands, program, window_processes, window_shells, windows
 from roam_live.program import Fault, begun
 from roam_live.window_lines import ASKED_AGAIN, MOST_WINDOWS, name_in, name_word
 from roam_live.window_notes import note_ends, numbers_in
@@ -653,3 +656,115 @@ class Noted(Case):
         process = processes.spawn(SERVER, [])
         os.kill(process, signal.SIGTERM)
         self.assertEqual((os.waitpid(process, 0)[1], read_now(reader)), (signal.SIGTERM, b""))
+
+
+class Mended(Played):
+    """What a cleaner of old files removed is made anew."""
+
+    def setUp(self):
+        super().setUp()
+        self.opened()
+        self.opened((24, 80))
+        self.windows.rename(2, "two")
+        self.windows.came(2)
+        self.one = self.asker(1)
+        read_now(self.one)
+
+    def clean(self, everything=False):
+        """Removes the sockets, or all that lies in the folder, with it."""
+        if everything:
+            shutil.rmtree(self.folder)
+        else:
+            for path in [path for path in self.folder.rglob("*") if path.is_socket()]:
+                path.unlink()
+
+    def minutes(self, count=1):
+        """Lets so many minutes pass."""
+        for _ in range(count):
+            self.now += 60
+            self.turns(3)
+
+    def names(self):
+        """Who is found at the sockets of the windows, by who asks there."""
+        return [self.said_by(self.asker(number, b""), b"windows\n") for number in (1, 2)]
+
+    def test_sockets(self):
+        """The sockets are there again a minute later; who is connected stays."""
+        told = b"window 1 -\nwindow 2 74776f\nwindows 2\n"
+        self.clean()
+        self.minutes()
+        self.assertEqual(self.names(), [told] * 2)
+        self.assertEqual(self.said_by(self.one, b"windows\n"), told)
+        self.assertIn(window_shells.MENDED, self.said.getvalue())
+        before = {window.shells.socket.listener.made for window in self.windows.windows.values()}
+        self.minutes(3)
+        self.assertEqual({window.shells.socket.listener.made for window in self.windows.windows.values()}, before)
+        self.assertEqual((self.said.getvalue().count(window_shells.MENDED), self.common.faults.count), (1, 0))
+
+    def test_folder(self):
+        """So is the folder, with the notes of its processes."""
+        self.clean(True)
+        self.minutes()
+        self.assertEqual(self.names(), [b"window 1 -\nwindow 2 74776f\nwindows 2\n"] * 2)
+        state = json.loads((self.folder / "state.json").read_text())
+        self.assertEqual((state["shells"][0], state["command"]), (os.getpid(), ["sh"]))
+        self.assertEqual(json.loads((self.folder / "w/2/state.json").read_text())["server"][0], 2000)
+        self.assertEqual(((self.folder / "w/2/name").read_text(), (self.folder / "w/last").read_text()), ("74776f\n", "2\n"))
+        self.assertEqual((self.folder.stat().st_mode & 0o777, self.windows.lasting.own is not None), (0o700, True))
+        self.windows.windows[1].shells.lasting.demand()
+
+    def test_locked(self):
+        """While somebody launches something there nothing is done."""
+        self.clean()
+        lock = os.open(self.folder / "lock", os.O_RDWR | os.O_CREAT)
+        fcntl.flock(lock, fcntl.LOCK_EX)
+        self.minutes()
+        self.assertFalse(self.path(1, "shells").exists())
+        os.close(lock)
+        self.minutes()
+        self.assertEqual(len(self.names()), 2)
+
+    def test_taken(self):
+        """Where another session has the name it is called otherwise, and is found and ended by that; the other's is left alone."""
+        bells = socket.socket(socket.AF_UNIX, socket.SOCK_STREAM)
+        self.addCleanup(bells.close)
+        bells.connect(str(self.path(2, "bells")))
+        bells.setblocking(False)
+        self.turns(2)
+        other, more = (self.folder.with_name(f"{self.folder.name[:30]}-{number}") for number in (2, 3))
+        for path in (other, more):
+            self.addCleanup(shutil.rmtree, path, True)
+        other.mkdir()
+        self.clean(True)
+        self.folder.mkdir(0o700)
+        state = {"version": 4, "command": [], "shells": [1, program.begun(1)]}
+        self.alive.add(1)
+        with mock.patch("roam_live.processes.is_running", lambda process, moment: process == 1):
+            (self.folder / "state.json").write_text(json.dumps(state))
+            self.minutes()
+        self.assertEqual(sorted(path.name for path in self.folder.iterdir()), ["lock", "state.json"])
+        self.assertEqual(json.loads((more / "state.json").read_text())["shells"][0], os.getpid())
+        self.assertEqual(json.loads((more / "w/2/state.json").read_text())["server"][0], 2000)
+        words = mending.RENAMED.format(more.name)
+        self.assertIn(words, self.said.getvalue())
+        self.assertIn(f"say {words}\n".encode(), read_now(bells))
+        self.folder = more
+        self.assertEqual(self.names(), [b"window 1 -\nwindow 2 74776f\nwindows 2\n"] * 2)
+        with self.assertRaises(OSError):
+            self.windows.windows[1].shells.lasting.demand()
+        self.minutes(2)
+        self.assertEqual(self.said.getvalue().count("from now on"), 1)
+
+    def test_refused(self):
+        """Where it can't be made anew that is told once, and tried again."""
+        self.clean()
+        with mock.patch("roam_live.listeners.listening", side_effect=OSError(28, "No space left on device")):
+            self.minutes(3)
+        self.assertEqual(self.said.getvalue().count("sockets were removed, and can't be made anew: No space left on device"), 1)
+        self.minutes()
+        self.assertEqual(len(self.names()), 2)
+
+    def test_names(self):
+        """The names of one whose own another has are names."""
+        names = mending.names_beside("x" * 32)
+        self.assertEqual((names[0], names[-1], len(names)), ("x" * 30 + "-2", "x" * 28 + "-999", 998))

@@ -1,0 +1,131 @@
+"""What a cleaner of old files removed of a session with windows, made anew by its keeper: the sockets at which it is found, and the notes of
+its processes."""
+from __future__ import annotations
+
+import json
+import os
+import stat
+
+from roam_live.brought import begin_agent
+from roam_live.program import Fault, begun, log_to, reason, replace_text
+from roam_live.window_notes import WINDOWS_VERSION, window_folder, windows_folder
+from roam_live.window_shells import MENDED, UNMENDED
+
+TYPE_CHECKING = False
+if TYPE_CHECKING:
+    from roam_live.sessions import WindowedSession
+    from roam_live.windows import KeptWindow, Windows
+
+# A session whose name another has by now has a number behind it, from 2 to this; a name has so many characters.
+LAST_NUMBER = 999
+LONGEST_NAME = 32
+
+RENAMED = "the session's folder was removed, and another has its name: this one is {} from now on"
+
+
+def names_beside(name: str) -> list[str]:
+    """The names that a session may have whose own another has."""
+    return [f"{name[: LONGEST_NAME - len(str(number)) - 1]}-{number}" for number in range(2, LAST_NUMBER + 1)]
+
+
+def renew_log(folder: str) -> None:
+    """Has what this process says go into a new log, where its log was removed."""
+    found = os.fstat(2)
+    if stat.S_ISREG(found.st_mode) and not found.st_nlink:
+        log = os.open(os.path.join(folder, "log"), os.O_WRONLY | os.O_APPEND | os.O_CREAT | os.O_CLOEXEC | os.O_NOFOLLOW, 0o600)
+        os.dup2(log, 2)
+        os.close(log)
+    log_to(folder)
+
+
+class Mending:
+    """Looks, for a keeper of windows, whether it is found by others."""
+
+    def __init__(self, windows: Windows) -> None:
+        self.windows = windows
+        # What was said of it that couldn't be mended.
+        self.said = ""
+
+    def there(self) -> list[KeptWindow]:
+        """The windows that have sockets."""
+        return [window for window in self.windows.windows.values() if window.shells]
+
+    def look(self) -> None:
+        """Makes anew what isn't there any more, where nobody launches something in the session's folder just now."""
+        if all(window.shells.is_found() for window in self.there() if window.shells):
+            return
+        from roam_live.sessions import WindowedSession
+
+        session = WindowedSession(self.windows.asked.common)
+        try:
+            with session.locked(may_wait=False):
+                self.mend(session)
+                self.said = ""
+        except BlockingIOError:
+            # It is looked again.
+            pass
+        except (Fault, OSError) as fault:
+            self.tell(UNMENDED.format(reason(fault)))
+
+    def tell(self, words: str) -> None:
+        """Tells once that something couldn't be done."""
+        if words != self.said:
+            self.said = words
+            self.windows.common.tell(words)
+
+    def mend(self, session: WindowedSession) -> None:
+        """Makes all anew, under another name where another session has this; its lock is held."""
+        common = self.windows.asked.common
+        if self.is_taken(session):
+            common = self.move()
+        renew_log(common)
+        self.note(common)
+        for window in self.there():
+            window.processes.make_folder()
+            window.processes.note()
+            if window.name:
+                window.processes.note_name(window.name)
+            if window.shells:
+                window.shells.listen_in(window.processes.folder)
+        if common == str(session.folder):
+            self.windows.common.tell(MENDED)
+
+    @staticmethod
+    def is_taken(session: WindowedSession) -> bool:
+        """Whether another session has the name by now."""
+        found = (session.process(session.served), session.listener(session.sockets[session.served]))
+        return any(process not in (None, os.getpid()) for process in found)
+
+    def move(self) -> str:
+        """Has the session have another name, and tells its folder."""
+        windows, before = self.windows, self.windows.asked.common
+        for name in names_beside(os.path.basename(before)):
+            common = os.path.join(os.path.dirname(before), name)
+            try:
+                os.mkdir(common, 0o700)
+            except FileExistsError:
+                continue
+            break
+        else:
+            raise Fault("too many sessions have such a name")
+        windows.asked.common, windows.folder = common, windows_folder(common)
+        windows.common.shells.unmet.folder = common
+        for window in self.there():
+            window.processes.common, window.processes.folder = common, window_folder(common, window.number)
+            if window.shells:
+                window.shells.asked.common = common
+        begin_agent(common)
+        windows.begin_lasting()
+        windows.common.tell(RENAMED.format(name))
+        return common
+
+    def note(self, common: str) -> None:
+        """Notes this process, and where somebody was last."""
+        asked = self.windows.asked
+        command = [] if asked.instead else asked.command
+        state = {"version": WINDOWS_VERSION, "command": command, "shells": [os.getpid(), begun(os.getpid())]}
+        replace_text(os.path.join(common, "state.json"), json.dumps(state))
+        os.makedirs(windows_folder(common), 0o700, exist_ok=True)
+        if self.windows.last:
+            self.windows.note_last()
+        self.windows.lasting.own = self.windows.lasting.found()
