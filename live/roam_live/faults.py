@@ -5,7 +5,7 @@ import contextlib
 import time
 from collections.abc import Callable
 
-from roam_live.program import log_in_full, say
+from roam_live.program import Fault, log_in_full, say
 from roam_live.words import one_line
 
 # A fault at one place is logged once in so many seconds, and so many places are known.
@@ -66,6 +66,10 @@ class FaultLog:
     @staticmethod
     def tell(fault: Exception, more: int) -> None:
         """Tells the log of a fault."""
+        if isinstance(fault, Fault):
+            # Somebody foresaw it, and said why in words.
+            say(one_line(str(fault)[:LONGEST_LINE]))
+            return
         line = one_line(f"{type(fault).__name__}: {fault}"[:LONGEST_LINE])
         say(f"a fault of roam, which goes on: {line}" + (f" ({more} more since the last that was logged)" if more else ""))
         log_in_full(told_in_full(fault))

@@ -266,7 +266,7 @@ class Shells:
         """Takes a line of D/panes that tells nothing of panes."""
         if words[:1] == [ASKS]:
             self.answer(line)
-        elif words and words[0].isdigit():
+        elif len(words) == 3 and all(word.isdigit() for word in words):
             raise Fault("the server is of an earlier roam: it doesn't tell where panes are")
 
     def answer(self, line: str) -> None:

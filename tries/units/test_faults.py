@@ -162,6 +162,8 @@ class Kept(Keeper):
         """One in what the server tells lets that connection go, which is had again; lines of any kind are none."""
         self.begin()
         self.tell("", " ", "focus", "focus 9 9", "1 2", "asks 1 " + "9" * 9000 + " version", "1 1 1 99999 99999 4", "\u0661 gone", "modes")
+        self.assertEqual((self.keeper.common.faults.count, sorted(self.keeper.panes)), (0, [1, 2]))
+        self.tell("1 23 80")
         self.assertEqual((self.keeper.common.faults.count, sorted(self.keeper.panes)), (1, [1, 2]))
 
     def test_bells(self):

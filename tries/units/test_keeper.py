@@ -128,7 +128,7 @@ class Panes(Keeper):
             self.turn()
             self.server = self.taken(self.listeners["panes"])
             self.tell("1 23 80")
-        why = "a fault of roam, which goes on: Fault: the server is of an earlier roam: it doesn't tell where panes are\n"
+        why = "unit: the server is of an earlier roam: it doesn't tell where panes are\n"
         self.assertTrue(self.said.getvalue().endswith(why))
         self.assertEqual((list(self.keeper.panes), self.keeper.is_over, self.keeper.common.faults.count), ([1, 2], False, 3))
         self.assertTrue(panes)
