@@ -2,6 +2,7 @@
 from __future__ import annotations
 
 import os
+import re
 
 # What stands round a paste, to a program that asked for it (xterm, bracketed paste); and what either ends with, but for its last byte.
 OPENS, CLOSES = b"\x1b[200~", b"\x1b[201~"
@@ -11,14 +12,14 @@ BRACKET_ENDS = tuple(begin + kind for begin in (b"\x1b[", b"\xc2\x9b", b"\x9b") 
 MOST_BYTES = 1 << 24
 
 # The control characters that are no part of a paste: all but TAB and CR, which LF becomes.
-DROPPED = {*range(0x20), *range(0x7F, 0xA0)} - {0x09, 0x0D}
-ESCAPE = 0x1B
+DROPPED = re.compile(r"[\x00-\x08\x0a-\x0c\x0e-\x1f\x7f-\x9f]")
+DROPPED_BUT_ESCAPE = re.compile(r"[\x00-\x08\x0a-\x0c\x0e-\x1a\x1c-\x1f\x7f-\x9f]")
 
 
 def cleaned(text: str, keeps_escape: bool = False) -> str:
     """What of a text is pasted: LF and CR LF as CR, and no other control character but TAB; ESC too where that is kept."""
-    dropped = DROPPED - {ESCAPE} if keeps_escape else DROPPED
-    return text.replace("\r\n", "\r").replace("\n", "\r").translate(dict.fromkeys(dropped))
+    dropped = DROPPED_BUT_ESCAPE if keeps_escape else DROPPED
+    return dropped.sub("", text.replace("\r\n", "\r").replace("\n", "\r"))
 
 
 def without_brackets(text: bytes) -> bytes:

@@ -125,6 +125,8 @@ KNOWN = {
     ("roam_live/targets.py", "WORD", "re"): NAMES,
     ("roam_live/texts.py", "BRACKET_ENDS", "ESC"): BRACKETS,
     ("roam_live/texts.py", "", "ESC"): BRACKETS,
+    ("roam_live/texts.py", "DROPPED", "re"): "reads a text that is pasted",
+    ("roam_live/texts.py", "DROPPED_BUT_ESCAPE", "re"): "reads a text that is pasted",
     ("roam_live/typed.py", "BEGUN", "re"): MARKS,
     ("roam_live/typed.py", "MARK", "re"): MARKS,
     ("roam_live/window_lines.py", "NAME", "re"): LINES,
