@@ -209,7 +209,7 @@ class RowAsker:
         if not logged:
             return False
         rows = logged.rows
-        first, found = rows.range().rows(self.next_row, rows.end) if rows.end > self.next_row else (0, [])
+        first, found = rows.newest(self.next_row).rows(self.next_row, rows.end) if rows.end > self.next_row else (0, [])
         if found:
             self.next_row = first + len(found)
             self.say_rows(pane_of_key(rows.pane)[1], rows.life, first, found)

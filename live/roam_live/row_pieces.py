@@ -141,6 +141,15 @@ class PaneRows:
         """What is kept now."""
         return KeptRange(self.first, self.end, self.pieces)
 
+    def newest(self, first: int) -> KeptRange:
+        """What is kept now from a number on: of many pieces the last ones are found at once."""
+        found: deque[Piece] = deque()
+        for piece in reversed(self.pieces):
+            found.appendleft(piece)
+            if piece.first <= first:
+                break
+        return KeptRange(self.first, self.end, found)
+
 
 class RowsRoom:
     """What the kept rows of all panes of a session take together, and the snapshots of them. The oldest pieces go first, of whichever

@@ -49,6 +49,14 @@ class Kept(unittest.TestCase):
         self.assertEqual([piece.count for piece in rows.pieces], [82, 82, 36, 2, 1, 1])
         self.assertEqual((snapshot.end, len(snapshot.rows(0, 999)[1])), (201, 201))
 
+    def test_newest(self):
+        """What came last is had of the last pieces alone, and is the same."""
+        room = RowsRoom(5000)
+        rows = kept(room, *([f"{number} {'x' * 9000}"] for number in range(40)))
+        for first in (0, 1, 17, 38, 39, 40, 99):
+            self.assertEqual(rows.newest(first).rows(first, 99), rows.range().rows(first, 99), first)
+        self.assertEqual([len(rows.newest(first).pieces) for first in (0, 38, 39, 40)], [40, 2, 1, 1])
+
     def test_asked(self):
         """Rows are told as far as they are there, no more than so many rows, nor bytes, but one at least."""
         rows = kept(RowsRoom(10), [str(number) for number in range(15)], ["x" * 100, "y" * 100])
