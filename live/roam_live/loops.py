@@ -32,6 +32,9 @@ WATCHED = {READ: select.EPOLLIN, WRITE: select.EPOLLOUT, READ | WRITE: select.EP
 FINE = 0.01
 MOST_SELECTED = 1024
 
+# No wait is longer; what is due later is waited for again.
+LONGEST = 86400.0
+
 # So many seconds an end rests after a fault of which nobody said what it ends, and so many later a moment's fault is tried again.
 RESTS = 1.0
 
@@ -118,8 +121,10 @@ class Watched:
             select.select((self.poller,), (), (), seconds)
             seconds = 0
         found = {}
-        for number, events in self.poller.poll(seconds):
-            found[number] = FOUND.get(events, READ | WRITE) & self.events.get(number, 0)
+        for number, events in self.poller.poll(seconds if seconds is None else min(seconds, LONGEST)):
+            wanted = self.events.get(number)
+            if wanted:
+                found[number] = FOUND.get(events, READ | WRITE) & wanted
         for number in self.files:
             found[number] = self.events[number]
         return found
@@ -132,8 +137,10 @@ class LoopEnd:
     def __init__(self, reads: Does | None, writes: Does | None, hears: Callable[[], object], has_more: Callable[[], object],
                  fails: TakesFault | None = None, is_told: bool = False) -> None:
         self.reads, self.writes, self.hears, self.has_more, self.fails = reads, writes, hears, has_more, fails
-        # Whether who added it tells when something else may be waited for there; else that is asked before each wait.
-        self.is_told = is_told or hears is always and (writes is None or has_more is always)
+        # Whether the same is always waited for; and whether who added it tells when something else may be, which is asked before each wait
+        # else.
+        self.is_fixed = hears is always and (writes is None or has_more is always)
+        self.is_told = is_told or self.is_fixed
         # Its place among all that were added, and whether it rests after a fault.
         self.place, self.rests = 0, False
 
@@ -345,7 +352,7 @@ class Loop:
 
     def do(self, number: int, source: LoopEnd, events: int) -> int:
         """Does what can be done first at an end, and tells the events that are left."""
-        if source.is_told:
+        if source.is_told and not source.is_fixed:
             self.changes[number] = source
         try:
             return WRITE if source.do(events) else 0

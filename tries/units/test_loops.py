@@ -253,6 +253,19 @@ class Told(Case):
         self.other.send(b"x")
         self.assertEqual((self.turn(), comes(high, 0)), (["high"], True))
 
+    def test_long(self):
+        """A wait may be longer than the system counts; and an end that was closed without a word is nothing."""
+        loop = Loop()
+        loop.later("moment", 1e12, self.fail)
+        loop.add(self.one, lambda: self.done.append("one"))
+        self.other.send(b"x")
+        loop.turn()
+        self.assertEqual(self.done, ["one"])
+        kept = os.dup(self.one.fileno())
+        self.addCleanup(os.close, kept)
+        loop.watched.events.pop(self.one.fileno())
+        self.assertEqual(loop.ready(0), {})
+
     def test_soon(self):
         """What is to be done soon is done once, before the next wait, which isn't long where more is."""
         def again():
