@@ -323,6 +323,7 @@ class Commands:
         places, is_untold = self.panes.places, self.panes.is_untold()
         if places or is_untold:
             self.known = (places.size(), places.labels()) if places else (NO_SIZE, "")
+            self.display.warning = places.warning() if places else ""
         size, labels = self.known
         self.display.is_synchronized = self.synchronizing.is_on()
         self.display.know(self.given or size, labels, self.is_whole or is_untold)

@@ -9,7 +9,7 @@ from collections.abc import Callable
 from roam_live import terminal
 from roam_live.asides import GivenAside, GivenClip
 from roam_live.colours import ASKED
-from roam_live.last_row import ALL_PANES, SYNCHRONIZED, ZOOMED, clipped, columns, fitted, label_at, row_text, said, tail
+from roam_live.last_row import ALL_PANES, BETWEEN, SYNCHRONIZED, ZOOMED, clipped, columns, fitted, label_at, row_text, said, tail
 from roam_live.status_styles import ROW_STYLE, Styled
 from roam_live.loops import Loop
 from roam_live.places import Rect
@@ -173,6 +173,8 @@ class Display:
         self.moved: Callable[[], object] = lambda: None
         # What tells which key fits the session to this terminal, where that may be, and which leaves.
         self.fits_line = self.leaves_line = ""
+        # What the person is warned of at the end of the last row.
+        self.warning = ""
         # The line that stands in the last row, and where; and whether what is painted next may erase it.
         self.line_put: tuple[str, int, int] | None = None
         self.is_line_lost = False
@@ -483,8 +485,12 @@ class Display:
         left, right = self.status() if self.status else ([], [])
         left, right = clipped(left, width // 3), clipped(right, width // 2 if self.shows_all() else 0)
         room = width - columns(said(left)) - columns(said(right))
-        self.parts = left, row_text(self.panes_label(), *self.windows, "" if self.shows_all() else self.fits_line, room), right
+        self.parts = left, row_text(self.panes_label(), *self.windows, self.row_end(), room), right
         return said(left) + self.parts[1] + said(right)
+
+    def row_end(self) -> str:
+        """What stands at the end of the row, before what a settings file has there."""
+        return BETWEEN.join(text for text in (self.warning, "" if self.shows_all() else self.fits_line) if text)
 
     def window_at(self, row: int, col: int) -> int | None:
         """The place of the window whose label is shown at a row and a column of the terminal, from 1; None where none is."""

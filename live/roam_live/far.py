@@ -18,6 +18,7 @@ from roam_live.program import Fault, connected_now, noted_front_end, opened_proc
 from roam_live.relayed import ENDED, KILLED, LEAVES, WANTS, WINDOWS, RelayStream, Waiting
 from roam_live.sealed import PORTS, udp_end
 from roam_live.sessions import window_in
+from roam_live.start_limits import StartLimit
 from roam_live.streams import CARRIES, SHELLS
 from roam_live.watches import ShellsWatch
 from roam_live.ways import Ways, finish
@@ -48,6 +49,8 @@ class Far:
         self.waiting = Waiting()
         self.sockets: dict[int, socket.socket | Carrier] = {}
         self.moments: dict[int, float] = {}
+        # What lets new starts through, by the folders of the servers.
+        self.limits: dict[str, StartLimit] = {}
         # What holds the command while this goes on in another process; the near end's name, and the note by which the next far end of it
         # ends this one.
         self.held: int | None = None
@@ -70,7 +73,9 @@ class Far:
         self.count_itself(True)
 
     def send(self, peer: int, datagram: bytes) -> None:
-        """Sends a client's datagram to the server."""
+        """Sends a client's datagram to the server, where that is to know its start."""
+        if not self.limit(peer >> WINDOW_SHIFT).passes(datagram):
+            return
         try:
             if peer not in self.sockets:
                 while len(self.sockets) >= PEER_LIMIT:
@@ -89,7 +94,18 @@ class Far:
             one = loopback_socket()
             one.connect(("127.0.0.1", self.asked.port))
             return one
-        return Carrier(connected_now(os.path.join(self.windows.folder(number) or self.asked.dir or "", "clients")))
+        return Carrier(connected_now(os.path.join(self.folder(number), "clients")))
+
+    def folder(self, number: int) -> str:
+        """The folder of a window's server; nothing where it has none."""
+        return self.windows.folder(number) or self.asked.dir or ""
+
+    def limit(self, number: int) -> StartLimit:
+        """What lets new starts of a window through."""
+        folder = self.folder(number)
+        if folder not in self.limits:
+            self.limits[folder] = StartLimit(folder, time.monotonic)
+        return self.limits[folder]
 
     def drop(self, peer: int) -> None:
         """Forgets a client."""

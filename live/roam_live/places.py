@@ -22,8 +22,10 @@ MOVES = ("focus", "next", "split", "close")
 MOST_PANES = 9
 ROOM = {"right": (0, 9), "down": (5, 0)}
 
-# A server knows so many client starts that edit.
-MOST_STARTS = 64
+# A server knows so many client starts that edit, and that watch; from so many that edit on a person is warned: then none of another machine
+# that is new is taken.
+MOST_STARTS, MOST_WATCHERS = 64, 16
+WARNED_STARTS = 48
 
 # What a line tells: where a pane is and which making of its number, that it is gone, which is in focus, or how many starts there were of
 # how many; and to who asked for it which modes a pane's program has set, or what else stands beside its terminal. It may have come from
@@ -90,6 +92,10 @@ class Places(namedtuple("Places", "rects focus starts watchers", defaults=(0, 0,
     def is_full(self) -> bool:
         """Whether the server knows as many starts as it ever does."""
         return self.starts >= MOST_STARTS
+
+    def warning(self) -> str:
+        """What a person is warned of, in a few words: that the server takes only so many starts more; nothing where it isn't needed."""
+        return f"{self.starts} of {MOST_STARTS} starts" if self.starts >= WARNED_STARTS else ""
 
     def neighbour(self, way: str) -> int | None:
         """The pane that touches the one in focus on that side, nearest to its middle; None where none does."""

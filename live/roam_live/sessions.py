@@ -19,7 +19,7 @@ from roam_live.program import (TOOLS, Fault, begun, count_front_ends, end_words,
                                program, replace_text, say)
 from roam_live.places import ASKED, MOST_STARTS, Places, asked_places
 from roam_live.window_lines import MOST_WINDOWS, name_in
-from roam_live.window_notes import NUMBER, SPARE, WINDOWS, WINDOWS_VERSION, note_ends, numbers_in
+from roam_live.window_notes import NUMBER, SPARE, STARTS, WINDOWS, WINDOWS_VERSION, note_ends, numbers_in
 
 NAME = re.compile(r"[A-Za-z0-9_-]{1,32}")
 
@@ -340,7 +340,7 @@ class FolderSession(Processes):
             raise Fault(f"somebody answers at {self.folder / 'clients'}; nothing is removed there")
         folders = [self.folder / name for name in ("attached", "relays")]
         # An earlier roam left `rects`.
-        notes = [self.folder / name for name in (*SOCKETS, LINK, "rects", "session", "session.new", "state.json")]
+        notes = [self.folder / name for name in (*SOCKETS, LINK, STARTS, "rects", "session", "session.new", "state.json")]
         for path in [*(note for folder in folders if folder.is_dir() for note in folder.iterdir()), *notes]:
             path.unlink(missing_ok=True)
         if self.served == "relay":
@@ -383,8 +383,8 @@ class FolderSession(Processes):
         """What `mux ls` says of it."""
         places = self.places()
         size = "{} by {}".format(*places.size()) if places else "-"
-        more = f", {places.starts} of {MOST_STARTS} starts" if places and places.starts > MANY_STARTS else ""
-        return f"{listed(self.name, size, len(places.rects) if places else None, count_front_ends(self.common))}{more}{self.lacking()}"
+        panes = len(places.rects) if places else None
+        return f"{listed(self.name, size, panes, count_front_ends(self.common))}{many_starts([places])}{self.lacking()}"
 
     def lacking(self) -> str:
         """What `mux ls` says of what keeps the shells, where that doesn't run."""
@@ -564,10 +564,10 @@ class WindowedSession(FolderSession):
         shown = places.get(self.last()) or next(iter(places.values()), None)
         size = "{} by {}".format(*shown.size()) if shown else "-"
         panes = None if None in places.values() or not places else sum(len(one.rects) for one in places.values() if one)
-        starts = [f", {one.starts} of {MOST_STARTS} starts" for one in places.values() if one and one.starts > MANY_STARTS]
         named = " ".join(f"{window.number}:{window.title()}" if window.title() else f"{window.number}" for window in windows)
         more = f", {len(windows)} windows: {named}" if len(windows) > 1 else ""
-        return f"{listed(self.name, size, panes, count_front_ends(self.folder))}{''.join(starts[:1])}{more}{self.lacking()}"
+        starts = many_starts(places.values())
+        return f"{listed(self.name, size, panes, count_front_ends(self.folder))}{starts}{more}{self.lacking()}"
 
 
 class Window(FolderSession):
@@ -828,6 +828,14 @@ def listed(name: str, size: str, panes: int | None, terminals: int) -> str:
     """What `mux ls` says of any session; panes that aren't known are None."""
     has = "? panes" if panes is None else "1 pane" if panes == 1 else f"{panes} panes"
     return f"{name:12} {size:12} {has:8} {terminals} terminal{'' if terminals == 1 else 's'}"
+
+
+def many_starts(found: Iterable[Places | None]) -> str:
+    """What `mux ls` says of how many starts a server has had, where they are many; from some on no new one of another machine is taken."""
+    places = max((one for one in found if one), key=lambda one: one.starts, default=None)
+    if not places or places.starts <= MANY_STARTS:
+        return ""
+    return f", {places.starts} of {MOST_STARTS} starts{', new ones of this machine alone are taken' if places.warning() else ''}"
 
 
 def command_of(shells: int | None, folder: pathlib.Path) -> list[str]:

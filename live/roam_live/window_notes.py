@@ -10,6 +10,9 @@ from roam_live.program import replace_text
 # What lies in a window's folder while its server only stands ready.
 SPARE = "spare"
 
+# In a window's folder: which client starts of other machines its server knows.
+STARTS = "starts"
+
 # What a note of such a session is like.
 WINDOWS_VERSION = 4
 

@@ -818,6 +818,16 @@ class Lines(Case):
                            ((24, 16), f"      {FITS}"), ((24, 10), FITS), ((24, 9), " 1 [2]   ")):
             self.assertEqual(Person(*size, told=two).display.line(), line, size)
 
+    def test_starts(self):
+        """From 48 starts on their number stands at the end."""
+        person = Person(24, 80, told=places(24, 80))
+        ends = []
+        for starts in (47, 48, 64):
+            person.tell(places(24, 80)._replace(starts=starts))
+            ends.append(person.display.line()[3:].strip())
+        person.tell(places(24, 100)._replace(starts=50))
+        self.assertEqual([*ends, person.display.line()[-27:]], ["", "48 of 64 starts", "64 of 64 starts", f" 50 of 64 starts {FITS}"])
+
     def test_same(self):
         """What stands there isn't written again."""
         person = Person(24, 80, told=places(24, 80))

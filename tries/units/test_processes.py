@@ -109,13 +109,16 @@ class Read(Based):
         self.assertEqual(self.session().busy(), {})
 
     def test_line(self):
-        """A line of `ls`: name, rows and columns, panes, terminals, and the starts from 33 on."""
+        """A line of `ls`: name, rows and columns, panes, terminals, and the starts from 33 on, with a warning from 48 on."""
         self.note(server=OWN, shells=OWN)
         session = self.session()
         self.assertEqual(session.line().split(), ["main", "-", "?", "panes", "0", "terminals"])
         one, two = Places({1: Rect(1, 1, 23, 80)}, 1, 32), Places({1: Rect(1, 1, 23, 39), 2: Rect(1, 41, 23, 40)}, 1, 33)
         for places, told in ((one, "main         24 by 80     1 pane   0 terminals"),
-                             (two, "main         24 by 80     2 panes  0 terminals, 33 of 64 starts")):
+                             (two, "main         24 by 80     2 panes  0 terminals, 33 of 64 starts"),
+                             (one._replace(starts=47), "main         24 by 80     1 pane   0 terminals, 47 of 64 starts"),
+                             (one._replace(starts=48), "main         24 by 80     1 pane   0 terminals, 48 of 64 starts, new ones of this "
+                                                       "machine alone are taken")):
             self.patch_of(session, "places", lambda places=places: places)
             self.assertEqual(session.line(), told)
         (self.folder / "attached").mkdir()

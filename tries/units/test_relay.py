@@ -654,6 +654,18 @@ class Fars(Ends):
         self.far.drop_silent()
         self.assertEqual((self.far.sockets, self.far.moments), ({}, {}))
 
+    def test_starts(self):
+        """New starts come to the server slowly, whichever peers bring them; one that it knows always does."""
+        (self.folder / "session").write_text("5e55\n", encoding="ascii")
+        new = [(b"RM\2\2" + (0x5E55).to_bytes(8, "big") + name.to_bytes(8, "big")).ljust(SHORTEST, b"\0") for name in range(5)]
+        self.say(greeting("-") + packed(*((peer, new[peer]) for peer in range(1, 5)), (9, new[1]), (8, new[3])))
+        self.assertEqual(set(self.far.sockets), {1, 2, 9})
+        self.now += 10
+        self.far.stream.heard = self.now
+        self.far.send(7, new[4])
+        self.far.send(8, new[3])
+        self.assertEqual(set(self.far.sockets), {1, 2, 9, 7})
+
     def test_nobody(self):
         """Where no server is a datagram is lost, as any may be."""
         self.listener.close()

@@ -1,0 +1,170 @@
+"""How new client starts of other machines come to a server: over all far ends together, by a clock that is played."""
+import itertools
+import os
+import struct
+
+from aids import Case
+from roam_live.start_limits import EDITS, WATCHES, Start, StartLimit, room_at, start_in
+
+SESSION = 0x5E55
+
+
+def datagram(name, kind=EDITS, session=SESSION, version=2):
+    """A datagram of a start."""
+    return struct.pack(">2sBBQQ", b"RM", version, kind, session, name) + bytes(23)
+
+
+class Served(Case):
+    """A window whose server is played: it knows each start whose datagram comes."""
+
+    def setUp(self):
+        self.folder, self.now = self.made_folder(), 1000.0
+        (self.folder / "session").write_text(f"{SESSION:x}\n", encoding="ascii")
+        self.known = {EDITS: set(), WATCHES: set()}
+        self.tells = True
+
+    def counts(self, folder):
+        """How many the server tells that it knows."""
+        self.assertEqual(folder, str(self.folder))
+        return {kind: len(names) for kind, names in self.known.items()} if self.tells else None
+
+    def far_end(self, folder=None):
+        """What a far end, a process of its own, lets through."""
+        return StartLimit(str(folder or self.folder), lambda: self.now, self.counts)
+
+    def says(self, far, name, kind=EDITS):
+        """Whether a start's datagram comes to the server."""
+        if far.passes(datagram(name, kind)):
+            self.known[kind].add(name)
+            return True
+        return False
+
+
+class Passes(Served):
+    """Which starts pass."""
+
+    def test_known(self):
+        """Two new ones pass at once, then one in ten seconds, over all far ends together; one that is known always does, at any of them."""
+        one, other = self.far_end(), self.far_end()
+        self.assertEqual([self.says(far, name) for far, name in ((one, 1), (other, 2), (one, 3), (other, 4))], [True, True, False, False])
+        self.now += 9.9
+        self.assertFalse(self.says(one, 3))
+        self.now += 0.1
+        self.assertEqual([self.says(far, name) for far, name in ((other, 3), (one, 4), (one, 3), (self.far_end(), 3))],
+                         [True, False, True, True])
+        self.now += 3600
+        self.assertEqual([self.says(one, name) for name in range(10, 14)], [True, True, False, False])
+        self.assertEqual([self.says(far, name) for far in (one, other, self.far_end()) for name in (1, 2, 3, 10, 11)], [True] * 15)
+
+    def test_spent(self):
+        """One connection that brings starts without end leaves the last 16 of 64, and those that are known go on."""
+        names = itertools.count(1)
+        self.known[EDITS].update(range(1000, 1010))
+        for _ in range(500):
+            far = self.far_end()
+            for _ in range(5):
+                self.says(far, next(names))
+            self.now += 10
+        self.assertEqual(len(self.known[EDITS]), 48)
+        self.assertTrue(self.says(self.far_end(), 1))
+        self.assertFalse(self.says(self.far_end(), 9999))
+
+    def test_late(self):
+        """A server that hasn't counted yet what was let through just now counts as if it had."""
+        self.known[EDITS].update(range(1000, 1047))
+        self.assertEqual([self.far_end().passes(datagram(name)) for name in (1, 2)], [True, False])
+
+    def test_untold(self):
+        """Where the server doesn't tell how many it knows those count that were let through."""
+        self.tells = False
+        for name in range(100):
+            self.says(self.far_end(), name)
+            self.now += 10
+        self.assertEqual(len(self.known[EDITS]), 48)
+
+    def test_watchers(self):
+        """Those that watch are counted by themselves, and 4 of 16 are left."""
+        self.assertEqual([self.says(self.far_end(), name) for name in (1, 2, 3)], [True, True, False])
+        for name in range(1, 50):
+            self.says(self.far_end(), name, WATCHES)
+            self.now += 5
+        self.assertEqual(len(self.known[WATCHES]), 12)
+
+    def test_refused(self):
+        """What the server refuses in any case passes, and uses nothing up."""
+        far = self.far_end()
+        for text in (datagram(1, session=7), datagram(1, kind=1), datagram(1, version=3), datagram(1, kind=9)):
+            self.assertTrue(far.passes(text))
+        self.assertEqual(os.listdir(self.folder), ["session"])
+
+
+class Noted(Served):
+    """The file in the folder."""
+
+    def test_server(self):
+        """A server that came in place of another in the folder has had none."""
+        self.assertEqual([self.says(self.far_end(), name) for name in (1, 2, 3)], [True, True, False])
+        (self.folder / "session").write_text("abc\n", encoding="ascii")
+        far = self.far_end()
+        self.assertEqual([far.passes(datagram(name, session=0xABC)) for name in (1, 2, 3)], [True, True, False])
+        self.assertEqual((self.folder / "starts").read_text(encoding="ascii").count("5e55"), 0)
+
+    def test_cut(self):
+        """A line that was cut, or can't be one, is passed over, and the next is whole."""
+        note = self.folder / "starts"
+        note.write_bytes(b"5e55 2 1 5.0 0\n\xff\n5e55 2 1 nan\n5e55 2 7 9")
+        self.assertEqual([self.says(self.far_end(), name) for name in (1, 7, 8, 9)], [True, True, True, False])
+        self.assertEqual([one.name for one in map(start_in, note.read_text(encoding="ascii", errors="replace").split("\n")) if one],
+                         [1, 7, 8])
+        for line in ("", "5e55 2 1 5.0", "x 2 1 5.0 0", "5e55 2 1 5.0 0 ", "5e55 a 1 5.0 0"):
+            self.assertIsNone(start_in(line), line)
+        self.assertEqual(start_in(str(Start(1, 2, 3, 4.5, 6))), Start(1, 2, 3, 4.5, 6))
+
+    def test_unnoted(self):
+        """Where nothing can be noted an end counts for itself."""
+        (self.folder / "starts").mkdir()
+        far = self.far_end()
+        self.assertEqual([self.says(far, name) for name in (1, 2, 3, 1)], [True, True, False, True])
+        self.now += 10
+        self.assertEqual([self.says(far, name) for name in (3, 4)], [True, False])
+
+    def test_no_folder(self):
+        """At a port there is no file."""
+        far = StartLimit("", lambda: self.now, lambda folder: None)
+        self.assertEqual([far.passes(datagram(name)) for name in (1, 2, 3, 1)], [True, True, False, True])
+        self.assertFalse(far.passes(datagram(3, session=8)))
+
+    def test_lost(self):
+        """Where the id of the session is lost for a time nothing that was noted is."""
+        self.assertTrue(self.says(self.far_end(), 1))
+        (self.folder / "session").unlink()
+        self.assertTrue(self.says(self.far_end(), 2))
+        (self.folder / "session").write_text(f"{SESSION:x}\n", encoding="ascii")
+        self.assertEqual([self.says(self.far_end(), name) for name in (1, 5, 6)], [True, True, False])
+
+    def test_room(self):
+        """A clock that began anew lets no more through than one that goes on."""
+        for moments, now, room in (([], 5, 2), ([5], 5, 1), ([5, 5], 5, 0), ([5, 5], 10, 0.5), ([5, 5], 100, 2), ([900, 900], 5, 0)):
+            self.assertAlmostEqual(room_at(moments, now), room, msg=(moments, now))
+
+
+class Nights(Case):
+    """Two machines at a session of 40 windows, for ten days."""
+
+    def test_nights(self):
+        """A start that comes back under its id after each night uses nothing up, and one anew for each window and night is had at once."""
+        for is_new in (False, True):
+            windows = [Served() for _ in range(40)]
+            for window in windows:
+                window.setUp()
+                self.addCleanup(window.doCleanups)
+                window.known[EDITS].add(99)
+            for night in range(10):
+                for machine in (1, 2):
+                    for window in windows:
+                        window.now = 1000.0 + 43200 * night + machine
+                        far = window.far_end()
+                        name = 100 * machine + (night if is_new else 0)
+                        # The command breaks, and another far end takes its place.
+                        self.assertEqual([window.says(one, name) for one in (far, far, window.far_end())], [True] * 3)
+            self.assertEqual({len(window.known[EDITS]) for window in windows}, {1 + 2 * (10 if is_new else 1)})
