@@ -54,10 +54,11 @@ MOST_TEXTS = 64
 KEPT_GOING, KEPT_COMING = 1 << 18, 1 << 19
 
 # So many bundles of more than one piece are on their way to a peer at most; so many that aren't whole are kept of a peer, and so many bytes
-# of them of all peers.
+# of them of all peers. A piece counts what it takes beside its own bytes, so that many small or empty ones are no more.
 MOST_LARGE = 2
 MOST_PARTS = 4
 KEPT_PARTS = 1 << 24
+OVERHEAD = 64
 
 # So many peers are known each way, as a relay knows clients; of others more nothing is lost but a base.
 MOST_PEERS = 257
@@ -291,8 +292,8 @@ class Incoming:
         return text
 
     def size(self) -> int:
-        """The bytes of bundles that aren't whole."""
-        return sum(len(piece) for parts in self.parts.values() for piece in parts.values())
+        """What the pieces of bundles that aren't whole count."""
+        return sum(len(piece) + OVERHEAD for parts in self.parts.values() for piece in parts.values())
 
 
 class Bundles:
@@ -302,7 +303,7 @@ class Bundles:
         self.going: dict[int, Outgoing] = {}
         self.coming: dict[int, Incoming] = {}
         self.last = 0
-        # The bytes of pieces that came since it was looked how many are kept.
+        # What the pieces count that came since it was looked how much is kept.
         self.uncounted = 0
 
     # ---- what goes
@@ -382,7 +383,7 @@ class Bundles:
         way = self.coming.setdefault(peer, Incoming(LONGEST_TEXT if peer else LONGEST_STATE))
         self.forget_one(self.coming, peer)
         text = way.take(number, index, count, piece)
-        self.uncounted += len(piece)
+        self.uncounted += len(piece) + OVERHEAD
         if self.uncounted > KEPT_PARTS // 8:
             self.uncounted = 0
             self.keep_parts(peer)

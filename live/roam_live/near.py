@@ -49,6 +49,16 @@ LAST_PACKETS = 3
 # So often it is looked whether a front end is noted.
 LOOKS = 5.0
 
+# So often at most other windows are taken that are told, and what that moment is called.
+WINDOWS_EVERY = 0.1
+TOLD_WINDOWS = "windows told"
+
+# After the other end said what can't be the next command is spawned no sooner than after so many seconds, twice as many each time up to the
+# most; so many times end the relay; and all are forgotten once it was sound for so long.
+BROKEN_PAUSE, MOST_PAUSE = 2.0, 60.0
+MOST_BROKEN = 10
+FORGIVEN = 600.0
+
 
 class Peers:
     """The addresses of clients and their numbers. A number isn't given again before all others were."""
@@ -102,6 +112,31 @@ class Peers:
         """Forgets the peers that have said nothing for long."""
         for number in [number for number, moment in self.moments.items() if moment + FORGOTTEN_AFTER < time.monotonic()]:
             self.drop(number)
+
+
+class BrokenWords:
+    """How often the other end said what can't be."""
+
+    def __init__(self) -> None:
+        self.count = 0
+        self.sound_since: float | None = None
+
+    def add(self, now: float) -> float:
+        """Counts one more, and tells when the next command may be spawned."""
+        self.count += 1
+        self.sound_since = None
+        pause: float = min(BROKEN_PAUSE * 2 ** (self.count - 1), MOST_PAUSE)
+        return now + pause
+
+    def are_too_many(self) -> bool:
+        """Whether the relay ends."""
+        return self.count >= MOST_BROKEN
+
+    def note(self, is_sound: bool, now: float) -> None:
+        """Takes note of whether something carries what goes: after so long all are forgotten."""
+        self.sound_since = (self.sound_since if self.sound_since is not None else now) if is_sound else None
+        if self.sound_since is not None and now >= self.sound_since + FORGIVEN:
+            self.count = 0
 
 
 class RunningCommand:
@@ -206,6 +241,9 @@ class Near:
         self.has_answered = self.is_told = False
         self.next_try = 0.0
         self.try_count = 0
+        self.broken = BrokenWords()
+        # The text that told windows last, and when another may be taken.
+        self.windows_told, self.windows_at = b"", 0.0
         self.looked_at = self.used_at = time.monotonic()
         self.is_over = False
         # What is noted of the session's end.
@@ -232,6 +270,7 @@ class Near:
         now = time.monotonic()
         self.ending = [link for link in self.ending if link.process.poll() is None]
         self.ways.rest()
+        self.broken.note(not self.is_silent(), now)
         if not self.is_silent():
             self.drop_tries()
             was_sound = self.ways.was_sound() or self.link is not None and self.link.since + SOUND < now
@@ -289,10 +328,15 @@ class Near:
             say(line)
 
     def refuse(self, link: RunningCommand, fault: BadWords | BadStream) -> None:
-        """Goes on without a command whose other end said what can't be; a first one that did is told of, and ends this."""
+        """Goes on without a command whose other end said what can't be; a first one that did is told of, and ends this, and so does one that
+        did too often."""
         if not self.has_answered:
             raise fault
-        say(f"{fault}; another is spawned")
+        now = time.monotonic()
+        self.next_try = max(self.next_try, self.broken.add(now))
+        if self.broken.are_too_many():
+            raise Fault(f"{fault}; the other end has said what can't be {MOST_BROKEN} times, and no other is spawned")
+        say(f"{fault}; another is spawned in {self.next_try - now:.0f} s")
         self.drop(link)
 
     def look(self) -> None:
@@ -356,7 +400,7 @@ class Near:
         elif text[:1] == SEALED:
             self.take_path(near_path(text))
         elif text[:1] == WINDOWS:
-            self.take_windows(windows_in(text))
+            self.hear_windows(text)
         elif self.link and self.link.stream.streams:
             self.link.stream.streams.take(text)
 
@@ -374,6 +418,21 @@ class Near:
             if not self.has_told_lack:
                 self.has_told_lack = True
                 say("the other machine's roam is an earlier one: it tells neither where panes are nor that one rings")
+
+    def hear_windows(self, text: bytes) -> None:
+        """Takes which windows are told: at once, and of what is told soon after another the newest."""
+        now = self.loop.clock()
+        self.windows_told = text
+        if now >= self.windows_at:
+            self.use_windows()
+        else:
+            self.loop.at(TOLD_WINDOWS, self.windows_at, self.use_windows)
+
+    def use_windows(self) -> None:
+        """Goes by the windows that were told last."""
+        self.loop.drop(TOLD_WINDOWS)
+        self.windows_at = self.loop.clock() + WINDOWS_EVERY
+        self.take_windows(windows_in(self.windows_told))
 
     def take_windows(self, told: dict[int, str]) -> None:
         """Takes which windows there are. The session is found again by one that is there."""

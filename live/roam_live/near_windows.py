@@ -18,6 +18,14 @@ TYPE_CHECKING = False
 if TYPE_CHECKING:
     from roam_live.near_sockets import Carries
 
+# So many windows are made at once, and then so many a second: each has a folder and four sockets, and the other machine may name others
+# without end.
+MADE_AT_ONCE = 99
+MADE_EACH_SECOND = 2.0
+
+# The moment at which more may be made.
+MOMENT = "windows made"
+
 
 class NearWindow:
     """A window: the id of its session, and the sockets in its folder."""
@@ -50,17 +58,33 @@ class NearWindows:
                  parts: Callable[[int], object]) -> None:
         self.folder, self.loop, self.carries, self.listens, self.parts = folder, loop, carries, listens, parts
         self.windows: dict[int, NearWindow] = {}
+        self.told: dict[int, str] = {}
+        # How many may be made, and since when.
+        self.room, self.since = float(MADE_AT_ONCE), loop.clock()
 
     def take(self, told: dict[int, str]) -> None:
         """Takes the windows that there are: those that are gone are removed, and others made."""
+        self.told = told
         for number, window in list(self.windows.items()):
             if told.get(number) != window.name:
                 self.drop(number)
         if not self.windows:
             self.clean()
-        for number, name in told.items():
-            if number not in self.windows:
-                self.make(number, name)
+        self.make_all()
+
+    def make_all(self) -> None:
+        """Makes the windows that aren't there, as many as may be made now, and the others later."""
+        now = self.loop.clock()
+        self.room, self.since = min(float(MADE_AT_ONCE), self.room + (now - self.since) * MADE_EACH_SECOND), now
+        self.loop.drop(MOMENT)
+        for number, name in self.told.items():
+            if number in self.windows:
+                continue
+            if self.room < 1:
+                self.loop.later(MOMENT, (1 - self.room) / MADE_EACH_SECOND, self.make_all)
+                return
+            self.room -= 1
+            self.make(number, name)
 
     def make(self, number: int, name: str) -> None:
         """Makes a window; where it can't be had that is told."""
@@ -88,6 +112,7 @@ class NearWindows:
 
     def close(self) -> None:
         """Removes all."""
+        self.loop.drop(MOMENT)
         for number in list(self.windows):
             self.drop(number)
         with contextlib.suppress(OSError):

@@ -191,6 +191,16 @@ class Two(unittest.TestCase):
         self.assertTrue(all(len(way.parts) <= bundles.MOST_PARTS for way in self.far.coming.values()))
         self.assertLess(sum(way.size() for way in self.far.coming.values()), KEPT_PARTS * 5 // 4)
 
+    def test_empty_pieces(self):
+        """Pieces without bytes count what it takes to know of them."""
+        for number in range(1, 5):
+            for peer in range(1, 101):
+                for index in range(0, 4000, 4):
+                    self.far.take(peer, number, index, bundles.MOST_PIECES, b"")
+        kept = sum(len(parts) for way in self.far.coming.values() for parts in way.parts.values())
+        self.assertLess(kept * bundles.OVERHEAD, KEPT_PARTS * 5 // 4)
+        self.assertGreater(kept, 4000)
+
     def test_contradicting_counts(self):
         """A bundle whose pieces tell several counts comes whole for one that fits, or never."""
         packed = packed_bundle(joined(typed(1)), 0, b"")

@@ -134,6 +134,26 @@ class Near(Case):
         self.windows.close()
         self.assertEqual(os.listdir(self.folder), [])
 
+    def test_churn(self):
+        """Other windows without end are made at a bounded rate; the same, told again, cost nothing; in the end those are there that were
+        told last."""
+        made = []
+        make = self.windows.make
+        self.patch_of(self.windows, "make", side_effect=lambda number, name: (made.append(number), make(number, name)))
+        for turn in range(50):
+            self.windows.take({number: f"{turn + 1:x}{number:02d}" for number in range(1, 21)})
+            self.now += 0.02
+        self.assertEqual(len(made), 99 + 1)
+        for _ in range(40):
+            self.now += 0.5
+            self.loop.turns(1)
+        self.assertEqual({number: window.name for number, window in self.windows.windows.items()},
+                         {number: f"32{number:02d}" for number in range(1, 21)})
+        before = len(made)
+        for _ in range(1000):
+            self.windows.take(dict(self.windows.told))
+        self.assertEqual(len(made), before)
+
 
 class Numbers(Case):
     """Peers' numbers."""

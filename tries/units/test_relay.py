@@ -233,24 +233,65 @@ class Nears(Ends):
                 self.near = self.near_end()
 
     def test_hostile(self):
-        """A far end that says what can't be is ended, which is told, and another is spawned; the next greets with the session."""
+        """A far end that says what can't be is ended, which is told, and another is spawned, after pauses that grow; the next greets with
+        the session. Ten times end the relay."""
         self.answer()
-        for text in (packed((0, b"")), packed((0, OPEN + b"\0\1panes")), packed((0, BYTES + b"\0")), packed((0, ENDED + b"x")),
+        for count, text in enumerate( (packed((0, b"")), packed((0, OPEN + b"\0\1panes")), packed((0, BYTES + b"\0")), packed((0, ENDED + b"x")),
                      packed((0, HAD + b"1")), packed((0, COUNT.pack(HAD, 1))), packed((1, datagram(1)[:-1])),
-                     packed((1, datagram(1, length=LONGEST + 1))), b"\xff" * 9, zlib.compress(b"") + b"x"):
-            link = self.near.link
+                     packed((1, datagram(1, length=LONGEST + 1))), b"\xff" * 9, zlib.compress(b"") + b"x")):
+            link, pause = self.near.link, min(2 << count, 60)
             link.say(text)
-            before = self.said.getvalue().count("; another is spawned\n")
+            if count == 9:
+                with self.assertRaisesRegex(Fault, "; the other end has said what can't be 10 times, and no other"):
+                    self.turn()
+                break
             self.turn()
-            self.assertEqual(self.said.getvalue().count("; another is spawned\n"), before + 1, text)
+            self.assertEqual(self.said.getvalue().count(f"; another is spawned in {pause} s\n"), max(1, count - 4), text)
             self.assertTrue(link.has_ended and self.near.link is None)
-            self.now += 30
+            self.now += pause - 0.1
+            self.turn()
+            self.assertEqual(len(self.links), count + 1)
+            self.now += 0.1
             self.turn()
             self.assertEqual(self.links[-1].words, (["ssh", "there"], "abc", False))
             self.links[-1].say(greeting("abc"))
             self.turn()
             self.assertIs(self.near.link, self.links[-1])
         self.assertNotIn("Traceback", self.said.getvalue())
+
+    def test_forgiven(self):
+        """Ten minutes in which the other end is sound without a break have what it said before that forgotten."""
+        self.answer()
+        for seconds, count in ((599, 2), (600, 1)):
+            self.near.broken.count = 1
+            self.near.link.say(packed((0, b"")))
+            self.turn()
+            self.now += 4
+            self.turn()
+            self.links[-1].say(greeting("abc"))
+            self.turn()
+            self.near.tend()
+            for _ in range(seconds):
+                self.now += 1
+                self.near.link.stream.heard = self.near.link.stream.moved = self.now
+                self.near.tend()
+            self.assertEqual(self.near.broken.count, count if count > 1 else 0)
+
+    def test_told_often(self):
+        """Windows that are told in quick turn are taken once in a tenth of a second, the newest of them."""
+        self.answer()
+        take = self.patch_of(self.near, "take_windows")
+        for text in (b"n1 a", b"n1 b", b"n1 c"):
+            self.near.hear_windows(text)
+        self.turn()
+        take.assert_called_once_with({1: "a"})
+        self.now += 0.1
+        self.turn()
+        self.assertEqual(take.call_args_list[1:], [mock.call({1: "c"})])
+        self.now += 0.1
+        self.turn()
+        self.near.hear_windows(b"n1 d")
+        self.assertEqual(take.call_args_list[2:], [mock.call({1: "d"})])
 
     def test_whatever(self):
         """Whatever a far end says once it has answered, this one goes on, tells of it in printable words, and keeps little of it."""
@@ -269,7 +310,7 @@ class Nears(Ends):
                 self.assertIn(told, said)
                 self.assertEqual(self.near.link is link, not told)
                 self.near.tries = []
-                self.near.link, self.near.has_answered, self.near.next_try = None, False, 0.0
+                self.near.link, self.near.has_answered, self.near.next_try, self.near.broken.count = None, False, 0.0, 0
                 self.answer()
 
     def test_not_a_datagram(self):
