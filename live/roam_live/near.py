@@ -328,8 +328,8 @@ class Near:
             say(line)
 
     def refuse(self, link: RunningCommand, fault: BadWords | BadStream) -> None:
-        """Goes on without a command whose other end said what can't be; a first one that did is told of, and ends this, and so does one that
-        did too often."""
+        """Goes on without a command whose other end said what can't be; a first one that did is told of, and ends this, and so does one of
+        too many."""
         if not self.has_answered:
             raise fault
         now = time.monotonic()

@@ -26,11 +26,17 @@ if TYPE_CHECKING:
 START_WAIT = 10.0
 END_WAIT = 3.0
 
+# So many seconds a process has for its end whose other end has gone.
+LEFT_WAIT = 0.5
+
 # So many seconds who listens at a socket of the folder has for taking a connection, by which it is known.
 ASK_WAIT = 0.5
 
 # The roles of processes, in words.
 ROLES = {"server": "the server", "relay": "the relay", "shells": "what keeps the shells", "terminals": "the client start"}
+
+# No note has so many characters: one has the command of the panes, which the system bounds.
+MOST_NOTE = 1 << 24
 
 # So much of what a process said that wasn't there in time is told at most.
 SAID_MOST = 500
@@ -42,6 +48,41 @@ def is_note(state: object) -> bool:
         return False
     noted = [state[role] for role in ROLES if role in state]
     return all(isinstance(one, list) and len(one) == 2 and type(one[0]) is int and type(one[1]) in (int, type(None)) for one in noted)
+
+
+def signal_now(process: int, number: int) -> None:
+    """Signals a process, which takes that now: one that was stopped goes on."""
+    with contextlib.suppress(ProcessLookupError):
+        os.kill(process, number)
+        os.kill(process, signal.SIGCONT)
+
+
+def children_of(process: int) -> list[int]:
+    """The processes that one has spawned and that are there; none where the system doesn't tell."""
+    try:
+        return [int(child) for child in pathlib.Path(f"/proc/{process}/task/{process}/children").read_text(encoding="ascii").split()]
+    except (OSError, ValueError):
+        return []
+
+
+def is_filter(process: int) -> bool:
+    """Whether a process is a filter of rows."""
+    try:
+        words = pathlib.Path(f"/proc/{process}/cmdline").read_bytes().split(b"\0")
+    except OSError:
+        return False
+    return len(words) > 1 and os.path.basename(words[0]) == b"roam" and words[1] == b"rows"
+
+
+def end_left(left: list[tuple[int, int | None]]) -> None:
+    """Ends processes that ended by themselves, had nobody stopped them: by force where they don't in time."""
+    for number in (signal.SIGCONT, signal.SIGTERM, signal.SIGKILL):
+        end = time.monotonic() + LEFT_WAIT
+        left = [(process, moment) for process, moment in left if is_running(process, moment)]
+        for process, _ in left:
+            signal_now(process, number)
+        while any(is_running(*one) for one in left) and time.monotonic() < end:
+            time.sleep(0.01)
 
 
 class Processes:
@@ -68,8 +109,9 @@ class Processes:
     def read(self) -> None:
         """Reads what was noted of it: nothing where the note isn't whole."""
         try:
-            state = json.loads(self.note.read_text(encoding="utf-8"))
-        except (OSError, ValueError):
+            with open(self.note, encoding="utf-8") as note:
+                state = json.loads(note.read(MOST_NOTE))
+        except (OSError, ValueError, RecursionError):
             state = None
         self.state: State | None = state if is_note(state) else None
 
@@ -244,11 +286,15 @@ class Processes:
             process = self.process(role)
             if process is None:
                 return
-            with contextlib.suppress(ProcessLookupError):
-                os.kill(process, number)
+            signal_now(process, number)
             end = time.monotonic() + END_WAIT
             while self.runs(role) and time.monotonic() < end:
                 time.sleep(0.01)
+
+    def filters(self) -> list[tuple[int, int | None]]:
+        """The filters of rows that what keeps the shells has spawned, and when they began: nothing else notes them."""
+        keeper = self.process("shells")
+        return [(one, begun(one)) for one in children_of(keeper) if is_filter(one)] if keeper else []
 
     @contextlib.contextmanager
     def whole(self) -> Iterator[None]:

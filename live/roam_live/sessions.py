@@ -14,12 +14,12 @@ import time
 from collections.abc import Iterable, Iterator
 
 from roam_live.brought import LINK
-from roam_live.processes import Processes
+from roam_live.processes import Processes, end_left
 from roam_live.program import (TOOLS, Fault, begun, count_front_ends, end_words, is_listened, is_own_folder, is_stopped, note_end,
                                program, replace_text, say)
 from roam_live.places import ASKED, MOST_STARTS, Places, asked_places
 from roam_live.window_lines import MOST_WINDOWS, name_in
-from roam_live.window_notes import NUMBER, SPARE, STARTS, WINDOWS, WINDOWS_VERSION, note_ends, numbers_in
+from roam_live.window_notes import NUMBER, SPARE, STARTS, WINDOWS, WINDOWS_VERSION, note_ends, numbers_in, stands_ready
 
 NAME = re.compile(r"[A-Za-z0-9_-]{1,32}")
 
@@ -49,11 +49,14 @@ SOCKETS = ("clients", "panes", "terminals", "bells", "shells", *(f"p{pane}" for 
 
 
 def runtime_folder() -> pathlib.Path | None:
-    """The folder that XDG_RUNTIME_DIR offers; one of another user, as after `su`, is told of and not used."""
+    """The folder that XDG_RUNTIME_DIR offers; one of another user, as after `su`, is told of and not used, and one that others may write,
+    who could put another in the place of what lies there, is refused."""
     chosen = os.environ.get("XDG_RUNTIME_DIR")
     if not chosen:
         return None
     if os.path.isdir(chosen) and os.stat(chosen).st_uid == os.getuid():
+        if os.stat(chosen).st_mode & 0o022:
+            raise Fault(f"XDG_RUNTIME_DIR is {chosen}, which others may write; `chmod go-w` on it, or another, is needed")
         return pathlib.Path(chosen, "roam")
     say(f"XDG_RUNTIME_DIR is {chosen}, which is no folder of yours; /tmp has the sessions")
     return None
@@ -64,7 +67,9 @@ def base() -> pathlib.Path:
     """The folder of the user's sessions, which is made where it isn't there, and refused where others may enter it."""
     path = runtime_folder() or pathlib.Path("/tmp", f"roam-{os.getuid()}")
     try:
-        path.mkdir(mode=0o700, exist_ok=True)
+        # What is there and no folder is refused below, as what it is.
+        with contextlib.suppress(FileExistsError):
+            path.mkdir(mode=0o700)
         found = path.lstat()
     except OSError as fault:
         raise Fault(f"{path}: {fault.strerror}") from fault
@@ -351,8 +356,10 @@ class FolderSession(Processes):
     def end_all(self) -> None:
         """Ends the session's processes; the shells hang up their programs once the server is gone."""
         self.note_end()
+        filters = self.filters()
         for role in (self.served, "shells", "terminals"):
             self.end(role)
+        end_left(filters)
 
     def kill(self) -> None:
         """Ends what is left of the session, and removes it; its lock is held."""
@@ -415,13 +422,13 @@ class WindowedSession(FolderSession):
 
     def windows(self) -> list[FolderSession]:
         """The windows that run, in order."""
-        return [window for window in self.all_windows() if not (window.folder / SPARE).exists() and window.find()]
+        return [window for window in self.all_windows() if window.find() and not window.is_spare()]
 
     def window(self, number: int | None = None) -> FolderSession:
         """A window by its number, else the one where somebody was last; Fault where it isn't there."""
         if number is not None:
             named = Window(self, number) if number in numbers_in(str(self.folder_of_windows)) else None
-            if not named or not named.find():
+            if not named or not named.find() or named.is_spare():
                 raise Fault(f"session {self.name} has no window {number}")
             return named
         there = self.windows()
@@ -542,9 +549,11 @@ class WindowedSession(FolderSession):
     def end_all(self) -> None:
         """Ends the keeper, which ends the windows, and those that it left."""
         self.note_end()
+        filters = self.filters()
         self.end(self.served)
         for window in self.all_windows():
             window.end_all()
+        end_left(filters)
 
     def clean(self) -> None:
         """Removes what a session that doesn't run any more left, but for its log and the note of its end."""
@@ -606,6 +615,13 @@ class Window(FolderSession):
         except BaseException:
             self.end_all()
             raise
+
+    def is_spare(self) -> bool:
+        """Whether its server only stands ready, and it is no window: the mark in its folder may be lost, as to a cleaner of old files."""
+        if (self.folder / SPARE).exists():
+            return True
+        is_joined = any(os.path.lexists(self.folder / name) for name in ("shells", "terminals"))
+        return not is_joined and stands_ready(self.process("server"))
 
     def title(self) -> str:
         """What it is called; nothing where it has no name."""

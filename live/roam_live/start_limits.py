@@ -1,5 +1,5 @@
-"""How many new client starts other machines bring to a server, which knows a number of them in its life and gives none back: a start that it
-knows always passes, and new ones come slowly and leave some for the server's own machine.
+"""How many new client starts other machines bring to a server, which knows a number of them in its life and gives none back: a start
+that it knows always passes, and new ones come slowly and leave some for the server's own machine.
 
 All far ends of a window count together: each start that one lets through is a line of a file in the window's folder. A line is written at
 once and never changed, so that an end that is killed leaves nothing half done.

@@ -10,6 +10,9 @@ from roam_live.program import replace_text
 # What lies in a window's folder while its server only stands ready.
 SPARE = "spare"
 
+# What the environment of such a server has, also once it is a window's.
+STANDS_READY = "ROAM_STANDS_READY"
+
 # In a window's folder: which client starts of other machines its server knows.
 STARTS = "starts"
 
@@ -39,6 +42,14 @@ def numbers_in(folder: str) -> list[int]:
     with contextlib.suppress(OSError):
         return sorted(int(name) for name in os.listdir(folder) if NUMBER.fullmatch(name))
     return []
+
+
+def stands_ready(server: int | None) -> bool:
+    """Whether a server was spawned to stand ready for a window."""
+    with contextlib.suppress(OSError):
+        with open(f"/proc/{server}/environ", "rb") as words:
+            return f"{STANDS_READY}=1".encode() in words.read().split(b"\0")
+    return False
 
 
 def note_ends(common: str, lines: list[str]) -> None:

@@ -10,7 +10,7 @@ from roam_live.program import SocketPeer, begun, connected_now, end_words, is_ru
 from roam_live.programs import PANE
 from roam_live.terminal import forked_apart
 from roam_live.window_lines import NO_NAME, name_in, name_word
-from roam_live.window_notes import SPARE, WINDOWS_VERSION, window_folder, windows_folder
+from roam_live.window_notes import SPARE, STANDS_READY, WINDOWS_VERSION, window_folder, windows_folder
 
 TYPE_CHECKING = False
 if TYPE_CHECKING:
@@ -59,7 +59,7 @@ class WindowProcesses:
         try:
             with open(self.path("state.json"), encoding="utf-8") as file:
                 state = json.loads(file.read(MOST_NOTE))
-        except (OSError, ValueError):
+        except (OSError, ValueError, RecursionError):
             return {}
         return dict(state) if is_note(state) else {}
 
@@ -150,7 +150,8 @@ class WindowProcesses:
             os.dup2(nothing, 0)
             os.dup2(2, 1)
             # By the variable programs are known that run in a pane, also of another session, in which this one was begun.
-            os.execve(words[0], words, {name: value for name, value in os.environ.items() if name != PANE})
+            environment = {name: value for name, value in os.environ.items() if name not in (PANE, STANDS_READY)}
+            os.execve(words[0], words, {**environment, **({STANDS_READY: "1"} if self.is_spare() else {})})
         except OSError as fault:
             say(f"window {self.number}: {words[0]} can't be run: {reason(fault)}")
         finally:

@@ -64,6 +64,12 @@ class Read(Based):
                               ({"server": [1, 2, 3]}, False), ({"x": 1}, True), ([], False), (None, False), ({"server": {}}, False)):
             self.assertEqual(is_note(state), is_one, state)
 
+    def test_deep(self):
+        """A note that is nested without end is no note, and fails alone."""
+        for text in ("[" * 100_000, '{"server": ' * 100_000):
+            (self.folder / "state.json").write_text(text, encoding="utf-8")
+            self.assertIsNone(self.session().state)
+
     def test_runs(self):
         """A process runs that began at the moment that is noted."""
         self.note(server=[OWN[0], OWN[1] + 1], shells=OWN)
@@ -190,14 +196,26 @@ class Bases(Case):
         self.assertEqual(sessions.base().name, f"roam-{os.getuid()}")
         self.assertIn("none, which is no folder of yours; /tmp has the sessions\n", self.said.getvalue())
 
+    def test_written(self):
+        """One that others may write is refused."""
+        self.environment(XDG_RUNTIME_DIR=str(self.folder))
+        for mode in (0o777, 0o1777, 0o770, 0o702):
+            self.folder.chmod(mode)
+            sessions.base.cache_clear()
+            with self.assertRaisesRegex(Fault, "^XDG_RUNTIME_DIR is .*, which others may write"):
+                sessions.base()
+        self.folder.chmod(0o755)
+        self.assertEqual(sessions.base(), self.folder / "roam")
+
     def test_open(self):
-        """A folder that others may enter, a link and a file are refused."""
+        """A folder that others may enter, a link and what is no folder are refused in a line that says which it has to be."""
         self.environment(XDG_RUNTIME_DIR=None)
         there = self.folder / f"roam-{os.getuid()}"
-        for made in (lambda: (there.mkdir(), there.chmod(0o750)), lambda: there.symlink_to(self.folder), lambda: there.touch()):
+        for made in (lambda: (there.mkdir(), there.chmod(0o750)), lambda: there.symlink_to(self.folder), lambda: there.touch(),
+                     lambda: os.mkfifo(there), lambda: self.listening(there), lambda: there.symlink_to(self.folder / "none")):
             sessions.base.cache_clear()
             made()
-            with self.assertRaisesRegex(Fault, "has to be a folder that you own and nobody else may enter$|File exists$"):
+            with self.assertRaisesRegex(Fault, "has to be a folder that you own and nobody else may enter$"):
                 sessions.base()
             there.rmdir() if there.is_dir() and not there.is_symlink() else there.unlink()
         with mock.patch("os.getuid", return_value=os.getuid() + 1):
@@ -360,7 +378,9 @@ class Spawned(Based):
         self.patch_of(Processes, "process", lambda session, role: left[0] if left else None)
         kills.side_effect = lambda process, number: left.clear() if number == signal.SIGKILL else None
         self.session_here.end("server")
-        self.assertEqual(kills.call_args_list, [mock.call(7, signal.SIGTERM), mock.call(7, signal.SIGKILL)])
+        # One that was stopped goes on, so that it ends.
+        self.assertEqual(kills.call_args_list, [mock.call(7, number) for number in (signal.SIGTERM, signal.SIGCONT, signal.SIGKILL,
+                                                                                    signal.SIGCONT)])
         self.assertTrue(103.0 <= self.now < 103.1)
         kills.reset_mock()
         self.session_here.end("server")
@@ -368,6 +388,33 @@ class Spawned(Based):
         left[:] = [8]
         kills.side_effect = ProcessLookupError(3, "none")
         self.session_here.end("server")
+
+    def test_stopped(self):
+        """One that was stopped ends as soon as one that wasn't."""
+        process = self.process()
+        self.session_here.state = {"server": [process.pid, begun(process.pid)]}
+        process.send_signal(signal.SIGSTOP)
+        os.waitid(os.P_PID, process.pid, os.WSTOPPED | os.WNOWAIT)
+        self.session_here.end("server")
+        self.assertEqual(-process.wait(), signal.SIGTERM)
+
+    def test_filters(self):
+        """Filters of rows that what keeps the shells left stopped are ended with it, and nothing else that it spawned is."""
+        one, other = self.process(), self.process()
+        self.patch_of(processes, "children_of", return_value=[one.pid, other.pid])
+        self.patch_of(processes, "is_filter", side_effect=lambda process: process == one.pid)
+        self.session_here.state = {"shells": OWN}
+        self.assertEqual(self.session_here.filters(), [(one.pid, begun(one.pid))])
+        one.send_signal(signal.SIGSTOP)
+        os.waitid(os.P_PID, one.pid, os.WSTOPPED | os.WNOWAIT)
+        processes.end_left(self.session_here.filters())
+        self.assertEqual((-one.wait(), other.poll()), (signal.SIGTERM, None))
+
+    def test_is_filter(self):
+        """A filter is known by its words."""
+        texts = {"5": b"/x/roam\0rows\0--as-meant\0", "6": b"/x/roam\0serve\0rows\0", "7": b"vi\0rows\0", "8": b""}
+        self.patch_of(processes.pathlib, "Path", side_effect=lambda path: mock.Mock(read_bytes=lambda: texts[path.split("/")[2]]))
+        self.assertEqual([processes.is_filter(int(number)) for number in texts], [True, False, False, False])
 
     def test_lock(self):
         """Who waits for another longer than half a second says so."""

@@ -236,9 +236,10 @@ class Nears(Ends):
         """A far end that says what can't be is ended, which is told, and another is spawned, after pauses that grow; the next greets with
         the session. Ten times end the relay."""
         self.answer()
-        for count, text in enumerate( (packed((0, b"")), packed((0, OPEN + b"\0\1panes")), packed((0, BYTES + b"\0")), packed((0, ENDED + b"x")),
-                     packed((0, HAD + b"1")), packed((0, COUNT.pack(HAD, 1))), packed((1, datagram(1)[:-1])),
-                     packed((1, datagram(1, length=LONGEST + 1))), b"\xff" * 9, zlib.compress(b"") + b"x")):
+        texts = (packed((0, b"")), packed((0, OPEN + b"\0\1panes")), packed((0, BYTES + b"\0")), packed((0, ENDED + b"x")),
+                 packed((0, HAD + b"1")), packed((0, COUNT.pack(HAD, 1))), packed((1, datagram(1)[:-1])),
+                 packed((1, datagram(1, length=LONGEST + 1))), b"\xff" * 9, zlib.compress(b"") + b"x")
+        for count, text in enumerate(texts):
             link, pause = self.near.link, min(2 << count, 60)
             link.say(text)
             if count == 9:

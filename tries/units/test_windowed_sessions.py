@@ -76,6 +76,22 @@ class Found(Sessions):
         with self.assertRaisesRegex(Fault, "^session old has one window, as an earlier roam's, and no window 2$"):
             FolderSession(self.base / "old").window(2)
 
+    def test_spare(self):
+        """A server that only stands ready is no window, and can't be named: by its mark, or where that is lost by its environment, while
+        nobody has joined it."""
+        session, server = self.session(), self.process(env={"ROAM_STANDS_READY": "1"})
+        folder = self.noted("main", 7, server=[server.pid, begun(server.pid)])
+        for mark, numbers in (("spare", [2]), (None, [2]), ("shells", [2, 7]), ("terminals", [2, 7])):
+            if mark:
+                (folder / mark).touch()
+            self.assertEqual([window.number for window in session.windows()], numbers, mark)
+            if 7 not in numbers:
+                with self.assertRaisesRegex(Fault, "^session main has no window 7$"):
+                    session.window(7)
+            if mark:
+                (folder / mark).unlink()
+        self.assertNotIn("2 windows", session.line())
+
     def test_keeper_gone(self):
         """Where its keeper has ended it is there while a server runs, and that is listed."""
         session = self.session()

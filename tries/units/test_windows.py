@@ -11,7 +11,7 @@ from aids import Case, StillLoop, read_now
 from roam_live import mending, pane_commands, program, window_processes, window_shells, windows
 from roam_live.program import Fault, begun
 from roam_live.window_lines import ASKED_AGAIN, MOST_WINDOWS, name_in, name_word
-from roam_live.window_notes import note_ends, numbers_in
+from roam_live.window_notes import note_ends, numbers_in, stands_ready
 from roam_live.window_processes import SERVER, TERMINALS, WindowProcesses
 from roam_live.windows import ENDING, ENDS, FULL, OPENS, OVER, THERE, Windows
 
@@ -645,6 +645,24 @@ class Noted(Case):
             pass
         self.assertEqual((processes.state()[SERVER], os.getsid(process)), ([process, begun(process)], process))
         self.assertTrue(processes.runs(SERVER))
+        self.assertFalse(stands_ready(process))
+
+    def test_stands_ready(self):
+        """A server that only stands ready is known by its environment too, which no other process has of it."""
+        self.environment(ROAM_STANDS_READY="1")
+        processes = WindowProcesses(str(self.made_folder()), 4)
+        processes.make_folder()
+        for is_spare in (False, True):
+            if is_spare:
+                processes.mark_spare(True)
+            told = self.made_folder() / "told"
+            process = processes.spawn(SERVER, ["/bin/sh", "-c", f"echo > {told}; exec sleep 60"])
+            self.addCleanup(os.waitpid, process, 0)
+            self.addCleanup(os.kill, process, signal.SIGKILL)
+            while not told.exists():
+                pass
+            self.assertEqual(stands_ready(process), is_spare)
+        self.assertFalse(stands_ready(None))
 
     def test_ended_at_once(self):
         """One that is told to end before it runs its words does, and the keeper isn't told of that by its own signals."""
