@@ -4,7 +4,8 @@ from __future__ import annotations
 import contextlib
 import os
 import pathlib
-from collections.abc import Iterable
+from collections import namedtuple
+from collections.abc import Iterable, Iterator
 
 from roam_live.words import printable
 
@@ -14,8 +15,11 @@ SHELLS = {"sh", "ash", "bash", "dash", "zsh", "fish", "ksh", "mksh", "csh", "tcs
 # What tells a program in a pane which pane that is: the folder of its window, and its number there.
 PANE = "ROAM_PANE"
 
-# The places of a process's foreground group behind its name in /proc, from 0.
-FOREGROUND = 5
+# Where a process's state, process group, session and foreground process group are in /proc/PID/stat, counted from 0 behind its name.
+STATE, GROUP, SESSION, FOREGROUND = 0, 2, 3, 5
+
+# A question names at most so many jobs of a pane.
+MOST_NAMED = 3
 
 
 def busy_panes(shells: int, folder: str = "") -> dict[int, str] | None:
@@ -31,16 +35,81 @@ def busy_programs(shells: int) -> dict[tuple[str, int], str] | None:
         own = pathlib.Path(f"/proc/{shells}/task/{shells}/children").read_text(encoding="utf-8").split()
     except OSError:
         return None
+    jobs = jobs_of(int(process) for process in own)
     found = {}
     for process in own:
-        pane, name = pane_of(process), foreground(process)
-        if name and not is_shell(name):
+        pane, names = pane_of(process), running(process, jobs[int(process)])
+        if names:
             if pane is None:
                 return None
-            found[pane] = name
+            found[pane] = names
     # What is to become a pane's command isn't that yet, and other processes are none.
     found.pop(NOWHERE, None)
     return found
+
+
+def running(process: str, jobs: list[str]) -> str:
+    """Name what closing the pane of this session leader would end: a program other than a shell in front, and the jobs of the session.
+    Return "" if there is nothing, or if the process has ended."""
+    front = foreground(process)
+    names = [front, *jobs] if front and not is_shell(front) and front not in jobs else jobs if front else []
+    more = [f"{len(names) - MOST_NAMED} more"] if len(names) > MOST_NAMED else []
+    return " and ".join(filter(None, (", ".join(names[:MOST_NAMED]), *more)))
+
+
+class Process(namedtuple("Process", "number name state group session front")):
+    """A process as /proc/PID/stat describes it. `front` is the foreground process group of its terminal."""
+
+    number: int
+    name: str
+    state: str
+    group: int
+    session: int
+    front: int
+
+
+def processes() -> Iterator[Process]:
+    """Yield the processes that /proc shows to this user, without those that have ended. If /proc is mounted with `hidepid`, the processes
+    of other users are missing."""
+    for number in filter(str.isdigit, os.listdir("/proc")):
+        with contextlib.suppress(OSError, IndexError, ValueError):
+            text = pathlib.Path(f"/proc/{number}/stat").read_text(encoding="utf-8", errors="replace")
+            name, _, rest = text.partition("(")[2].rpartition(")")
+            words = rest.split()
+            if words[STATE] not in "ZXx":
+                yield Process(int(number), name, words[STATE], *(int(words[place]) for place in (GROUP, SESSION, FOREGROUND)))
+
+
+def jobs_in(leader: int) -> list[str]:
+    """Return the names of the jobs in the session of this session leader: see `jobs_of`."""
+    return jobs_of([leader])[leader]
+
+
+def jobs_of(leaders: Iterable[int]) -> dict[int, list[str]]:
+    """Return for each of these session leaders the names of the jobs in its session: of the process groups other than its own.
+
+    The group in front is first, by its name alone; `(stopped)` or `(background)` follows the names of the others. A process that left the
+    session by setsid(2) isn't ended with the pane, so it is no job.
+    """
+    found: dict[int, dict[int, list[Process]]] = {leader: {} for leader in leaders}
+    for process in processes() if found else ():
+        if process.group != process.session and process.session in found:
+            found[process.session].setdefault(process.group, []).append(process)
+    return {leader: [job_name(group) for group in sorted(groups.values(), key=is_behind)] for leader, groups in found.items()}
+
+
+def is_behind(group: list[Process]) -> bool:
+    """Return True if another process group than this one has the terminal."""
+    return group[0].front != group[0].group
+
+
+def job_name(group: list[Process]) -> str:
+    """Name a process group by its leader, else by another of its processes, and say what it does if it isn't in front."""
+    leader = next((process for process in group if process.number == process.group), group[0])
+    name = printable(leader.name) or "a program"
+    if not is_behind(group):
+        return name
+    return f"{name} (stopped)" if all(process.state in "Tt" for process in group) else f"{name} (background)"
 
 
 # The pane of a process that is in none.

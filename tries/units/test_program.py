@@ -407,6 +407,35 @@ class Running(Case):
         self.assertEqual((programs.foreground(10), programs.foreground(99)), ("bash", ""))
         self.assertEqual((programs.pane_of(30), programs.pane_of(50)), (("/x:y/main", 3), ("", 0)))
 
+    def test_jobs(self):
+        """A shell with a stopped job, one in the background or another program in front is busy, and one alone isn't. The ended don't
+        count, nor do processes that left the session."""
+        self.environment(SHELL="/opt/mine")
+        panes = {f"{one}0/environ": f"ROAM_PANE=/w:{one}\0" for one in range(1, 7)}
+        self.patch_of(programs.os, "listdir", return_value=["7", "10", "11", "12", "20", "21", "22", "23", "30", "31", "40", "41", "42", "50",
+                                                           "51", "60", "62", "self", "99"])
+        stats = {10: "bash S 10 10 10", 11: "vim T 11 10 10", 12: "rg T 11 10 10", 20: "zsh S 20 20 20", 21: "(a) S 21 20 20",
+                 22: "make S 22 20 20", 23: "cc Z 23 20 20", 30: "bash S 30 30 30", 31: "old Z 31 30 30", 40: "sh S 40 40 41",
+                 41: "fish S 41 40 41", 42: "vi T 42 40 41", 50: "sh S 50 50 50", 51: "apart S 51 51 51", 60: "htop S 60 60 60",
+                 62: "cat S 61 60 60", 99: "other S 99 98 -1"}
+        for number, text in stats.items():
+            name, state, group, session, front = text.split()
+            stats[number] = f"{number} ({name}) {state} 7 {group} {session} 34817 {front} 4194304 1 0"
+        names = {f"{number}/comm": text.partition("(")[2].rpartition(")")[0] + "\n" for number, text in stats.items()}
+        self.proc({"7/task/7/children": "10 20 30 40 50 60 ", **panes, **{f"{number}/stat": text for number, text in stats.items()}, **names})
+        self.assertEqual([programs.jobs_in(leader) for leader in (10, 20, 30, 40, 50, 60, 70)],
+                         [["vim (stopped)"], ["(a) (background)", "make (background)"], [], ["fish", "vi (stopped)"], [],
+                          ["cat (background)"], []])
+        self.assertEqual(programs.busy_panes(7), {1: "vim (stopped)", 2: "(a) (background), make (background)", 4: "fish, vi (stopped)",
+                                                  6: "htop, cat (background)"})
+
+    def test_many_jobs(self):
+        """A question names three jobs of a pane, and how many more there are."""
+        self.proc({"10/stat": "10 (bash) S 7 10 10 34817 10 4194304", "10/comm": "bash\n"})
+        for count, told in ((1, "a0"), (3, "a0, a1, a2"), (5, "a0, a1, a2 and 2 more")):
+            self.assertEqual(programs.running("10", [f"a{place}" for place in range(count)]), told)
+        self.assertEqual(programs.running("11", ["vi"]), "")
+
     def test_shells(self):
         self.environment(SHELL="/opt/mine")
         found = [programs.is_shell(name) for name in ("sh", "-bash", "fish", "mine", "vi", "shx", "")]
