@@ -7,7 +7,7 @@ import time
 from collections.abc import Callable
 
 from roam_live.loops import READ, WRITE, ready
-from roam_live.program import Fault, SocketPeer, connected_now, read, reason
+from roam_live.program import Fault, SocketPeer, connected_now, is_disk_full, read, reason
 from roam_live.told import NoRecord, Records
 
 TYPE_CHECKING = False
@@ -19,6 +19,9 @@ if TYPE_CHECKING:
 # The pauses before a start is spawned anew; a connection that lasted so long had no fault at its start.
 PAUSES = (0.1, 1, 2, 4, 8, 15)
 SOUND = 5.0
+
+# While no room is left on the disk it is tried so often: a start is had as soon as there is some.
+FULL_PAUSE = 1.0
 
 # So many seconds a start has for its socket, and how often it is looked for.
 READY_WAIT = 10.0
@@ -262,7 +265,8 @@ class Keeper:
 
     def pause(self) -> float:
         """The seconds until it is tried anew."""
-        return PAUSES[min(self.faults, len(PAUSES)) - 1] if self.faults else 0.0
+        pause = PAUSES[min(self.faults, len(PAUSES)) - 1] if self.faults else 0.0
+        return min(pause, FULL_PAUSE) if pause and is_disk_full(self.link.path) else pause
 
     def connected(self) -> str:
         """Takes note of a link that is there, and tells what was lost with the one before."""

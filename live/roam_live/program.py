@@ -3,6 +3,7 @@ from __future__ import annotations
 
 import contextlib
 import errno
+import fcntl
 import os
 import pathlib
 import select
@@ -323,6 +324,27 @@ def replace_text(path: str | os.PathLike[str], text: str, new: str | None = None
         with contextlib.suppress(OSError):
             os.unlink(new)
         raise
+
+
+def is_disk_full(path: str | os.PathLike[str]) -> bool:
+    """Whether nothing more can be written beside a file, for want of blocks or of files."""
+    try:
+        found = os.statvfs(os.path.dirname(path))
+    except OSError:
+        return False
+    return found.f_blocks > 0 and found.f_bavail == 0 or found.f_files > 0 and found.f_favail == 0
+
+
+def is_locked(folder: str | os.PathLike[str]) -> bool:
+    """Whether a process holds a folder, as one does that stays while what lies there is used."""
+    end = os.open(folder, os.O_RDONLY | os.O_DIRECTORY | os.O_CLOEXEC)
+    try:
+        fcntl.flock(end, fcntl.LOCK_EX | fcntl.LOCK_NB)
+    except BlockingIOError:
+        return True
+    finally:
+        os.close(end)
+    return False
 
 
 def is_own_folder(path: str | os.PathLike[str]) -> bool:

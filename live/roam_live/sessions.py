@@ -15,8 +15,8 @@ from collections.abc import Iterable, Iterator
 
 from roam_live.brought import LINK
 from roam_live.processes import Processes, end_left
-from roam_live.program import (TOOLS, Fault, begun, count_front_ends, end_words, is_listened, is_own_folder, is_stopped, note_end,
-                               program, replace_text, say)
+from roam_live.program import (TOOLS, Fault, begun, count_front_ends, end_words, is_listened, is_locked, is_own_folder, is_stopped,
+                               note_end, program, replace_text, say)
 from roam_live.places import ASKED, MOST_STARTS, Places, asked_places
 from roam_live.window_lines import MOST_WINDOWS, name_in
 from roam_live.window_notes import NUMBER, SPARE, STARTS, WINDOWS, WINDOWS_VERSION, note_ends, numbers_in, stands_ready
@@ -41,6 +41,14 @@ ALONE = 3600
 
 # So many seconds it is waited for being told whether there is room for a start, before it is spawned: a person waits for that.
 ROOM_ASKED = 0.25
+
+# So many seconds it is waited for what keeps a session, where nothing is left that it keeps.
+END_SOON = 1.0
+
+# So many seconds the log of a session that has ended stays; and the files of which a process that was killed while it wrote one leaves
+# another, with its number behind the name.
+LOG_KEPT = 86400.0
+WRITTEN = ("ended", "state.json", "session", "attached")
 
 # From so many starts on `mux ls` tells how many a server knows.
 MANY_STARTS = 32
@@ -98,6 +106,14 @@ def sessions_here() -> list[FolderSession]:
         with contextlib.suppress(Fault):
             own += [session_in(path)] if NAME.fullmatch(path.name) else []
     return own + [NearSession(path) for path in folders if NEAR_NAME.fullmatch(path.name)]
+
+
+def sweep() -> None:
+    """Cleans up after the sessions of this machine that ended while nobody was there who did."""
+    for session in sessions_here():
+        with contextlib.suppress(Fault):
+            if session.served != NearSession.served and not session.find():
+                session.drop_ended()
 
 
 def session_in(folder: pathlib.Path) -> FolderSession:
@@ -273,6 +289,7 @@ class FolderSession(Processes):
     def launch(self, command: Iterable[str] = ()) -> None:
         """Launches the server and its shells, or a command in place of each shell; all or nothing."""
         self.clean()
+        self.forget_front_ends()
         self.state = {"version": VERSION, "command": list(command)}
         before = self.logged()
         with self.whole():
@@ -343,15 +360,23 @@ class FolderSession(Processes):
         nothing is removed."""
         if self.is_served():
             raise Fault(f"somebody answers at {self.folder / 'clients'}; nothing is removed there")
-        folders = [self.folder / name for name in ("attached", "relays")]
+        # A front end that is there still reads how it ended.
+        count_front_ends(self.folder)
+        relays = self.folder / "relays"
         # An earlier roam left `rects`.
         notes = [self.folder / name for name in (*SOCKETS, LINK, STARTS, "rects", "session", "session.new", "state.json")]
-        for path in [*(note for folder in folders if folder.is_dir() for note in folder.iterdir()), *notes]:
+        for path in [*(relays.iterdir() if relays.is_dir() else ()), *notes]:
             path.unlink(missing_ok=True)
         if self.served == "relay":
             import shutil
 
             shutil.rmtree(self.folder / WINDOWS, ignore_errors=True)
+
+    def forget_front_ends(self) -> None:
+        """Has no front end counted that was at one of this name before."""
+        attached = self.folder / "attached"
+        for note in attached.iterdir() if attached.is_dir() else ():
+            note.unlink(missing_ok=True)
 
     def end_all(self) -> None:
         """Ends the session's processes; the shells hang up their programs once the server is gone."""
@@ -370,6 +395,35 @@ class FolderSession(Processes):
         """Removes what is left of a session that has ended; its lock is held, since one that is being spawned looks like that too."""
         if not self.find():
             self.kill()
+            with contextlib.suppress(OSError):
+                self.leave()
+
+    def leave(self) -> None:
+        """Removes the folder of one that has ended, unless somebody is there still; its log stays for a day, where it tells something."""
+        attached, ended = self.folder / "attached", self.folder / "ended"
+        if count_front_ends(self.common) or is_locked(self.folder):
+            return
+        if self.log.exists() and (attached.is_dir() or ended.exists()):
+            # It has ended just now.
+            os.utime(self.log)
+        for path in [ended, *(path for path in self.folder.iterdir() if path.stem in WRITTEN and path.suffix[1:].isdigit())]:
+            path.unlink(missing_ok=True)
+        for folder in (attached, self.folder / "relays"):
+            if folder.is_dir():
+                folder.rmdir()
+        if not self.logged() or time.time() > self.log.stat().st_mtime + LOG_KEPT:
+            self.log.unlink(missing_ok=True)
+        (self.folder / "lock").unlink(missing_ok=True)
+        if not self.log.exists():
+            self.folder.rmdir()
+
+    def await_end(self) -> None:
+        """Waits for the end of what ends soon once nothing is served, where there is such a process."""
+
+    def drop_ended(self) -> None:
+        """Cleans up after one that has ended, where nobody launches it anew."""
+        with contextlib.suppress(OSError), self.locked(may_wait=False):
+            self.tidy()
 
     def close(self) -> None:
         """Lets it go: its processes stay."""
@@ -378,13 +432,9 @@ class FolderSession(Processes):
 
     def listed(self) -> str:
         """What `mux ls` says of it: nothing of one that has ended, which is cleaned up where nobody launches it anew."""
-        if self.find():
-            return self.line()
-        if self.state:
-            with contextlib.suppress(BlockingIOError), self.locked(may_wait=False):
-                self.tidy()
-                return self.line() if self.runs() else ""
-        return ""
+        if not self.find():
+            self.drop_ended()
+        return self.line() if self.runs() else ""
 
     def line(self) -> str:
         """What `mux ls` says of it."""
@@ -479,6 +529,7 @@ class WindowedSession(FolderSession):
     def launch(self, command: Iterable[str] = ()) -> None:
         """Launches what keeps its windows, and the server of the first, with a command in place of each shell; all or nothing."""
         self.clean()
+        self.forget_front_ends()
         self.state = {"version": self.version, "command": list(command)}
         window = Window(self, FIRST)
         window.name = self.name
@@ -541,6 +592,12 @@ class WindowedSession(FolderSession):
             except BaseException:
                 self.end_all()
                 raise
+
+    def await_end(self) -> None:
+        """Waits for what keeps its windows, which ends soon once there are none."""
+        end = time.monotonic() + END_SOON
+        while self.runs(self.served) and not self.windows() and time.monotonic() < end:
+            time.sleep(0.01)
 
     def note_end(self) -> None:
         """Notes that its windows' servers are about to be ended on purpose."""
@@ -758,6 +815,7 @@ class NearSession(FolderSession):
         """Starts a relay over a command, which may ask at this terminal until it has answered, and by UDP to a host, where one is named;
         tells the status of one that didn't answer, and leaves no folder then."""
         self.clean()
+        self.forget_front_ends()
         (self.folder / "ended").unlink(missing_ok=True)
         self.state = {"version": VERSION}
         words = [str(TOOLS / "relay"), "--alone", str(ALONE), "--log", str(self.log), *([f"--host={host}"] if host else [])]

@@ -320,6 +320,18 @@ class Kept(Linked):
         self.keeper.lost()
         self.assertEqual((self.keeper.pause(), self.keeper.faults), (0.1, 1))
 
+    def test_full(self):
+        """On a full disk it is tried each second."""
+        full = self.patch("roam_live.links.is_disk_full", return_value=True)
+        found = []
+        for _ in range(8):
+            self.link.since = self.now - 1
+            self.keeper.lost()
+            found.append(self.keeper.pause())
+        full.return_value = False
+        self.assertEqual((found, self.keeper.pause()), ([0.1, *[1.0] * 7], 15))
+        full.assert_called_with(self.link.path)
+
     def test_revived(self):
         """Where nobody listens a start is started, which has ten seconds; then why it can't be had is told."""
         self.gone()

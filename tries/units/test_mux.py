@@ -33,6 +33,8 @@ class Mux(Case):
         self.follows = self.patch_of(front_end, "follow", return_value=7)
         self.is_terminal = True
         self.patch_of(mux.os, "isatty", lambda end: self.is_terminal)
+        # What others left is no matter either.
+        self.sweeps = self.patch_of(mux, "sweep")
         self.runs, self.done = set(), []
         for name in ("launch", "spawn_shells", "demand_terminals", "demand_shells", "demand_ready", "note_found", "kill", "end_all",
                      "tidy"):
@@ -209,6 +211,7 @@ class Starts(Mux):
                 self.assertEqual(self.mux("kill", "main"), status)
         self.assertEqual(self.said.getvalue(), "session main runs vi in pane 1; end it? [y/N] " * 3)
         self.assertEqual(self.done, [("end_all", "main"), ("tidy", "main")])
+        self.sweeps.assert_called_once_with()
         self.runs.add("main")
         self.assertEqual(self.mux("kill", "-f", "main"), 0)
 

@@ -453,6 +453,15 @@ class Running(Case):
 class Numbers(Case):
     """What the pages say of numbers: README, roam-mux(1), PROTOCOL and the help texts."""
 
+    def test_full(self):
+        """A disk is full where it has no blocks or no files left; one that counts neither never is."""
+        for blocks, left, files, free, wanted in ((9, 0, 9, 9, True), (9, 9, 9, 0, True), (9, 1, 9, 1, False), (0, 0, 0, 0, False)):
+            found = mock.Mock(f_blocks=blocks, f_bavail=left, f_files=files, f_favail=free)
+            with mock.patch("os.statvfs", return_value=found) as asked:
+                self.assertIs(program.is_disk_full("/x/y/terminals"), wanted)
+            asked.assert_called_once_with("/x/y")
+        self.assertFalse(program.is_disk_full("/nowhere/at/all"))
+
     def test_limits(self):
         self.assertEqual((program.LONGEST_WAIT, program.SAID_AFTER, program.UNREAD_LIMIT, program.LONGEST_LINE), (10.0, 0.5, 65536, 65536))
         self.assertEqual((logs.LOG_LIMIT, logs.KEPT, words.SAID_LIMIT), (1 << 20, 1 << 19, 64 * 1024))

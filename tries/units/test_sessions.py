@@ -8,6 +8,7 @@ import socket
 import subprocess
 import sys
 import tempfile
+import time
 import unittest
 from unittest import mock
 
@@ -73,9 +74,44 @@ class Listed(Sessions):
     """What a list of sessions tells, and removes."""
 
     def test_ended(self):
-        """One that has ended isn't told, and what it left goes, but for its log."""
+        """One that has ended isn't told, and what it left goes, with its folder."""
+        for name in ("state.json.77", "ended.8", "attached.9"):
+            (self.folder / name).touch()
         self.assertEqual(FolderSession.named("main").listed(), "")
+        self.assertFalse(self.folder.exists())
+
+    def test_log_kept(self):
+        """Its log stays for a day after its end, where it tells something."""
+        (self.folder / "log").write_text("why\n", encoding="utf-8")
+        os.utime(self.folder / "log", (5.0, 5.0))
+        (self.folder / "ended").touch()
+        for seconds, names in ((0, ["log"]), (86390, ["log"]), (86410, [])):
+            with mock.patch("time.time", return_value=time.time() + seconds):
+                sessions.sweep()
+            self.assertEqual(self.names() if self.folder.exists() else [], names)
+
+    def test_followed(self):
+        """While a front end is there that reads how it ended, that stays, and the front end's note does; then all goes."""
+        (self.folder / "attached").mkdir()
+        own = self.folder / "attached" / str(os.getpid())
+        own.write_text(f"{begun(os.getpid())} edits\n", encoding="ascii")
+        (self.folder / "attached/1").write_text("7 edits\n", encoding="ascii")
+        (self.folder / "ended").touch()
+        sessions.sweep()
+        self.assertEqual((self.names(), self.names(self.folder / "attached")), (["attached", "ended", "lock", "log"], [own.name]))
+        own.unlink()
+        sessions.sweep()
+        self.assertFalse(self.folder.exists())
+
+    def test_held(self):
+        """So it is while a process holds the folder that nobody finds."""
+        held = os.open(self.folder, os.O_RDONLY)
+        fcntl.flock(held, fcntl.LOCK_SH)
+        sessions.sweep()
         self.assertEqual(self.names(), ["lock", "log"])
+        os.close(held)
+        sessions.sweep()
+        self.assertFalse(self.folder.exists())
 
     def test_begun_anew(self):
         """One that is begun anew after its old note was read is told, and nothing of it is removed."""
@@ -180,7 +216,7 @@ class Found(Sessions):
         self.assertEqual(server.wait(10), -15)
         with session.locked():
             session.tidy()
-        self.assertEqual(self.names(), ["ended", "lock", "log"])
+        self.assertFalse(self.folder.exists())
 
 
 class Starts(Sessions):
