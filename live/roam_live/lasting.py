@@ -3,13 +3,14 @@ from __future__ import annotations
 
 import contextlib
 import errno
+import fcntl
 import os
 import time
 from collections.abc import Callable, Iterator
 
 # So many seconds after it was used last what lies in the folder is used again, and so often it is looked whether that is due: by the
 # clock of the day, which goes on while the machine sleeps.
-DAILY = 86400.0
+USED_EACH = 21600.0
 LOOKS = 60.0
 
 
@@ -22,6 +23,8 @@ class Lasting:
         self.session: bytes | None = None
         self.used_at = float("-inf")
         self.due = time.monotonic()
+        # Whether it is held, and by which descriptor.
+        self.is_wanted, self.held = False, -1
 
     def found(self) -> tuple[int, int] | None:
         """Which folder is there; None where none is."""
@@ -45,12 +48,37 @@ class Lasting:
             self.demand()
         except OSError:
             return False
+        if self.is_wanted:
+            self.hold()
         self.keep_session()
         now = self.clock()
-        if not self.used_at <= now < self.used_at + DAILY:
+        if not self.used_at <= now < self.used_at + USED_EACH:
             self.used_at = now
             self.use()
         return True
+
+    def hold(self) -> None:
+        """Has this process hold the folder from now on, by a lock of its own: cleaners as systemd-tmpfiles pass over a folder that is held,
+        with all below it; and who finds neither notes nor sockets there finds this process. Where another holds it now that is tried again
+        with each look."""
+        self.is_wanted = True
+        if self.held >= 0:
+            return
+        with contextlib.suppress(OSError):
+            end = os.open(self.folder, os.O_RDONLY | os.O_DIRECTORY | os.O_CLOEXEC)
+            try:
+                fcntl.flock(end, fcntl.LOCK_EX | fcntl.LOCK_NB)
+                self.held = end
+            finally:
+                if self.held != end:
+                    os.close(end)
+
+    def let_go(self) -> None:
+        """Holds it no more."""
+        self.is_wanted = False
+        if self.held >= 0:
+            os.close(self.held)
+            self.held = -1
 
     def is_missing(self, name: str) -> bool:
         """Whether a file isn't there."""
@@ -76,8 +104,20 @@ class Lasting:
                 os.utime(path, follow_symlinks=False)
 
     def paths(self) -> Iterator[str]:
-        """The folder, what lies there, and the notes of clients and of far ends, and windows."""
+        """The folder, what lies there, and the notes of clients and of far ends, and windows with what lies in their folders."""
         yield self.folder
-        for folder in (self.folder, *(os.path.join(self.folder, name) for name in ("attached", "relays", "w"))):
-            with contextlib.suppress(OSError):
-                yield from [entry.path for entry in os.scandir(folder)]
+        windows = os.path.join(self.folder, "w")
+        for folder in (self.folder, *(os.path.join(self.folder, name) for name in ("attached", "relays")), windows):
+            found = entries_in(folder)
+            yield from found
+            if folder == windows:
+                for window in found:
+                    yield from entries_in(window)
+
+
+def entries_in(folder: str) -> list[str]:
+    """The paths of what lies in a folder; none where it can't be read, or is none."""
+    try:
+        return [entry.path for entry in os.scandir(folder)]
+    except OSError:
+        return []

@@ -274,6 +274,15 @@ def begun(process: int) -> int | None:
     return None if not words or words[0] in "ZX" else int(words[19])
 
 
+def age_of(process: int) -> float:
+    """For how many seconds a process has been there; 0 where that isn't known."""
+    moment = begun(process)
+    with contextlib.suppress(OSError, ValueError):
+        with open("/proc/uptime", encoding="ascii") as uptime:
+            return float(uptime.read().split()[0]) - moment / os.sysconf("SC_CLK_TCK") if moment is not None else 0.0
+    return 0.0
+
+
 def is_stopped(process: int) -> bool:
     """Whether a process was stopped, and goes on only once it is continued."""
     return stated(process)[:1] in (["T"], ["t"])
@@ -344,6 +353,30 @@ def is_locked(folder: str | os.PathLike[str]) -> bool:
         return True
     finally:
         os.close(end)
+    return False
+
+
+def holder_of(folder: str | os.PathLike[str]) -> int | None:
+    """The process that holds a folder, as the system tells it; None where none does, or it isn't seen."""
+    try:
+        found = os.stat(folder)
+        with open("/proc/locks", encoding="ascii", errors="replace") as locks:
+            words = [line.split() for line in locks]
+    except OSError:
+        return None
+    # A line has its number, the kind, two words more, the process, and the file's system and number.
+    ours = [line[4] for line in words if len(line) > 5 and line[1] == "FLOCK" and line[5].endswith(f":{found.st_ino}")]
+    holders = [int(word) for word in ours if word.isdigit()]
+    return next((process for process in holders if has_open(process, found)), None)
+
+
+def has_open(process: int, file: os.stat_result) -> bool:
+    """Whether a process has a file open."""
+    with contextlib.suppress(OSError):
+        for end in os.listdir(f"/proc/{process}/fd"):
+            with contextlib.suppress(OSError):
+                if os.path.samestat(file, os.stat(f"/proc/{process}/fd/{end}")):
+                    return True
     return False
 
 

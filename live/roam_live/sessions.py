@@ -14,9 +14,9 @@ import time
 from collections.abc import Iterable, Iterator
 
 from roam_live.brought import LINK
-from roam_live.processes import Processes, end_left
-from roam_live.program import (TOOLS, Fault, begun, count_front_ends, end_words, is_listened, is_locked, is_own_folder, is_stopped,
-                               note_end, program, replace_text, say)
+from roam_live.processes import START_WAIT, Processes, end_left
+from roam_live.program import (TOOLS, Fault, age_of, begun, count_front_ends, end_words, holder_of, is_listened, is_locked,
+                               is_own_folder, is_stopped, note_end, program, replace_text, say)
 from roam_live.places import ASKED, MOST_STARTS, Places, asked_places
 from roam_live.window_lines import MOST_WINDOWS, name_in
 from roam_live.window_notes import NUMBER, SPARE, STARTS, WINDOWS, WINDOWS_VERSION, note_ends, numbers_in, stands_ready
@@ -262,6 +262,7 @@ class FolderSession(Processes):
         if self.runs():
             return True
         process = self.listener(self.sockets[self.served])
+        process = self.holder() if process is None else process
         if process is None:
             return False
         found: dict[str, int | None] = {self.served: process}
@@ -273,6 +274,10 @@ class FolderSession(Processes):
         self.state = {"version": self.version, "command": command, **{role: [one, begun(one)] for role, one in found.items() if one}}
         self.is_found = True
         return self.runs()
+
+    def holder(self) -> int | None:
+        """The process that serves, by the folder that it holds, where neither a note nor a socket is left; None where it holds none."""
+        return None
 
     def demand(self) -> None:
         """Refuses where it doesn't run."""
@@ -338,7 +343,11 @@ class FolderSession(Processes):
         if earlier is not None:
             with contextlib.suppress(Fault):
                 return self.listener(self.sockets["terminals"]) not in (None, earlier)
-        return self.runs("terminals") or is_listened(self.terminals)
+        if is_listened(self.terminals):
+            return True
+        start = self.process("terminals")
+        # One that runs for long and has no socket left goes on with the terminals that it has, and is found by no other.
+        return start is not None and (os.path.lexists(self.terminals) or age_of(start) < START_WAIT)
 
     def revive(self, earlier: int | None = None) -> None:
         """Starts the start of the terminals anew, where it has ended, or is that of an earlier roam, and nobody else does."""
@@ -482,6 +491,9 @@ class WindowedSession(FolderSession):
                 raise Fault(f"session {self.name} has no window {number}")
             return named
         there = self.windows()
+        if not there and self.runs(self.served):
+            raise Fault(f"session {self.name} runs, and nothing is left by which its windows are found, as where a cleaner removed it; "
+                        "what keeps them makes that anew within a minute")
         if not there:
             raise Fault(f"session {self.name} has ended")
         last = self.last()
@@ -513,12 +525,17 @@ class WindowedSession(FolderSession):
             return True
         with contextlib.suppress(Fault):
             keeper = self.listener(self.sockets[self.served])
+            keeper = self.holder() if keeper is None else keeper
             if keeper is not None:
                 command = command_of(keeper, self.folder)
                 self.state = {"version": self.version, "command": command, self.served: [keeper, begun(keeper)]}
                 self.is_found = True
                 return True
         return bool(self.windows())
+
+    def holder(self) -> int | None:
+        """What keeps its windows, by the folder that it holds."""
+        return holder_of(self.folder)
 
     def is_ready(self) -> bool:
         """Whether a window is there, with what keeps its shells."""
@@ -758,6 +775,10 @@ class NearSession(FolderSession):
 
     served = "relay"
     sockets = {"relay": "clients", "terminals": "terminals"}
+
+    def holder(self) -> int | None:
+        """The relay, by the folder that it holds."""
+        return holder_of(self.folder)
 
     # ---- its windows
 

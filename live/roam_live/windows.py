@@ -90,7 +90,8 @@ class Windows:
         # A server that stands ready for the next window, and when it was spawned: it has no start, so it sleeps, and is told nowhere.
         self.spare: WindowProcesses | None = None
         self.spared_at = 0.0
-        self.begin_lasting()
+        self.lasting = Lasting(asked.common)
+        self.lasting.hold()
         common.see_to(Mending(self).look)
         common.see_to(self.make_last)
         self.lines = common.shells.lines = WindowLines(self, common.shells.sockets)
@@ -100,8 +101,10 @@ class Windows:
             self.take_over()
 
     def begin_lasting(self) -> None:
-        """Sees to what has to last of the session's folder from now on."""
+        """Hold the folder that the session has from now on, and let go of the one before."""
+        self.lasting.let_go()
         self.lasting = Lasting(self.asked.common)
+        self.lasting.hold()
 
     # ---- what is asked
 

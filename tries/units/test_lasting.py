@@ -6,7 +6,8 @@ import stat
 import tempfile
 import unittest
 
-from roam_live.lasting import DAILY, Lasting
+from roam_live.lasting import USED_EACH, Lasting
+from roam_live.program import is_locked
 
 OLD = 1_000_000.0
 
@@ -26,7 +27,8 @@ class Lasts(unittest.TestCase):
         """Makes the folder."""
         (self.folder / "attached").mkdir(parents=True)
         (self.folder / "relays").mkdir()
-        for name in ("state.json", "log", "lock", "rects", "attached/17", "relays/ab"):
+        (self.folder / "w/2").mkdir(parents=True)
+        for name in ("state.json", "log", "lock", "rects", "attached/17", "relays/ab", "w/last", "w/2/name"):
             (self.folder / name).touch()
         (self.folder / "session").write_text("5e55\n", encoding="utf-8")
         listener = socket.socket(socket.AF_UNIX, socket.SOCK_STREAM)
@@ -50,22 +52,39 @@ class Lasts(unittest.TestCase):
         return self.lasting.turn()
 
     def test_used(self):
-        """All of it is marked as used, at first and then once a day: the folder, its sockets, and the notes of clients."""
+        """All of it is marked as used, at first and then each six hours: the folder, its sockets, the notes of clients, and windows."""
         self.assertTrue(self.look())
         self.assertEqual(self.old(), [])
         self.age()
-        self.now += DAILY - 1
+        self.now += USED_EACH - 1
         self.look()
         self.assertIn("state.json", self.old())
         self.now += 1
         self.look()
         self.assertEqual(self.old(), [])
 
+    def test_held(self):
+        """It is held while the process is there, also where another held it at first, and no descriptor is left behind."""
+        before = os.listdir("/proc/self/fd")
+        other = Lasting(str(self.folder))
+        other.hold()
+        self.lasting.hold()
+        self.assertTrue(is_locked(self.folder))
+        self.assertLess(self.lasting.held, 0)
+        other.let_go()
+        self.assertFalse(is_locked(self.folder))
+        self.look()
+        self.assertTrue(is_locked(self.folder))
+        self.lasting.hold()
+        self.lasting.let_go()
+        self.assertEqual((os.listdir("/proc/self/fd"), is_locked(self.folder)), (before, False))
+        Lasting("/no/such/folder").hold()
+
     def test_clock(self):
         """Also where the day's clock was put back."""
         self.look()
         self.age()
-        self.now -= 400 * DAILY
+        self.now -= 400 * USED_EACH
         self.look()
         self.assertEqual(self.old(), [])
 
@@ -86,7 +105,7 @@ class Lasts(unittest.TestCase):
         self.fill()
         (self.folder / "session").unlink()
         self.age()
-        self.now += DAILY
+        self.now += USED_EACH
         self.assertFalse(self.look())
         self.assertIn("state.json", self.old())
         self.assertFalse((self.folder / "session").exists())

@@ -2,6 +2,8 @@
 import os
 import pathlib
 import signal
+import subprocess
+import sys
 import socket
 from unittest import mock
 
@@ -453,6 +455,24 @@ class Running(Case):
 class Numbers(Case):
     """What the pages say of numbers: README, roam-mux(1), PROTOCOL and the help texts."""
 
+    def test_holder(self):
+        """Who holds a folder is known by the system's list of locks."""
+        folder = self.made_folder()
+        self.assertEqual((program.holder_of(folder), program.holder_of(folder / "none")), (None, None))
+        holds = "import fcntl, os, sys, time; fcntl.flock(os.open(sys.argv[1], 0), 2); print(flush=True); time.sleep(60)"
+        other = self.process(sys.executable, "-c", holds, str(folder), stdout=subprocess.PIPE)
+        self.addCleanup(other.stdout.close)
+        other.stdout.readline()
+        self.assertEqual((program.holder_of(folder), program.is_locked(folder)), (other.pid, True))
+        other.kill()
+        other.wait()
+        self.assertEqual((program.holder_of(folder), program.is_locked(folder)), (None, False))
+
+    def test_age(self):
+        """How long a process has been there."""
+        self.assertTrue(0 <= program.age_of(self.process().pid) < 30)
+        self.assertEqual(program.age_of(0), 0.0)
+
     def test_full(self):
         """A disk is full where it has no blocks or no files left; one that counts neither never is."""
         for blocks, left, files, free, wanted in ((9, 0, 9, 9, True), (9, 9, 9, 0, True), (9, 1, 9, 1, False), (0, 0, 0, 0, False)):
@@ -470,10 +490,10 @@ class Numbers(Case):
         self.assertEqual({name: ord(choices.PREFIXES[name]) for name in codes}, codes)
 
     def test_pauses(self):
-        """A start follows another after 0.1 s, a keeper of shells after 0.3 s, and then after pauses that grow; a folder is used daily."""
+        """A start follows another after 0.1 s, a keeper of shells after 0.3 s, and then after pauses that grow; a folder is used each six hours."""
         self.assertEqual((links.PAUSES, following.PAUSES), ((0.1, 1, 2, 4, 8, 15),) * 2)
         self.assertEqual((watches.PAUSES, watches.SOUND, following.QUIET), ((0.3, 1, 2, 4, 8, 15), 5.0, 3.0))
-        self.assertEqual((lasting.DAILY, lasting.LOOKS), (24 * 60 * 60, 60))
+        self.assertEqual((lasting.USED_EACH, lasting.LOOKS), (6 * 60 * 60, 60))
 
     def test_relay(self):
         """A relay is alone for an hour, its far end half a minute; seven seconds are silence; `ls` tells of more than 32 starts."""

@@ -1,4 +1,5 @@
 """Sessions with windows as commands find them: their folders, notes and names, and what is asked of their keeper."""
+import fcntl
 import json
 import os
 import time
@@ -91,6 +92,37 @@ class Found(Sessions):
             if mark:
                 (folder / mark).unlink()
         self.assertNotIn("2 windows", session.line())
+
+    def test_held(self):
+        """Where neither notes nor sockets are left it is found by the process that holds its folder, and ended by that."""
+        folder = self.noted("main")
+        (folder / "state.json").unlink()
+        held = os.open(folder, os.O_RDONLY)
+        self.addCleanup(os.close, held)
+        session = session_named("main")
+        self.assertFalse(session.find())
+        fcntl.flock(held, fcntl.LOCK_EX)
+        self.assertTrue(session.find())
+        self.assertEqual(session.process("shells"), os.getpid())
+        self.assertTrue(session.listed().startswith("main "))
+        with self.assertRaisesRegex(Fault, "^session main runs, and nothing is left by which its windows are found"):
+            session.window()
+        near = sessions.NearSession(folder)
+        self.assertTrue(near.find())
+        self.assertEqual(near.process("relay"), os.getpid())
+
+    def test_unreachable(self):
+        """A start that has had no socket for ten seconds is followed by another."""
+        session = self.session()
+        window = session.window(2)
+        self.noted("main", 2, server=self.own, terminals=self.own)
+        window.read()
+        age = self.patch_of(sessions, "age_of", return_value=9.9)
+        self.assertTrue(window.has_terminals())
+        age.return_value = 10.1
+        self.assertFalse(window.has_terminals())
+        window.terminals.touch()
+        self.assertTrue(window.has_terminals())
 
     def test_keeper_gone(self):
         """Where its keeper has ended it is there while a server runs, and that is listed."""
