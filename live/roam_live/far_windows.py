@@ -2,15 +2,16 @@
 folders."""
 from __future__ import annotations
 
+import contextlib
 import os
 import re
 import socket
-from collections.abc import Callable
+from collections.abc import Callable, Sequence
 
 from roam_live.following import Following
 from roam_live.loops import Loop
 from roam_live.presence import number_in
-from roam_live.program import connected_now, is_id
+from roam_live.program import Fault, connected_now, is_id
 from roam_live.relayed import WINDOWS as LEADS
 from roam_live.window_lines import GONE, MOST_WINDOWS, WINDOW, WINDOWS
 
@@ -59,6 +60,14 @@ class FarWindows:
         self.named: set[int] = set()
         self.is_whole = False
         self.following: Following | None = None
+        # Those that ran when that was asked last.
+        self.ran: Sequence[FolderSession] = ()
+
+    def running(self) -> Sequence[FolderSession]:
+        """The windows that run; those of the last time where it can't be asked now."""
+        with contextlib.suppress(Fault):
+            self.ran = self.place.windows() if self.place else ()
+        return self.ran
 
     def use(self) -> None:
         """Tells the near end the windows from now on; one that asks anew is told them anew."""
@@ -77,7 +86,7 @@ class FarWindows:
         """The windows that run, with the ids of their sessions, the relay's own first. That one is there until its server has ended."""
         if not self.place:
             return []
-        there = [window for window in self.place.windows() if not self.is_whole or window.number in self.named | {self.own()}]
+        there = [window for window in self.running() if not self.is_whole or window.number in self.named | {self.own()}]
         found = [(window.number, window.id()) for window in there]
         return sorted(((number, name) for number, name in found if is_id(name)), key=lambda one: (one[0] != self.own(), one[0]))
 
@@ -87,7 +96,7 @@ class FarWindows:
 
     def connected(self) -> socket.socket:
         """A connection to the keeper, at the socket of any window."""
-        for window in self.place.windows() if self.place else []:
+        for window in self.running():
             return connected_now(window.folder / "shells")
         raise ConnectionRefusedError("no window is there")
 
@@ -132,7 +141,7 @@ class FarWindows:
 
     def heir(self) -> FolderSession | None:
         """Another window of the session, once the relay's own has ended; None where there is none, or the near end knows of none."""
-        others = [window for window in self.place.windows() if window.number != self.own()] if self.place and self.is_used else []
+        others = [window for window in self.running() if window.number != self.own()] if self.is_used else []
         if others:
             self.place = others[0]
             self.tell()

@@ -105,9 +105,9 @@ class NearWindows:
             window.sockets.wake()
 
     def clean(self) -> None:
-        """Removes what another relay left."""
-        for number in numbers_in(windows_folder(self.folder)):
-            if number not in self.windows:
+        """Removes what another relay left, as far as that can be read now."""
+        with contextlib.suppress(Fault):
+            for number in [number for number in numbers_in(windows_folder(self.folder)) if number not in self.windows]:
                 shutil.rmtree(window_folder(self.folder, number), ignore_errors=True)
 
     def close(self) -> None:

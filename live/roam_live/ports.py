@@ -9,6 +9,10 @@ import tempfile
 from roam_live.program import Fault, Home
 
 
+# So many seconds the start has for its end.
+END_WAIT = 1.0
+
+
 class PortSession:
     """A session whose server has a UDP port: a terminal has a start of its own there, and a folder that is told has the rest."""
 
@@ -74,8 +78,12 @@ class PortSession:
         return "[the session has ended]", 0
 
     def close(self) -> None:
-        """Ends the start."""
+        """Ends the start, by force where it doesn't end in time, as where it was stopped."""
         if self.start:
             self.start.terminate()
-            self.start.wait()
+            try:
+                self.start.wait(END_WAIT)
+            except subprocess.TimeoutExpired:
+                self.start.kill()
+                self.start.wait()
         shutil.rmtree(self.own, ignore_errors=True)

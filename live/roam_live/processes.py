@@ -11,7 +11,8 @@ import time
 from collections.abc import Callable, Iterator
 
 from roam_live.logs import make_room
-from roam_live.program import SAID_AFTER, Fault, SocketPeer, begun, connected_in, is_own_folder, is_running, reason, replace_text, say
+from roam_live.program import (SAID_AFTER, Fault, SocketPeer, begun, connected_in, is_absent, is_own_folder, is_running, reason,
+                               replace_text, say)
 
 TYPE_CHECKING = False
 if TYPE_CHECKING:
@@ -104,16 +105,27 @@ class Processes:
         self.own: dict[str, subprocess.Popen[bytes]] = {}
         # The process that serves, and when it began, as it ran when it was last looked at.
         self.met: tuple[int, int | None] | None = (server, begun(server)) if server else None
+        # Why the note couldn't be read, where one may be there.
+        self.unread = ""
         self.read()
 
     def read(self) -> None:
         """Reads what was noted of it: nothing where the note isn't whole."""
+        self.unread = ""
+        state = None
         try:
             with open(self.note, encoding="utf-8") as note:
                 state = json.loads(note.read(MOST_NOTE))
-        except (OSError, ValueError, RecursionError):
-            state = None
+        except OSError as fault:
+            self.unread = "" if is_absent(fault) else reason(fault)
+        except (ValueError, RecursionError):
+            pass
         self.state: State | None = state if is_note(state) else None
+
+    def demand_read(self) -> None:
+        """Refuses where the note couldn't be read: what isn't known may be there."""
+        if self.unread:
+            raise Fault(f"{self.note} can't be read: {self.unread}; nothing is done there")
 
     def process(self, role: str) -> int | None:
         """The process of a role; None where none runs."""
@@ -144,7 +156,9 @@ class Processes:
                 process = SocketPeer.of(end).process
         except BlockingIOError as fault:
             raise Fault(f"somebody listens at {path} and takes no connection; nothing is done there") from fault
-        except OSError:
+        except OSError as fault:
+            if not is_absent(fault):
+                raise Fault(f"who listens at {path} can't be asked: {reason(fault)}; nothing is done there") from fault
             return None
         if not process:
             raise Fault(f"who listens at {path} is no process of this machine's own list; nothing is done there")

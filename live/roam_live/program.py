@@ -229,19 +229,28 @@ def connected(path: str | os.PathLike[str]) -> socket.socket:
         time.sleep(0.02)
 
 
+# By these a connection is refused where nobody of this user listens: nothing is there, nobody listens there, or another user does. Any other
+# tells that it can't be asked now, as for want of descriptors.
+ABSENT = {None, errno.ENOENT, errno.ENOTDIR, errno.ECONNREFUSED, errno.EPERM, errno.EACCES, errno.ELOOP, errno.ENAMETOOLONG}
+
+
+def is_absent(fault: OSError) -> bool:
+    """Whether a fault of a connection, or of a file, tells that nothing is there, and not just that it can't be asked."""
+    return fault.errno in ABSENT
+
+
 def unheard(path: str | os.PathLike[str]) -> str:
-    """Why nobody of this user listens at a Unix socket, in words; nothing where somebody does, also one that takes nobody now."""
+    """Why nobody of this user listens at a Unix socket, in words; nothing where somebody does, or may: one that takes nobody now, and one
+    that can't be asked."""
     try:
         connected_now(path).close()
-    except BlockingIOError:
-        return ""
     except OSError as fault:
-        return reason(fault)
+        return reason(fault) if is_absent(fault) else ""
     return ""
 
 
 def is_listened(path: str | os.PathLike[str]) -> bool:
-    """Whether somebody of this user listens at a Unix socket."""
+    """Whether somebody of this user listens at a Unix socket, or may."""
     return not unheard(path)
 
 
@@ -260,10 +269,15 @@ def is_port_served(port: int) -> bool:
         return True
 
 
+def read_stat(process: int) -> list[str]:
+    """What the system says of a process, from its state on; OSError where there is none, or it doesn't say."""
+    return pathlib.Path(f"/proc/{process}/stat").read_text(encoding="utf-8", errors="replace").rpartition(")")[2].split()
+
+
 def stated(process: int) -> list[str]:
-    """What the system says of a process, from its state on; nothing where there is none."""
+    """The same; nothing where there is none."""
     try:
-        return pathlib.Path(f"/proc/{process}/stat").read_text(encoding="utf-8", errors="replace").rpartition(")")[2].split()
+        return read_stat(process)
     except OSError:
         return []
 
@@ -289,8 +303,28 @@ def is_stopped(process: int) -> bool:
 
 
 def is_running(process: int, moment: int | None) -> bool:
-    """Whether a process runs that began at this moment: a number may have been given anew."""
-    return moment is not None and begun(process) == moment
+    """Whether a process runs that began at this moment: a number may have been given anew. Where the system doesn't say when, as for want
+    of descriptors, one of this number is taken for that."""
+    if moment is None:
+        return False
+    try:
+        words = read_stat(process)
+    except (FileNotFoundError, ProcessLookupError):
+        return False
+    except OSError:
+        return is_there(process)
+    return bool(words) and words[0] not in "ZX" and int(words[19]) == moment
+
+
+def is_there(process: int) -> bool:
+    """Whether there is a process of this number."""
+    try:
+        os.kill(process, 0)
+    except ProcessLookupError:
+        return False
+    except OSError:
+        pass
+    return True
 
 
 def end_words(process: int, moment: int | None) -> str:
@@ -362,7 +396,9 @@ def holder_of(folder: str | os.PathLike[str]) -> int | None:
         found = os.stat(folder)
         with open("/proc/locks", encoding="ascii", errors="replace") as locks:
             words = [line.split() for line in locks]
-    except OSError:
+    except OSError as fault:
+        if not is_absent(fault):
+            raise Fault(f"who holds {folder} can't be asked: {reason(fault)}") from fault
         return None
     # A line has its number, the kind, two words more, the process, and the file's system and number.
     ours = [line[4] for line in words if len(line) > 5 and line[1] == "FLOCK" and line[5].endswith(f":{found.st_ino}")]
@@ -445,7 +481,9 @@ def is_attached(note: pathlib.Path) -> bool:
     """Whether the front end that a file notes runs; who ends removes it, maybe at this moment."""
     try:
         return is_running(int(note.name), int(note.read_text(encoding="utf-8").split()[0]))
-    except (OSError, ValueError, IndexError):
+    except OSError as fault:
+        return not is_absent(fault)
+    except (ValueError, IndexError):
         return False
 
 

@@ -261,6 +261,7 @@ class FolderSession(Processes):
         old files, its processes are known again from then on."""
         if self.runs():
             return True
+        self.demand_read()
         process = self.listener(self.sockets[self.served])
         process = self.holder() if process is None else process
         if process is None:
@@ -523,6 +524,7 @@ class WindowedSession(FolderSession):
         """Whether it runs: as is noted, or else as the processes tell that answer at its sockets, which are known again from then on."""
         if self.process(self.served):
             return True
+        self.demand_read()
         with contextlib.suppress(Fault):
             keeper = self.listener(self.sockets[self.served])
             keeper = self.holder() if keeper is None else keeper

@@ -5,7 +5,7 @@ import contextlib
 import os
 import re
 
-from roam_live.program import replace_text
+from roam_live.program import Fault, is_absent, reason, replace_text
 
 # What lies in a window's folder while its server only stands ready.
 SPARE = "spare"
@@ -38,10 +38,13 @@ def window_folder(common: str, number: int) -> str:
 
 
 def numbers_in(folder: str) -> list[int]:
-    """The windows of which there are folders, in order."""
-    with contextlib.suppress(OSError):
+    """The windows of which there are folders, in order; Fault where it can't be told."""
+    try:
         return sorted(int(name) for name in os.listdir(folder) if NUMBER.fullmatch(name))
-    return []
+    except OSError as fault:
+        if not is_absent(fault):
+            raise Fault(f"{folder} can't be read: {reason(fault)}") from fault
+        return []
 
 
 def stands_ready(server: int | None) -> bool:

@@ -2,6 +2,7 @@
 what is asked of the keeper. What is typed for a window that is being opened waits for it."""
 from __future__ import annotations
 
+import contextlib
 import os
 import re
 
@@ -130,7 +131,10 @@ class WindowWishes:
         """The numbers of the windows; by the session's folder while nobody tells them."""
         if self.told.is_whole:
             return self.told.numbers()
-        return [window.number for window in self.front.commands.session.windows() if window.number]
+        with contextlib.suppress(Fault):
+            return [window.number for window in self.front.commands.session.windows() if window.number]
+        # They can't be asked now.
+        return [self.here()]
 
     def last(self) -> int:
         """The window where the person was before; 0 where that is gone, or there was none."""

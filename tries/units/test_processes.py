@@ -506,6 +506,16 @@ class Ports(Case):
         self.addCleanup(other.close)
         self.assertEqual((other.folder, other.name), (folder, "at port 9"))
 
+    def test_stopped(self):
+        """A start that was stopped is ended by force, and isn't waited for without end."""
+        start = self.process()
+        start.send_signal(signal.SIGSTOP)
+        os.waitid(os.P_PID, start.pid, os.WSTOPPED | os.WNOWAIT)
+        self.session.start = start
+        self.patch_of(ports, "END_WAIT", 0.05)
+        self.session.close()
+        self.assertEqual(start.returncode, -signal.SIGKILL)
+
     def test_revived(self):
         """Its start is started where it doesn't run, and ends with the server or the session."""
         started = self.patch_of(ports.subprocess, "Popen", return_value=self.process())

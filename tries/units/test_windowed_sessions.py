@@ -1,7 +1,9 @@
 """Sessions with windows as commands find them: their folders, notes and names, and what is asked of their keeper."""
+import errno
 import fcntl
 import json
 import os
+import resource
 import time
 from unittest import mock
 
@@ -10,10 +12,10 @@ from roam_live import asked_windows, programs, sessions, targets
 from roam_live.asked_windows import (WindowsAsked, check_title, detach_others, is_there, list_clients, list_windows, new_window, rename,
                                      shut, windows_of)
 from roam_live.places import Places, Rect
-from roam_live.program import Fault, begun, end_words
+from roam_live.program import Fault, begun, count_front_ends, end_words, is_listened, is_running
 from roam_live.sessions import VERSION, FolderSession, Window, WindowedSession, session_named, window_in
 from roam_live.targets import session_of, target_of, window_of
-from roam_live.window_notes import WINDOWS_VERSION
+from roam_live.window_notes import WINDOWS_VERSION, numbers_in, stands_ready
 
 PLACES = Places({1: Rect(1, 1, 23, 80)}, 1, 1)
 
@@ -82,6 +84,8 @@ class Found(Sessions):
         nobody has joined it."""
         session, server = self.session(), self.process(env={"ROAM_STANDS_READY": "1"})
         folder = self.noted("main", 7, server=[server.pid, begun(server.pid)])
+        while not stands_ready(server.pid):
+            time.sleep(0.01)
         for mark, numbers in (("spare", [2]), (None, [2]), ("shells", [2, 7]), ("terminals", [2, 7])):
             if mark:
                 (folder / mark).touch()
@@ -173,6 +177,59 @@ class Found(Sessions):
         session.read()
         session.clean()
         self.assertEqual(os.listdir(self.base / "main"), [])
+
+
+class Unknown(Sessions):
+    """What can't be asked isn't taken for what isn't there."""
+
+    def full(self):
+        """Has no descriptor be left for what follows."""
+        lowest = os.dup(0)
+        os.close(lowest)
+        before = resource.getrlimit(resource.RLIMIT_NOFILE)
+        resource.setrlimit(resource.RLIMIT_NOFILE, (lowest, before[1]))
+        self.addCleanup(resource.setrlimit, resource.RLIMIT_NOFILE, before)
+        return lambda: resource.setrlimit(resource.RLIMIT_NOFILE, before)
+
+    def test_noted(self):
+        """A session whose processes are noted runs, though none of them can be looked at."""
+        session = self.session()
+        again = self.full()
+        found = session.find(), session.runs("shells"), FolderSession.runs(session, "shells"), is_running(1 << 22, 1)
+        again()
+        self.assertEqual(found, (True, True, True, False))
+
+    def test_unread(self):
+        """Where the note can't be read, or the folder, or a socket can't be asked, that is told, and nothing is removed."""
+        self.session()
+        listener = self.listening(self.base / "main/w/2/clients")
+        self.addCleanup(listener.close)
+        before = sorted(path.name for path in self.base.rglob("*"))
+        again = self.full()
+        told = []
+        session = WindowedSession(self.base / "main")
+        window = Window(session, 2)
+        for does in (session.find, window.find, lambda: window.listener("clients"), lambda: numbers_in(str(self.base / "main/w")),
+                     window.clean, session.tidy):
+            with self.assertRaises(Fault) as fault:
+                does()
+            told.append(str(fault.exception).rpartition(": ")[2])
+        heard = is_listened(self.base / "main/w/2/clients"), is_listened(self.base / "none")
+        again()
+        few = "Too many open files"
+        self.assertEqual(told, [f"{few}; nothing is done there"] * 3 + [few] + told[4:5] + [f"{few}; nothing is done there"])
+        self.assertRegex(told[4], "nothing is removed there$")
+        self.assertEqual((heard, sorted(path.name for path in self.base.rglob("*"))), ((True, True), before))
+        self.assertFalse(is_listened(self.base / "none"))
+
+    def test_front_ends(self):
+        """A front end's note that can't be read stays."""
+        folder = self.noted("main")
+        (folder / "attached").mkdir()
+        (folder / "attached" / str(os.getpid())).write_text(f"{self.own[1]} edits\n", encoding="ascii")
+        with mock.patch("pathlib.Path.read_text", side_effect=OSError(errno.EMFILE, "no descriptor")):
+            self.assertEqual(count_front_ends(folder), 1)
+        self.assertEqual(count_front_ends(folder), 1)
 
 
 class Launched(Sessions):

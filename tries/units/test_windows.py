@@ -656,7 +656,7 @@ class Noted(Case):
             if is_spare:
                 processes.mark_spare(True)
             told = self.made_folder() / "told"
-            process = processes.spawn(SERVER, ["/bin/sh", "-c", f"echo > {told}; exec sleep 60"])
+            process = processes.spawn(SERVER, ["/bin/sh", "-c", f"echo > {told}; while :; do sleep 1; done"])
             self.addCleanup(os.waitpid, process, 0)
             self.addCleanup(os.kill, process, signal.SIGKILL)
             while not told.exists():
