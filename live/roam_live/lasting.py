@@ -14,6 +14,15 @@ USED_EACH = 21600.0
 LOOKS = 60.0
 
 
+# The folder in a session's in which those of its windows lie.
+WINDOWS = "w"
+
+
+def identity(file: os.stat_result) -> tuple[int, int]:
+    """What tells one file from all others."""
+    return file.st_dev, file.st_ino
+
+
 class Lasting:
     """The folder of a session, for a process that stays as long as the session does."""
 
@@ -23,16 +32,15 @@ class Lasting:
         self.session: bytes | None = None
         self.used_at = float("-inf")
         self.due = time.monotonic()
-        # Whether it is held, and by which descriptor.
-        self.is_wanted, self.held = False, -1
+        # Whether it is to be held, and by which descriptor it is: that of a window is below one that is.
+        self.holds, self.held = os.path.basename(os.path.dirname(os.path.abspath(folder))) != WINDOWS, -1
 
     def found(self) -> tuple[int, int] | None:
         """Which folder is there; None where none is."""
         try:
-            there = os.stat(self.folder)
+            return identity(os.stat(self.folder))
         except OSError:
             return None
-        return there.st_dev, there.st_ino
 
     def demand(self) -> None:
         """Refuses, by an OSError, where the folder was removed, or another took its place: what lies there is another session's."""
@@ -48,7 +56,7 @@ class Lasting:
             self.demand()
         except OSError:
             return False
-        if self.is_wanted:
+        if self.holds:
             self.hold()
         self.keep_session()
         now = self.clock()
@@ -58,12 +66,12 @@ class Lasting:
         return True
 
     def hold(self) -> None:
-        """Has this process hold the folder from now on, by a lock of its own: cleaners as systemd-tmpfiles pass over a folder that is held,
-        with all below it; and who finds neither notes nor sockets there finds this process. Where another holds it now that is tried again
-        with each look."""
-        self.is_wanted = True
-        if self.held >= 0:
+        """Has this process hold the folder, by a lock of its own: cleaners as systemd-tmpfiles pass over a folder that is held, with all
+        below it; and who finds neither notes nor sockets there finds this process. Where another holds it now that is tried again with each
+        look."""
+        if self.held >= 0 and identity(os.fstat(self.held)) == self.own:
             return
+        self.let_go()
         with contextlib.suppress(OSError):
             end = os.open(self.folder, os.O_RDONLY | os.O_DIRECTORY | os.O_CLOEXEC)
             try:
@@ -75,7 +83,6 @@ class Lasting:
 
     def let_go(self) -> None:
         """Holds it no more."""
-        self.is_wanted = False
         if self.held >= 0:
             os.close(self.held)
             self.held = -1
@@ -106,7 +113,7 @@ class Lasting:
     def paths(self) -> Iterator[str]:
         """The folder, what lies there, and the notes of clients and of far ends, and windows with what lies in their folders."""
         yield self.folder
-        windows = os.path.join(self.folder, "w")
+        windows = os.path.join(self.folder, WINDOWS)
         for folder in (self.folder, *(os.path.join(self.folder, name) for name in ("attached", "relays")), windows):
             found = entries_in(folder)
             yield from found

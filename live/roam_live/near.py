@@ -225,8 +225,6 @@ class Near:
         self.sockets = NearSockets(asked.dir, self.loop, self.carrying) if asked.dir else None
         self.windows = NearWindows(asked.dir, self.loop, self.carrying, self.listening, self.part_window) if asked.dir else None
         self.lasting = Lasting(asked.dir) if asked.dir else None
-        if self.lasting:
-            self.lasting.hold()
         self.carriers: list[Carrier] = []
         self.window_of: dict[Carrier, int] = {}
         self.waiting = Waiting()
@@ -589,8 +587,6 @@ class Near:
                 source.close()
         if self.asked.dir:
             self.leave(self.asked.dir)
-        if self.lasting:
-            self.lasting.let_go()
 
     def leave(self, folder: str) -> None:
         """Notes in the folder what has ended, and removes what lies there of this end."""

@@ -229,8 +229,8 @@ def connected(path: str | os.PathLike[str]) -> socket.socket:
         time.sleep(0.02)
 
 
-# By these a connection is refused where nobody of this user listens: nothing is there, nobody listens there, or another user does. Any other
-# tells that it can't be asked now, as for want of descriptors.
+# By these a connection is refused where nobody of this user listens: nothing is there, nobody listens there, or another user does. Any
+# other tells that it can't be asked now, as for want of descriptors.
 ABSENT = {None, errno.ENOENT, errno.ENOTDIR, errno.ECONNREFUSED, errno.EPERM, errno.EACCES, errno.ELOOP, errno.ENAMETOOLONG}
 
 

@@ -91,7 +91,6 @@ class Windows:
         self.spare: WindowProcesses | None = None
         self.spared_at = 0.0
         self.lasting = Lasting(asked.common)
-        self.lasting.hold()
         common.see_to(Mending(self).look)
         common.see_to(self.make_last)
         self.lines = common.shells.lines = WindowLines(self, common.shells.sockets)
@@ -104,7 +103,6 @@ class Windows:
         """Hold the folder that the session has from now on, and let go of the one before."""
         self.lasting.let_go()
         self.lasting = Lasting(self.asked.common)
-        self.lasting.hold()
 
     # ---- what is asked
 

@@ -64,18 +64,26 @@ class Lasts(unittest.TestCase):
         self.assertEqual(self.old(), [])
 
     def test_held(self):
-        """It is held while the process is there, also where another held it at first, and no descriptor is left behind."""
+        """It is held while the process is there, also where another held it at first, and that which was made in its place once that is
+        its own; a window's isn't. No descriptor is left behind."""
         before = os.listdir("/proc/self/fd")
         other = Lasting(str(self.folder))
         other.hold()
-        self.lasting.hold()
+        self.look()
         self.assertTrue(is_locked(self.folder))
         self.assertLess(self.lasting.held, 0)
         other.let_go()
         self.assertFalse(is_locked(self.folder))
         self.look()
         self.assertTrue(is_locked(self.folder))
-        self.lasting.hold()
+        self.folder.rename(self.folder.with_name("kept"))
+        self.folder.mkdir()
+        self.assertEqual((self.look(), is_locked(self.folder)), (False, False))
+        self.lasting.own = self.lasting.found()
+        self.assertEqual((self.look(), is_locked(self.folder), is_locked(self.folder.with_name("kept"))), (True, True, False))
+        (self.folder / "w/2").mkdir(parents=True)
+        window = Lasting(str(self.folder / "w/2"))
+        self.assertEqual((window.turn(), is_locked(self.folder / "w/2")), (True, False))
         self.lasting.let_go()
         self.assertEqual((os.listdir("/proc/self/fd"), is_locked(self.folder)), (before, False))
         Lasting("/no/such/folder").hold()
