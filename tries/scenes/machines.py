@@ -3,12 +3,16 @@ import json
 import os
 import pathlib
 import signal
+import struct
 import subprocess
 import time
 import xml.etree.ElementTree
+import zlib
 
 from tried import Outer, PROGRAM, check, children, comes, listed, noted, said, scene, tool, window_of
+from roam_live.places import asked_places
 from roam_live.program import TOOLS
+from roam_live.relayed import HEADER, greeting
 
 
 @scene
@@ -43,6 +47,49 @@ def relay(folder):
     os.kill(stopped, signal.SIGCONT)
     check("which ends then", comes(lambda: len(children(process.pid)) == 1), children(process.pid))
     relay_ends(front_ends, process, near, far)
+
+
+def brought(words, session, names):
+    """A far end to which a near end brings client starts of these names, each with the first datagram of one."""
+    head = struct.Struct(">2sBBQQQQHHHQQH")
+    packer = zlib.compressobj()
+    frames = [HEADER.pack(head.size, name) + head.pack(b"RM", 2, 2, session, name, 1, 1, 0, 1, 18, 0, 1, 0) for name in names]
+    far = subprocess.Popen(words, stdin=subprocess.PIPE, stdout=subprocess.DEVNULL, stderr=subprocess.DEVNULL)
+    far.stdin.write(greeting("-") + packer.compress(b"".join(frames)) + packer.flush(zlib.Z_SYNC_FLUSH))
+    far.stdin.flush()
+    return far
+
+
+@scene
+def far_starts(folder):
+    """Two connections that bring forty new client starts each have two of them known by the server, and another after ten seconds; one
+    that it knows comes again over another connection."""
+    subprocess.run(tool("mux", "new", "-d", "other"), check=True)
+    served = window_of("other")
+    session = int((served / "session").read_text(encoding="utf-8"), 16)
+    words = tool("relay", "--far", "--server", str(noted("other")["server"][0]), "--dir", str(served), "-")
+
+    def starts():
+        """How many starts the server knows."""
+        return asked_places(served / "panes", 5).starts
+
+    before = starts()
+    begun_at = time.monotonic()
+    fars = [brought(words, session, range(first, first + 40)) for first in (1, 101)]
+    check("two new starts pass at once", comes(lambda: starts() == before + 2), starts())
+    fars.append(brought(words, session, [1]))
+    while time.monotonic() < begun_at + 11:
+        if starts() > before + 2:
+            check("and no third before ten seconds", time.monotonic() > begun_at + 9, time.monotonic() - begun_at)
+        time.sleep(0.5)
+    fars.append(brought(words, session, range(201, 241)))
+    check("one more then", comes(lambda: starts() == before + 3), starts())
+    for far in fars:
+        far.kill()
+        far.wait()
+        far.stdin.close()
+    subprocess.run(tool("mux", "kill", "-f", "other"), check=True)
+    check("and nothing is left of the session", not served.parent.parent.exists(), list(served.parent.parent.parent.iterdir()))
 
 
 def relay_ends(front_ends, relay, near, far):
