@@ -15,7 +15,7 @@ from roam_live.copying import Copying, CopyEvent
 from roam_live.display import NO_SIZE, Display
 from roam_live.foci import Foci
 from roam_live.extended_keys import ANSWERED, form_for
-from roam_live.keys import Key, Keys, acts_of
+from roam_live.keys import TYPES, Key, Keys, acts_of
 from roam_live.links import StartLink
 from roam_live.loops import Loop
 from roam_live.colours import COLOUR
@@ -37,9 +37,6 @@ if TYPE_CHECKING:
     from roam_live.bindings import Mode
     from roam_live.shells_link import ShellsLink
     from roam_live.window_wishes import WindowWishes
-
-# Acts that go to the program in the pane in focus.
-KEYS = ("char ", "key ")
 
 # The wishes that are granted while something stands in the session's place. Nothing is typed then, since nobody would see where it goes.
 UNDER_COVER = ("detach", "suspend", "repaint", "help", "no", "scrolled", "picked", "line")
@@ -193,7 +190,7 @@ class Commands:
 
     def type_key(self, acts: list[str], key: Key = Key("", "")) -> None:
         """Types what a key asks for: where keys go to all panes, those of it that do."""
-        keys = [act for act in acts if act.startswith(KEYS)]
+        keys = [act for act in acts if act.startswith(TYPES)]
         if not keys or not self.synchronizing.is_working():
             places = self.places() if key.extended else None
             self.act(*(self.formed(acts, key, places.focus) if places else acts))
@@ -263,7 +260,7 @@ class Commands:
         if any(act.startswith(MOVES) for act in acts):
             self.copying.focus_moved(acts)
             self.close_lists()
-        if acts and acts[-1].startswith(KEYS):
+        if acts and acts[-1].startswith(TYPES):
             self.note_key()
 
     def note_key(self) -> None:

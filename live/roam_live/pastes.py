@@ -4,7 +4,7 @@ from __future__ import annotations
 from collections import deque
 from collections.abc import Callable, Sequence
 
-from roam_live.keys import pasted_acts
+from roam_live.keys import TYPES, pasted_acts
 from roam_live.loops import Loop
 from roam_live.shells_link import HELD, LATER, LOST, REFUSED, UNTOLD
 from roam_live.texts import MOST_BYTES, cleaned, mark_acts, random_name
@@ -53,6 +53,11 @@ class Behind:
             link.say(" ; ".join(self.acts))
         else:
             link.type(*self.acts, is_pasted=self.is_pasted)
+
+    def without_keys(self) -> Behind:
+        """Return the same without what goes to a program: the acts that move the focus, or give the session a size."""
+        kept = () if self.is_pasted else tuple(act for act in self.acts if not act.startswith(TYPES))
+        return Behind(kept, is_together=self.is_together)
 
 
 class Paste:
@@ -206,12 +211,28 @@ class Pastes:
 
     def fail(self, paste: Paste, why: str) -> None:
         """Goes on without a paste."""
-        if self.shells:
-            self.shells.cancel(paste.name)
-        self.loop.drop(f"hand {paste.name}")
+        self.cancel(paste)
         self.waiting.remove(paste)
         self.tells(why)
         self.type_waiting()
+
+    def cancel(self, paste: Paste) -> None:
+        """Hands a paste over no more."""
+        if self.shells:
+            self.shells.cancel(paste.name)
+        self.loop.drop(f"hand {paste.name}")
+
+    def drop_waiting(self) -> None:
+        """Drops the pastes that wait, and all keys between and behind them. The other acts are typed: the focus and the session's size go by
+        them. Nothing is typed before all pastes are gone, since the first of them may be what keeps the others back."""
+        dropped, self.waiting = self.waiting, deque()
+        for paste in dropped:
+            if isinstance(paste, Paste):
+                self.cancel(paste)
+        self.tells(DROPPED)
+        for behind in dropped:
+            if isinstance(behind, Behind):
+                self.put(behind.without_keys())
 
     # ---- what is typed
 
@@ -228,21 +249,22 @@ class Pastes:
             self.type_together(*acts)
 
     def drop_by(self, acts: Sequence[str]) -> None:
-        """Drops the pastes that wait where a C-c is among acts."""
+        """Drops the pastes that wait, and the keys behind them, if a C-c is among acts."""
         if self.waiting and INTERRUPT in acts:
-            for paste in [one for one in self.waiting if isinstance(one, Paste)]:
-                self.fail(paste, DROPPED)
+            self.drop_waiting()
 
     def type_together(self, *acts: str) -> None:
         """Types acts in a line of their own, behind the pastes that wait."""
         self.put(Behind(acts, is_together=True))
 
     def put(self, acts: Behind) -> None:
-        """Types acts now, where no paste waits."""
-        if not self.waiting:
-            acts.type_at(self.link)
-        elif acts.acts:
+        """Types acts, if there are any: now, where no paste waits."""
+        if not acts.acts:
+            return
+        if self.waiting:
             self.waiting.append(acts)
+        else:
+            acts.type_at(self.link)
 
     def type_waiting(self) -> None:
         """Types what may be typed now."""

@@ -89,8 +89,8 @@ class Handed(Case):
         self.assertEqual(self.link.lines, [self.mark(1), self.spread_line(2, 1), self.spread_line(3, 2)])
         self.paste("ab")
         self.pastes.type_lines([["char 61", "focus 3"], ["char 3", "focus 3"]])
-        self.assertEqual(self.link.lines[3:], ["char 61 ; focus 3", "char 3 ; focus 3"])
-        self.assertEqual(self.said, [DROPPED] * 3)
+        self.assertEqual(self.link.lines[3:], ["focus 3", "char 3 ; focus 3"])
+        self.assertEqual(self.said, [DROPPED])
 
     def test_unspread(self):
         """Where what keeps the shells takes no texts, or not so many, the pane in focus has it alone, which is told."""
@@ -204,16 +204,36 @@ class Handed(Case):
         self.assertEqual(self.link.lines, ["char 61"])
 
     def test_interrupted(self):
-        """A C-c that is typed behind pastes that wait drops them, and no other keys; one that is pasted doesn't."""
+        """A C-c that is typed behind pastes that wait drops them and all keys between and behind them, and is typed itself; one that is
+        pasted drops nothing. What moves the focus, or sizes the session, is done."""
+        self.paste(LONG)
+        self.pastes.type("char 61")
+        self.pastes.type("next", "char 61")
+        self.paste("char 3")
+        self.paste(LONG)
+        self.pastes.type_together("char 62")
+        self.pastes.type_together("size 24 80")
+        self.pastes.type("char 63", "char 3")
+        self.assertEqual((self.link.lines, self.said), (["next", "size 24 80", "char 63 ; char 3"], [DROPPED]))
+        self.pastes.type("char 3")
+        self.assertEqual(self.link.lines[3:], ["char 3"])
+        self.assertEqual((self.loop.due, self.shells.cancelled), ({}, [f"{1:016x}", f"{2:016x}"]))
+
+    def test_interrupted_held(self):
+        """That holds too where the keeper holds a later paste, which the first alone keeps back: nothing of it is typed."""
+        self.paste(LONG)
         self.paste(LONG)
         self.pastes.type("char 61")
         self.paste(LONG)
-        self.pastes.type("char 62")
+        self.tell(1, LATER, "16 MB wait to be pasted")
+        self.tell(2, "held")
         self.pastes.type("char 3")
-        self.assertEqual((self.link.lines, self.said), (["char 61", "char 62", "char 3"], [DROPPED] * 2))
-        self.pastes.type("char 3")
-        self.assertEqual(self.link.lines[-1], "char 3")
-        self.assertFalse(self.loop.due)
+        self.assertEqual((self.link.lines, self.said[1:], self.loop.due), (["char 3"], [DROPPED], {}))
+        self.assertEqual((self.shells.cancelled, self.pastes.hands_over()), ([f"{number:016x}" for number in (1, 2, 3)], False))
+        self.tell(3, "held")
+        self.paste(LONG)
+        self.tell(4, "held")
+        self.assertEqual(self.link.lines[1:], [self.mark(4)])
 
     def test_no_keeper(self):
         """Where no keeper takes texts a long one goes as acts too."""
