@@ -4,6 +4,7 @@ from __future__ import annotations
 import contextlib
 import os
 import signal
+import time
 from collections.abc import Callable
 
 from roam_live import terminal
@@ -11,7 +12,7 @@ from roam_live.asides import GivenAside, GivenClip
 from roam_live.colours import ASKED
 from roam_live.last_row import ALL_PANES, BETWEEN, SYNCHRONIZED, ZOOMED, clipped, columns, fitted, label_at, row_text, said, tail
 from roam_live.status_styles import ROW_STYLE, Styled
-from roam_live.loops import Loop
+from roam_live.loops import WRITE, Loop, ready
 from roam_live.places import Rect
 from roam_live.program import Fault, write
 from roam_live.words import printable
@@ -30,6 +31,9 @@ DRAWN = 0.05
 # So many seconds later nothing stands there any more of a window that was left, where the other isn't painted yet.
 ENTERS = 0.15
 
+# A terminal has so many seconds for taking what it is left with: one that takes nothing, as where its emulator hangs, isn't waited for.
+LEAVES = 1.0
+
 TOO_SMALL = "too small"
 
 # A size that isn't known.
@@ -47,8 +51,10 @@ class OuterTerminal:
         self.is_application = False
         self.end = terminal.opened_for_writing(1)
         self.known = terminal.size_of(0)
-        # Those that it had before.
+        # Those that it had before; whether it is taken now; and by when it is left.
         self.modes: terminal.Modes | None = None
+        self.is_taken = False
+        self.left_by = 0.0
         self.aside, self.clip = GivenAside(), GivenClip()
 
     def enter(self) -> None:
@@ -56,6 +62,7 @@ class OuterTerminal:
         self.modes = terminal.make_raw(0)
         if self.modes is None:
             raise Fault("the terminal can't be made raw")
+        self.is_taken = True
         self.waiting += self.aside.keys_asked(is_first=True) + terminal.ENTERED
 
     def size(self) -> terminal.Size:
@@ -67,6 +74,7 @@ class OuterTerminal:
     def enter_again(self) -> None:
         """Takes the terminal again, after a shell had it while this was stopped."""
         terminal.make_raw(0)
+        self.is_taken = True
         self.waiting += self.aside.keys_asked() + terminal.ENTERED
         self.is_application = False
         # Whoever had it may have asked it for others.
@@ -108,22 +116,44 @@ class OuterTerminal:
         """Brings back what stood there, and stops this process with its group, as C-z does for others; returns once it is continued. The
         system doesn't stop a group that no shell could continue."""
         self.leave("")
-        os.set_blocking(self.end, False)
         handled = signal.signal(signal.SIGTSTP, signal.SIG_DFL)
         os.kill(0, signal.SIGTSTP)
         signal.signal(signal.SIGTSTP, handled)
 
     def leave(self, line: str | None) -> None:
-        """Brings back what stood there, where it was taken, and says a line below it."""
-        if self.modes is None:
+        """Bring back what stood there, where it was taken, and say a line below it."""
+        self.begin_leave(line)
+        self.end_leave()
+
+    def begin_leave(self, line: str | None) -> None:
+        """Begin to leave it: what brings back what stood there, and a line below that, is written as far as it is taken at once."""
+        if not self.is_taken:
             return
+        self.left_by = time.monotonic() + LEAVES
+        self.waiting[:] = self.clip.taken_back() + self.aside.taken_back() + terminal.LEFT
+        self.waiting += f"{printable(line)}\r\n".encode() if line else b""
+        self.write_by(0.0)
+        if not self.waiting:
+            self.end_leave()
+
+    def end_leave(self) -> None:
+        """Write the rest of that, for which the terminal has until `left_by`, and give the terminal its modes back. Neither waits for a
+        terminal that takes nothing."""
+        if not self.is_taken or self.modes is None:
+            return
+        self.is_taken = False
+        self.write_by(self.left_by)
         self.waiting.clear()
-        os.set_blocking(self.end, True)
-        self.waiting += self.clip.taken_back() + self.aside.taken_back()
-        self.waiting += terminal.LEFT + (f"{printable(line)}\r\n".encode() if line else b"")
-        while self.waiting and write(self.end, self.waiting):
-            pass
         terminal.restore(0, self.modes)
+
+    def write_by(self, moment: float) -> None:
+        """Write what the terminal takes until then. To one that couldn't be opened anew a write of more than a byte may wait."""
+        step = 1 if os.get_blocking(self.end) else len(self.waiting)
+        while self.waiting and ready(self.end, WRITE, max(0.0, moment - time.monotonic())):
+            piece = self.waiting[:step]
+            if not write(self.end, piece):
+                self.waiting.clear()
+            del self.waiting[: step - len(piece)]
 
 
 class Display:

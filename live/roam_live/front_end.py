@@ -20,7 +20,7 @@ from roam_live.following import AWAITED, PanesFollower
 from roam_live.links import LAST_WAIT, Keeper, StartLink
 from roam_live.loops import Loop
 from roam_live.own_settings import OWN
-from roam_live.program import Fault, noted_front_end, read, woken
+from roam_live.program import Fault, all_done, noted_front_end, read, unwoken, woken
 from roam_live.shells_link import ShellsLink
 from roam_live.status_row import StatusRow
 from roam_live.visits import Parting, Visit, opened_server
@@ -29,6 +29,8 @@ from roam_live.window_wishes import WindowWishes
 
 TYPE_CHECKING = False
 if TYPE_CHECKING:
+    import pathlib
+
     from roam_live.any_session import AnySession
     from roam_live.places import Places
     from roam_live.terminal import Size
@@ -344,10 +346,14 @@ class FrontEnd:
         self.resized()
 
     def suspended(self, numbers: bytes) -> bytes:
-        """Gives the terminal back, stops, and takes it again; tells the signals that are left of these and of those that came meanwhile."""
+        """Gives the terminal back, stops, and takes it again, unless it is to leave; tells the signals that are left of these and of those
+        that came meanwhile."""
         self.display.outer.suspend()
-        self.continued()
-        return bytes(number for number in numbers + (read(self.wakeup) or b"") if number not in (signal.SIGTSTP, signal.SIGCONT))
+        numbers += read(self.wakeup) or b""
+        # One that is ended while it is stopped may be in the background, where to take the terminal would stop it anew.
+        if not any(number in LEAVING for number in numbers):
+            self.continued()
+        return bytes(number for number in numbers if number not in (signal.SIGTSTP, signal.SIGCONT))
 
     def signalled(self) -> None:
         """Goes by the signals that came."""
@@ -454,10 +460,15 @@ class FrontEnd:
             while self.left is None or self.hands_over():
                 self.turn()
         finally:
-            self.commands.left()
-            self.display.outer.leave(self.left and self.left + self.unpasted())
-            self.part()
+            self.end()
         return self.status
+
+    def end(self) -> None:
+        """Leave the terminal and the session. What was typed is handed over before a terminal is waited for that takes nothing, and
+        whatever hangs behind that is ended by a signal."""
+        outer = self.display.outer
+        all_done(self.commands.left, lambda: outer.begin_leave(self.left and self.left + self.unpasted()), self.part, outer.end_leave,
+                 lambda: unwoken(*LEAVING))
 
 
 def follow(session: AnySession, watches: bool, prefix: str, guessing: str,
@@ -471,7 +482,11 @@ def follow(session: AnySession, watches: bool, prefix: str, guessing: str,
         note = noted_front_end(session.common, "watches" if watches else "edits")
         return FrontEnd(session, watches, prefix, guessing, is_new, is_whole=is_whole, has_mouse=has_mouse, has_clips=has_clips).run()
     finally:
-        session.close()
-        if note:
-            with contextlib.suppress(OSError):
-                note.unlink()
+        all_done(session.close, lambda: forget_note(note))
+
+
+def forget_note(note: pathlib.Path | None) -> None:
+    """Removes the file that noted this front end."""
+    if note:
+        with contextlib.suppress(OSError):
+            note.unlink()

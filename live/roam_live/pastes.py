@@ -223,8 +223,8 @@ class Pastes:
         self.loop.drop(f"hand {paste.name}")
 
     def drop_waiting(self) -> None:
-        """Drops the pastes that wait, and all keys between and behind them. The other acts are typed: the focus and the session's size go by
-        them. Nothing is typed before all pastes are gone, since the first of them may be what keeps the others back."""
+        """Drops the pastes that wait, and all keys between and behind them. The other acts are typed: the focus and the session's size go
+        by them. Nothing is typed before all pastes are gone, since the first of them may be what keeps the others back."""
         dropped, self.waiting = self.waiting, deque()
         for paste in dropped:
             if isinstance(paste, Paste):

@@ -356,6 +356,25 @@ def woken(*signals: int) -> int:
     return reader
 
 
+def unwoken(*signals: int) -> None:
+    """Give these signals their default action again."""
+    for number in signals:
+        signal.signal(number, signal.SIG_DFL)
+
+
+def all_done(*steps: Callable[[], object]) -> None:
+    """Do each of these steps, whatever becomes of the others. The first fault of one is raised behind the last, unless another is being
+    raised already."""
+    is_raised, first = sys.exc_info()[1] is not None, None
+    for step in steps:
+        try:
+            step()
+        except BaseException as fault:
+            first = first or fault
+    if first and not is_raised:
+        raise first
+
+
 def replace_text(path: str | os.PathLike[str], text: str, new: str | None = None) -> None:
     """Gives a file a text, which is written beside it, at `new` where that is named; who reads it finds the old or the new one whole."""
     new = new or f"{path}.{os.getpid()}"

@@ -185,7 +185,8 @@ def make_raw(terminal: int) -> Modes | None:
     """Has each byte that is typed come as it is, and tells the modes that were; None where the terminal refuses, or is gone."""
     try:
         before = termios.tcgetattr(terminal)
-        set_modes(terminal, termios.TCSADRAIN, raw(termios.tcgetattr(terminal)))
+        # Not behind what it still shows, which a terminal that hangs never does.
+        set_modes(terminal, termios.TCSANOW, raw(termios.tcgetattr(terminal)))
     except (termios.error, OSError):
         return None
     return before
@@ -202,14 +203,24 @@ def raw(modes: Modes) -> Modes:
 
 
 def restore(terminal: int, modes: Modes) -> None:
-    """Gives a terminal its modes back; what was typed and not read is no command of the shell that comes back."""
+    """Gives a terminal its modes back; what was typed and not read is no command of the shell that comes back. This doesn't wait until the
+    terminal has shown what was written, as TCSAFLUSH would."""
     with contextlib.suppress(termios.error, OSError):
-        set_modes(terminal, termios.TCSAFLUSH, modes)
+        termios.tcflush(terminal, termios.TCIFLUSH)
+        set_modes(terminal, termios.TCSANOW, modes)
 
 
 def opened_for_writing(terminal: int) -> int:
-    """A terminal opened anew, so that writes to it needn't wait while those of other programs do; itself where it has no name here."""
+    """A terminal opened anew, so that writes to it needn't wait while those of other programs do: by its name, or, where that is none here
+    or may not be opened, as after `su`, as the terminal that controls this process. Itself where neither can be."""
+    flags = os.O_WRONLY | os.O_NOCTTY | os.O_NONBLOCK
     try:
-        return os.open(os.ttyname(terminal), os.O_WRONLY | os.O_NOCTTY | os.O_NONBLOCK)
+        return os.open(os.ttyname(terminal), flags)
+    except OSError:
+        pass
+    try:
+        # This fails for a terminal that doesn't control this process.
+        os.tcgetpgrp(terminal)
+        return os.open("/dev/tty", flags)
     except OSError:
         return os.dup(terminal)

@@ -82,6 +82,7 @@ class Fronts(Case):
         os.set_blocking(self.master, False)
         self.wakeup, self.wakes = self.pipe()
         self.patch_of(front_end, "woken", return_value=self.wakeup)
+        self.quiet = self.patch_of(front_end, "unwoken")
         self.panes = PlayedPanes(self.place)
         self.patch_of(front_end, "PanesFollower", lambda folder, loop, changed, tells: self.panes)
         self.front = FrontEnd(self.place, False, "C-b", "adaptive", lambda places: False, StillLoop())
@@ -326,7 +327,15 @@ class Loop(Fronts):
         with mock.patch.object(self.front.display.outer, "suspend", lambda: os.write(self.wakes, bytes([18, 20, 28, 15]))):
             with mock.patch.object(self.front, "resized") as resizes:
                 self.turn(1)
-        self.assertEqual((resizes.call_count, self.front.left), (2, "[terminated]"))
+        # One that is to leave doesn't take the terminal again.
+        self.assertEqual((resizes.call_count, self.front.left), (1, "[terminated]"))
+        self.front.left = None
+        os.write(self.wakes, bytes([signal.SIGTSTP]))
+        with mock.patch.object(self.front.display.outer, "suspend", lambda: os.write(self.wakes, bytes([18, 20, 28]))):
+            with mock.patch.object(self.front, "resized") as resizes:
+                self.turn(1)
+        self.assertEqual((resizes.call_count, self.front.left), (2, None))
+        self.front.left = "[terminated]"
         os.write(self.wakes, bytes([signal.SIGTSTP]))
         with mock.patch.object(self.front.display.outer, "suspend") as suspends:
             self.turn(1)
@@ -537,10 +546,62 @@ class Loop(Fronts):
         with mock.patch.object(terminal, "make_raw") as raws:
             outer.enter_again()
         raws.assert_called_once_with(0)
-        with mock.patch.object(terminal, "restore") as restores, mock.patch("os.set_blocking") as blocks, \
-                mock.patch.object(display, "write", return_value=False):
+        with mock.patch.object(terminal, "restore") as restores, mock.patch("os.get_blocking", return_value=False), \
+                mock.patch.object(display, "ready", return_value=True), mock.patch.object(display, "write", return_value=False):
             outer.leave("")
-        self.assertEqual((restores.call_args[0], blocks.call_args[0]), ((0, [1]), (9, True)))
+            outer.leave("")
+        restores.assert_called_once_with(0, [1])
+
+    def fill(self):
+        """Has the terminal take nothing more."""
+        outer = self.front.display.outer
+        with suppress(BlockingIOError):
+            while True:
+                os.write(outer.end, bytes(256))
+
+    def test_frozen(self):
+        """A terminal that takes nothing is left after a second: what was typed is handed over before, and its modes are as before. One that
+        takes it meanwhile has its screen back."""
+        self.patch_of(display, "LEAVES", 0.05)
+        for takes in (False, True):
+            outer, steps = self.front.display.outer, []
+            self.fill()
+
+            def part():
+                steps.append((bytes(outer.waiting), outer.is_taken))
+                return read_now(self.master) if takes else b""
+
+            with mock.patch.object(self.front, "connect"), mock.patch.object(self.front, "part", part):
+                self.front.left = "[terminated]"
+                self.front.run()
+            self.assertEqual(steps, [(given_back(0) + terminal.LEFT + b"[terminated]\r\n", True)])
+            self.assertEqual((outer.waiting, outer.is_taken, termios.tcgetattr(self.slave)), (b"", False, self.before))
+            self.assertEqual(self.shown().endswith(terminal.LEFT + b"[terminated]\r\n"), takes)
+            self.assertEqual(self.quiet.call_args_list.pop(), mock.call(*front_end.LEAVING))
+
+    def test_waits(self):
+        """What waits for a write that could wait is written a byte each time, while the terminal takes one."""
+        outer = self.front.display.outer
+        outer.enter()
+        with mock.patch("os.get_blocking", return_value=True), mock.patch.object(display, "write", wraps=display.write) as writes:
+            outer.leave("[left]")
+        self.assertTrue(self.shown().endswith(terminal.LEFT + b"[left]\r\n"))
+        self.assertEqual({len(call[0][1]) for call in writes.call_args_list}, {0})
+        self.assertGreater(len(writes.call_args_list), len(terminal.LEFT))
+
+    def test_steps(self):
+        """Whatever of the end fails, the rest of it is done, and the first fault is the one that is told."""
+        steps = []
+        for fails in (KeyError, None):
+            with mock.patch.object(self.front.commands, "left", side_effect=KeyError("left")), \
+                    mock.patch.object(self.front, "part", side_effect=ValueError("part")), \
+                    mock.patch.object(self.front, "connect", side_effect=None if fails else RuntimeError("first")):
+                self.front.left = "[left]"
+                self.assertRaisesRegex(fails or RuntimeError, "left" if fails else "first", self.front.run)
+            self.assertTrue(self.shown().endswith(terminal.LEFT + b"[left]\r\n"))
+            self.assertEqual(termios.tcgetattr(self.slave), self.before)
+            steps.append(self.quiet.call_count)
+        self.assertEqual(steps, [1, 2])
 
     def test_follow(self):
         """Who follows is noted while it does, and lets the session go."""

@@ -381,6 +381,38 @@ class Due(Case):
         self.assertEqual(done, [2])
 
 
+class Steps(Case):
+    """Steps that are all done."""
+
+    def test_all(self):
+        """Each is done, whatever the others raise, and the first fault is raised; but none in place of one that is being raised."""
+        done = []
+
+        def fails(name):
+            done.append(name)
+            raise ValueError(name)
+
+        with self.assertRaisesRegex(ValueError, "^a$"):
+            program.all_done(lambda: fails("a"), lambda: done.append("b"), lambda: fails("c"), lambda: done.append("d"))
+        self.assertEqual(done, ["a", "b", "c", "d"])
+        with self.assertRaisesRegex(KeyError, "before"):
+            try:
+                raise KeyError("before")
+            finally:
+                program.all_done(lambda: fails("e"), lambda: done.append("f"))
+        self.assertEqual(done[4:], ["e", "f"])
+        program.all_done(lambda: done.append("g"))
+
+    def test_unwoken(self):
+        """Signals have their default action again."""
+        before = {number: signal.getsignal(number) for number in (signal.SIGUSR1, signal.SIGUSR2)}
+        self.addCleanup(lambda: [signal.signal(number, action) for number, action in before.items()])
+        for number in before:
+            signal.signal(number, lambda number, frame: None)
+        program.unwoken(*before)
+        self.assertEqual({signal.getsignal(number) for number in before}, {signal.SIG_DFL})
+
+
 class Running(Case):
     """Which programs run in panes."""
 
@@ -414,8 +446,8 @@ class Running(Case):
         count, nor do processes that left the session."""
         self.environment(SHELL="/opt/mine")
         panes = {f"{one}0/environ": f"ROAM_PANE=/w:{one}\0" for one in range(1, 7)}
-        self.patch_of(programs.os, "listdir", return_value=["7", "10", "11", "12", "20", "21", "22", "23", "30", "31", "40", "41", "42", "50",
-                                                           "51", "60", "62", "self", "99"])
+        numbers = "7 10 11 12 20 21 22 23 30 31 40 41 42 50 51 60 62 self 99"
+        self.patch_of(programs.os, "listdir", return_value=numbers.split())
         stats = {10: "bash S 10 10 10", 11: "vim T 11 10 10", 12: "rg T 11 10 10", 20: "zsh S 20 20 20", 21: "(a) S 21 20 20",
                  22: "make S 22 20 20", 23: "cc Z 23 20 20", 30: "bash S 30 30 30", 31: "old Z 31 30 30", 40: "sh S 40 40 41",
                  41: "fish S 41 40 41", 42: "vi T 42 40 41", 50: "sh S 50 50 50", 51: "apart S 51 51 51", 60: "htop S 60 60 60",
@@ -424,7 +456,8 @@ class Running(Case):
             name, state, group, session, front = text.split()
             stats[number] = f"{number} ({name}) {state} 7 {group} {session} 34817 {front} 4194304 1 0"
         names = {f"{number}/comm": text.partition("(")[2].rpartition(")")[0] + "\n" for number, text in stats.items()}
-        self.proc({"7/task/7/children": "10 20 30 40 50 60 ", **panes, **{f"{number}/stat": text for number, text in stats.items()}, **names})
+        texts = {f"{number}/stat": text for number, text in stats.items()}
+        self.proc({"7/task/7/children": "10 20 30 40 50 60 ", **panes, **texts, **names})
         self.assertEqual([programs.jobs_in(leader) for leader in (10, 20, 30, 40, 50, 60, 70)],
                          [["vim (stopped)"], ["(a) (background)", "make (background)"], [], ["fish", "vi (stopped)"], [],
                           ["cat (background)"], []])

@@ -113,6 +113,32 @@ class Modes(Case):
         self.assertFalse(os.get_blocking(again))
         self.assertTrue(os.get_blocking(self.slave))
 
+    def test_opened_controlling(self):
+        """One that can't be opened by its name is opened as the terminal that controls this process, where it does."""
+        opened, flags = [], os.O_WRONLY | os.O_NOCTTY | os.O_NONBLOCK
+        self.patch("os.ttyname", return_value="/dev/pts/9")
+        dups = self.patch("os.dup", return_value=7)
+        for is_controlling, names in ((True, ["/dev/pts/9", "/dev/tty"]), (False, ["/dev/pts/9"])):
+            opened.clear()
+
+            def opens(name, found):
+                opened.append(name)
+                self.assertEqual(found, flags)
+                if name == "/dev/pts/9":
+                    raise PermissionError(errno.EACCES, "denied")
+                return 8
+
+            with mock.patch("os.open", opens), mock.patch("os.tcgetpgrp", side_effect=None if is_controlling else OSError(25, "none")):
+                self.assertEqual(terminal.opened_for_writing(3), 8 if is_controlling else 7)
+            self.assertEqual((opened, dups.call_count), (names, not is_controlling))
+
+    def test_frozen(self):
+        """Neither to be made raw nor to be given back waits until the terminal has shown what was written."""
+        with mock.patch("termios.tcsetattr") as sets:
+            before = terminal.make_raw(self.slave)
+            terminal.restore(self.slave, before)
+        self.assertEqual([call[0][1] for call in sets.call_args_list], [termios.TCSANOW] * 2)
+
 
 class Commands(Case):
     """What a command becomes."""
