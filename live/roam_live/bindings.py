@@ -2,9 +2,12 @@
 from __future__ import annotations
 
 from roam_live.choices import PREFIX, PREFIXES
+from roam_live.colours import COLOUR
 from roam_live.command_table import DEFAULT_KEYS, asked_by
+from roam_live.extended_keys import ANSWERED
 from roam_live.key_names import name_of_key, named, named_key, names_of_key, typed_name
 from roam_live.keys import Key, acts_of
+from roam_live.mouse import MOUSE
 
 TYPE_CHECKING = False
 if TYPE_CHECKING:
@@ -24,6 +27,9 @@ BORDERS = {key: asked.wish for key, asked in DEFAULTS.items() if asked.wish.star
 WISHES = {key: asked.wish for key, asked in DEFAULTS.items() if key not in BINDINGS and key not in BORDERS}
 
 ESCAPE = "\x1b"
+
+# What comes among keys and is none: an escape before one of these is a key of its own.
+NO_KEYS = ("text", "paste", "pasted", MOUSE, COLOUR, ANSWERED)
 
 # What a wish begins with that is a key's of a person's own: its table and its name stand behind.
 OWN = "own"
@@ -74,9 +80,9 @@ def help_with(prefix: str) -> str:
     return "\n".join(lines).replace(PREFIX, prefix)
 
 
-def spelled(name: str) -> str:
-    """How a key is told of."""
-    return next((known for known, letter in PREFIXES.items() if letter == name), name if name.isprintable() else "this key")
+def with_meta(escape: Key, key: Key) -> Key | None:
+    """Return the key with Meta that a terminal sends as an escape and another key right behind it; None if they aren't one."""
+    return Key(f"M-{key.name}", escape.text + key.text) if escape.name == ESCAPE and key.name not in NO_KEYS else None
 
 
 class Typing:
@@ -102,15 +108,23 @@ class Typing:
 
     def joined(self, keys: list[Key]) -> list[Key]:
         """Keys, of which an escape and the one behind it are one with Meta where a person has bound that."""
+        if not self.own:
+            return keys
         found: list[Key] = []
         for key in keys:
-            before = found[-1] if found and self.own else None
-            one = Key(f"M-{key.name}", before.text + key.text) if before and before.name == ESCAPE and key.name != "text" else None
+            one = with_meta(found[-1], key) if found else None
             if one and any((table, name_of_key(one)) in self.own for table in ("root", "prefix")):
                 found[-1] = one
             else:
                 found.append(key)
         return found
+
+    def whole(self, keys: list[Key], place: int) -> tuple[Key, int]:
+        """Return the key at this place, and how many of these it is: behind the prefix an escape and the next key are one with Meta,
+        whether or not that is bound, so that nothing of a key that isn't bound is typed. An escape that comes alone has waited for more."""
+        is_before = self.mode == self.prefixed and place + 1 < len(keys)
+        one = with_meta(keys[place], keys[place + 1]) if is_before else None
+        return (one, 2) if one else (keys[place], 1)
 
     def own_wish(self, table: str, key: Key, now: float) -> str | None:
         """What a person's own binding of a key asks for, nothing where it is bound to nothing; None where there is none."""

@@ -7,7 +7,7 @@ import time
 from collections.abc import Callable
 
 from roam_live import terminal
-from roam_live.bindings import NEWEST, OWN, PICKS, Typing, help_with, spelled
+from roam_live.bindings import NEWEST, OWN, PICKS, Typing, help_with
 from roam_live.border_keys import BorderKeys
 from roam_live.choices import ESCAPE_TIME, follows_latest, number_of
 from roam_live.choosing import Choosing, ChoosingWindow
@@ -15,6 +15,7 @@ from roam_live.copying import Copying, CopyEvent
 from roam_live.display import NO_SIZE, Display
 from roam_live.foci import Foci
 from roam_live.extended_keys import ANSWERED, form_for
+from roam_live.key_names import spelled
 from roam_live.keys import TYPES, Key, Keys, acts_of
 from roam_live.links import StartLink
 from roam_live.loops import Loop
@@ -142,20 +143,25 @@ class Commands:
         """Takes keys; those behind one that goes to another window, or opens one, are for that."""
         self.follow_latest()
         keys = self.typing.joined(keys)
-        for place, key in enumerate(keys):
-            if self.windows and self.windows.takes(self, keys[place:]):
-                break
-            if key.name in (COLOUR, ANSWERED) or key.name == MOUSE and self.typing.mode != self.typing.pasting:
-                self.reported(key)
-                continue
-            is_help = self.display.cover == self.help
-            if is_help:
-                self.display.uncover()
-            # A key that ends the help means nothing else, unless it begins something.
-            if not is_help or key.name in (self.typing.prefix, "paste"):
-                self.take(key)
+        place = 0
+        while place < len(keys) and not (self.windows and self.windows.takes(self, keys, place)):
+            key, count = self.typing.whole(keys, place)
+            self.take_any(key)
+            place += count
         self.copying.settle()
         self.synchronizing.settle()
+
+    def take_any(self, key: Key) -> None:
+        """Takes a key, or what the terminal reports."""
+        if key.name in (COLOUR, ANSWERED) or key.name == MOUSE and self.typing.mode != self.typing.pasting:
+            self.reported(key)
+            return
+        is_help = self.display.cover == self.help
+        if is_help:
+            self.display.uncover()
+        # A key that ends the help means nothing else, unless it begins something.
+        if not is_help or key.name in (self.typing.prefix, "paste"):
+            self.take(key)
 
     def reported(self, key: Key) -> None:
         """Takes what the terminal reports: what is done with the mouse, or a colour that it has."""
@@ -413,7 +419,7 @@ class Commands:
             if self.windows:
                 self.windows.grant(wish)
         elif wish == "unknown":
-            self.display.tell(f"{self.prefix} {spelled(key.name)} means nothing; {self.prefix} ? shows the keys")
+            self.display.tell(f"{self.prefix} {spelled(key)} is not bound; {self.prefix} ? shows the keys")
         elif wish and not self.link.watches:
             self.change(wish)
 

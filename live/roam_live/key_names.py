@@ -137,6 +137,19 @@ def typed_name(name: str) -> str:
     return controls.get(name) or (chr(ord(name[2].upper()) & 0x1F) if len(name) == 3 and name.startswith("C-") else name)
 
 
+# Names as a person reads them; of others the first letter is a capital one, and that of one with several letters.
+SPELLED = {"pageup": "PageUp", "pagedown": "PageDown", "bspace": "BSpace", "kpenter": "KPEnter"}
+
+
+def spelled(key: Key) -> str:
+    """Return the name of a key as a person reads it, such as `M-Left`, `C-a` or `F5`; `this key` if it has none."""
+    name = next(iter(names_of_key(key)), "this key")
+    held, last = (name[:-1], name[-1]) if name.endswith("-") else (name[: name.rfind("-") + 1], name[name.rfind("-") + 1 :])
+    if name == "this key" or len(last) == 1:
+        return name
+    return held + (SPELLED.get(last) or (last.upper() if last.startswith("kp") else last.capitalize()))
+
+
 def name_of_key(key: Key) -> str:
     """The name of a key as most terminals tell it; nothing of one that has none here."""
     if key.name in TYPED_NAMES:

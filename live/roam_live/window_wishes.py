@@ -359,13 +359,13 @@ class WindowWishes:
         elif was_told:
             self.front.display.end_told()
 
-    def takes(self, commands: Commands, keys: list[Key]) -> bool:
-        """Takes keys that aren't for the window whose commands these are: for one that is being opened, for a list, or for that where the
-        person went. Tells whether they were taken."""
+    def takes(self, commands: Commands, keys: list[Key], place: int) -> bool:
+        """Takes the keys from this place on, if they aren't for the window whose commands these are: for one that is being opened, for a
+        list, or for that where the person went. Tells whether they were taken."""
         if self.is_opening or self.is_listing:
-            self.hold(keys)
+            self.hold(keys[place:])
         elif commands is not self.front.commands:
-            self.front.commands.typed(keys)
+            self.front.commands.typed(keys[place:])
         else:
             return False
         return True

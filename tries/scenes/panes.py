@@ -291,15 +291,16 @@ def told(folder):
     """What a person asks for that can't be had is told for a second, in the last row."""
     outer = Outer(tool("mux", "other"), environment=KEEPS_NONE)
     outer.shows("$ ")
-    means = "means nothing; C-b ? shows the keys"
+    means = "is not bound; C-b ? shows the keys"
     outer.type(b"\x02x")
     asked = "shut window 1 and end the session, whose last it is? y"
     check("the last pane's close is the session's end, and asked for", outer.status(asked), outer.rows)
     outer.type(b"n")
-    for keys, text in ((b"\x02Z", f"C-b Z {means}"), (b"\x02\x01", f"C-b C-a {means}")):
+    for keys, text in ((b"\x02Z", f"C-b Z {means}"), (b"\x02\x01", f"C-b C-a {means}"), (b"\x02\x1b1", f"C-b M-1 {means}")):
         outer.type(keys)
         check(f"{keys!r} is told of", outer.status(text), outer.rows)
         check("and the status comes back", outer.status("[1]", 5), outer.rows)
+    check("nothing of them is typed", [row.rstrip() for row in outer.rows()[:-1] if row.strip()] == ["$"], outer.rows)
     outer.resize(5, 80)
     comes(lambda: listed()[1:4] == ["5", "by", "80"])
     outer.shows("$ ")

@@ -875,7 +875,27 @@ class Wishes(Case):
     def test_unknown(self):
         person = self.person()
         person.types(b"\x02Z")
-        self.assertEqual((person.display.told, person.loop.due["told"][0]), ("C-b Z means nothing; C-b ? shows the keys", 101.0))
+        self.assertEqual((person.display.told, person.loop.due["told"][0]), ("C-b Z is not bound; C-b ? shows the keys", 101.0))
+
+    def test_unknown_meta(self):
+        """Behind the prefix an escape and the key right behind it are one with Meta: nothing of a key that isn't bound is typed, whether it
+        comes at once or in pieces, within the time that an escape waits. A paste is none."""
+        person = self.person()
+        for pieces, name in (((b"\x02\x1b1",), "M-1"), ((b"\x02", b"\x1bn"), "M-n"), ((b"\x02\x1b", b"o"), "M-o"),
+                             ((b"\x02", b"\x1b", b"5"), "M-5"), ((b"\x02\x1b[1;3A",), "M-Up"), ((b"\x02\x1b\x1b[A",), "M-Up"),
+                             ((b"\x02\x1b\x01",), "C-M-a"), ((b"\x02\x1b\x02",), "C-M-b"), ((b"\x02\x1b[27;3;49~",), "M-1")):
+            for piece in pieces:
+                self.now += 0.02
+                person.types(piece)
+            self.assertEqual((person.link.acts, person.display.told), ([], f"C-b {name} is not bound; C-b ? shows the keys"), pieces)
+        person.types(b"\x02\x1b")
+        self.now += 0.03
+        person.loop.do_due()
+        self.assertEqual((person.link.acts, person.display.told), ([], "C-b Escape is not bound; C-b ? shows the keys"))
+        person.types(b"1\x02x\x1b2")
+        self.assertEqual(person.link.acts[0], "char 31")
+        person.types(b"n\x02\x1b\x1b[200~x\x1b[201~y")
+        self.assertEqual(person.link.acts[-1], "char 79")
 
     def test_watches(self):
         """Who only watches types nothing, and may leave, repaint and have the help; where no rows are kept the shared view stays."""

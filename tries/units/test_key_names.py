@@ -1,7 +1,8 @@
 """Keys by tmux's names: what each types, by the sequences of xterm and the VT220."""
 import unittest
 
-from roam_live.key_names import acts_named, named_key
+from roam_live.key_names import acts_named, named_key, spelled
+from roam_live.keys import Key, keys_in
 
 
 def characters(text):
@@ -52,6 +53,15 @@ class Names(unittest.TestCase):
     def test_same(self):
         for one, other in (("C-M-x", "m-c-x"), ("BTab", "S-Tab"), ("^c", "C-c"), ("PageUp", "PPage"), ("Space", " ")):
             self.assertEqual(named_key(one), named_key(other))
+
+    def test_spelled(self):
+        """A key is told of by the name that a person knows, also one that most terminals don't tell from another."""
+        for text, told in (("\x02", "C-b"), ("\x1a", "C-z"), ("\x1c", "C-\\"), ("Z", "Z"), ("-", "-"), ("\x1b[A", "Up"), ("\x1b", "Escape"),
+                           ("\x7f", "BSpace"), ("\r", "Enter"), (" ", "Space"), ("\0", "C-Space"), ("\x1b[5~", "PageUp"),
+                           ("\x1b[15~", "F5"), ("\x1b[Z", "S-Tab"), ("\x1b[1;7D", "C-M-Left"), ("\x1b[27;5;9~", "C-Tab"), ("\x1bOp", "KP0"),
+                           ("\x1b[99~", "this key"), ("\x1b[45;3u", "M--"), ("\u202e", "this key")):
+            self.assertEqual(spelled(keys_in(text)[0]), told, text)
+        self.assertEqual(spelled(Key("M--", "\x1b-")), "M--")
 
 
 if __name__ == "__main__":

@@ -1,7 +1,7 @@
 """Keys of bytes, and what they ask for: the spellings of xterm and the VT220, and the keys of `C-b ?`."""
 import unittest
 
-from roam_live.bindings import Typing, help_with, spelled
+from roam_live.bindings import Typing, help_with
 from roam_live.choices import PREFIXES
 from roam_live.keys import Key, Keys, acts_of, acts_of_bytes
 
@@ -207,8 +207,3 @@ class Asked(unittest.TestCase):
             self.assertEqual(asked_by(Typing(name), text * 2)[-1], (own, ""))
             self.assertTrue(f"{name} itself" in help_with(name) and (name == "C-b" or "C-b" not in help_with(name)))
         self.assertNotIn("C-z", [line.split()[0] for line in help_with("C-z").split("\n") if "suspend" in line])
-
-    def test_spelled(self):
-        for name, told in (("\x02", "C-b"), ("\x1a", "C-z"), ("\x1c", "C-\\"), ("Z", "Z"), ("up", "up"), ("\x1b", "this key"),
-                           ("\x7f", "this key")):
-            self.assertEqual(spelled(name), told)
