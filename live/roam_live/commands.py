@@ -114,6 +114,7 @@ class Commands:
         self.pastes = Pastes(link, panes, shells, loop, self.unpasted, lambda line: display.tell(line, PASTE_TOLD))
         self.synchronizing = Synchronizing(self, loop)
         self.pastes.spreads = self.synchronizing.pasted_in
+        self.pastes.is_cut = self.is_cut
         # The session's size and the labels of its panes, as they were told last.
         self.known: tuple[terminal.Size, str] = (NO_SIZE, "")
         # Where a command of this person moved the focus, since it was told: to a pane, or to one that isn't known, 0; and what was told
@@ -226,10 +227,13 @@ class Commands:
             self.pastes.begin(NO_ANSWER if before == self.typing.answering else "")
 
     def is_full(self) -> bool:
-        """Whether so much waits behind a paste, for rows or for the focus, that nothing more is to come."""
-        if self.synchronizing.is_full():
-            return True
-        return self.pastes.is_full() or self.copying.is_full() or self.windows is not None and self.windows.is_full()
+        """Whether so much waits for rows, for the focus or for a window that nothing more is to come. What waits behind a paste keeps
+        nothing back: C-c and the prefix are read in any case."""
+        return self.synchronizing.is_full() or self.copying.is_full() or self.windows is not None and self.windows.is_full()
+
+    def is_cut(self) -> bool:
+        """Return True during an outage: the server is silent, or no connection is there to what keeps the shells."""
+        return self.display.silent > 0 or self.shells is not None and self.shells.peer is None
 
     def unpasted(self) -> str:
         """Why nothing is pasted now; nothing where it is."""

@@ -770,14 +770,14 @@ class Chosen(Copied):
         self.assertEqual((person.said(), person.link.acts[-1]), ([" ; ".join(["paste", *mark_acts(name)])], "char 78"))
 
     def test_refused(self):
-        """What is refused, or not taken, is told, and what waits behind it goes on."""
+        """What is refused, or not taken, is told, and what waits behind it is dropped."""
         for word, more, told in (("refused", "it isn't kept", "nothing is pasted: it isn't kept"),
                                  ("untold", "", "nothing is pasted: what keeps the shells takes nothing")):
             person = self.person(opens=False)
             self.kept.texts = [b"one"]
             person.types(b"\x02]x")
             person.commands.pastes.answered(self.shells.gave[0][0], word, more)
-            self.assertEqual((person.display.told, person.link.acts[-1]), (told, "char 78"))
+            self.assertEqual((person.display.told, person.link.acts), (f"{told}; what was typed behind it is dropped", []))
 
     def test_ends_copy_mode(self):
         """A paste of a buffer ends copy mode."""

@@ -1,6 +1,7 @@
 """A person's front end: its loop on a pseudo-terminal, with a start that is played, and what keys ask of it."""
 import os
 import pty
+import select
 import signal
 import termios
 from contextlib import suppress
@@ -259,6 +260,31 @@ class Loop(Fronts):
         self.front.left_at = None
         self.front.commands.pastes.waiting.clear()
         self.assertFalse(self.front.hands_over())
+
+    def test_much_behind_a_paste(self):
+        """C-c and the prefix are read however much waits behind a paste."""
+        start = self.connect()
+        read_now(start)
+        waits = self.front.commands.pastes
+        for text, lines, left in ((b"x\x03", b"char 3\n", None), (b"x\x02d", b"", "[detached]")):
+            waits.wait_for([pastes.Paste("text", False), pastes.Behind(("char 61",) * pastes.MOST_BEHIND)])
+            self.type(text)
+            self.assertEqual((read_now(start), self.front.left, bool(waits.waiting)), (lines, left, not lines))
+
+    def test_outage(self):
+        """There is an outage while the server is silent, or no connection to what keeps the shells is there."""
+        start = self.connect()
+        commands = self.front.commands
+        self.assertTrue(commands.is_cut())
+        commands.shells.peer = mock.Mock()
+        self.assertFalse(commands.is_cut())
+        start.send(record("silent", 10))
+        self.turn()
+        self.assertTrue(commands.pastes.is_cut())
+        start.send(record("heard"))
+        self.turn()
+        self.assertFalse(commands.pastes.is_cut())
+        commands.shells.peer = None
 
     def test_fault(self):
         """What nobody foresaw brings the terminal back too, from the moment on at which it is taken: that is none before it runs."""
@@ -555,8 +581,9 @@ class Loop(Fronts):
     def fill(self):
         """Has the terminal take nothing more."""
         outer = self.front.display.outer
-        with suppress(BlockingIOError):
-            while True:
+        # The system moves what was written on a moment later, and there is room again.
+        while select.select([], [outer.end], [], 0.05)[1]:
+            with suppress(BlockingIOError):
                 os.write(outer.end, bytes(256))
 
     def test_frozen(self):

@@ -7,7 +7,8 @@ from roam_live import pastes
 from roam_live.following import PAUSES
 from roam_live.given import FULL
 from roam_live.keys import BRACKETS
-from roam_live.pastes import DROPPED, ENDS, HANDING, LOST_WORDS, MOST_BEHIND, NOT_TAKEN, SHORT, TOO_LONG, Pastes
+from roam_live.pastes import (BEHIND_IT, COUNTS, DROPPED, DROPS, ENDS, FULL_BEHIND, HANDING, LOST_WORDS, MOST_BEHIND, NOT_TAKEN, SHORT,
+                              TOO_LONG, Pastes, weight)
 from roam_live.shells_link import GIVES_AGAIN, LATER, MOST_GIVING, UNTOLD, ShellsLink
 from roam_live.texts import mark_acts
 from test_display import Person, PlayedPanes, StartLink, places
@@ -161,14 +162,67 @@ class Handed(Case):
         self.paste(LONG)
         self.pastes.type("char 61")
         self.tell(1, "lost")
-        self.assertEqual((self.link.lines, self.said, self.loop.due), (["char 61"], [LOST_WORDS], {}))
+        self.assertEqual((self.link.lines, self.said, self.loop.due), ([], [BEHIND_IT.format(LOST_WORDS)], {}))
+        self.tell(2, "lost")
+        self.assertEqual(len(self.said), 1)
 
     def test_refused(self):
-        """What is refused is told in words, and what was typed behind it goes."""
+        """What is refused is told in words, and what was typed behind it is dropped, since it may mean something else alone: keys, and
+        pastes, up to the act that moves the focus, and no other acts."""
         self.paste(LONG)
         self.pastes.type("char 61")
-        self.tell(1, "refused", "16 MB wait to be pasted")
-        self.assertEqual((self.link.lines, self.said), (["char 61"], ["nothing is pasted: 16 MB wait to be pasted"]))
+        self.pastes.type_together("size 24 80")
+        self.pastes.type_together("focus 1", "char 61", "focus 2", "char 61", "focus 1")
+        self.paste("short")
+        self.paste(LONG)
+        self.pastes.type("view 3", "key return", "next", "char 62")
+        self.pastes.type("char 63")
+        self.paste(LONG)
+        self.tell(1, "refused", "it is lost")
+        self.assertEqual(self.link.lines, ["size 24 80", "focus 1 ; focus 2 ; focus 1", "view 3 ; next ; char 62", "char 63"])
+        self.assertEqual((self.said, self.shells.cancelled), ([BEHIND_IT.format("nothing is pasted: it is lost")],
+                                                              [f"{1:016x}", f"{2:016x}"]))
+        self.tell(3, "held")
+        self.assertEqual(self.link.lines[4:], [self.mark(3)])
+        # The focus is elsewhere since.
+        self.pastes.type("char 64")
+        self.assertEqual((self.link.lines[5:], self.pastes.behind), (["char 64"], 0))
+
+    def test_refused_just_now(self):
+        """So are keys for a second after that was told; not C-c, nor what follows it, a paste, or an act that moves the focus."""
+        why = "nothing is pasted: it is lost"
+        for acts, typed in ((["char 3"], ["char 3"]), (["next"], ["next"]), (["focus 1", "char 66"], ["focus 1 ; char 66"]),
+                            (["view 3", "char 66"], ["view 3"])):
+            self.paste(LONG)
+            self.tell(len(self.shells.gave), "refused", "it is lost")
+            self.now += DROPS - 0.01
+            self.pastes.type("char 61")
+            self.pastes.type_lines([["char 61", "focus 2", "char 61", "focus 1"]])
+            self.assertEqual((self.link.lines, self.said), ([], [why, BEHIND_IT.format(why)]))
+            self.pastes.type(*acts)
+            self.pastes.type("char 67")
+            self.assertEqual(self.link.lines, typed + ["char 67"] * (acts[0] != "view 3"))
+            self.now += 0.01
+            self.pastes.type("char 68")
+            self.assertEqual(self.link.lines.pop(), "char 68")
+            self.link.lines.clear(), self.said.clear()
+
+    def test_outage(self):
+        """The time of an outage doesn't count, nor that in which this process was stopped."""
+        self.paste(LONG)
+        self.pastes.type("char 61")
+        for is_cut, seconds in ((False, 50), (True, 3600), (False, 9)):
+            self.pastes.is_cut = lambda is_cut=is_cut: is_cut
+            self.wait(seconds)
+        self.now += 3600
+        self.loop.do_due()
+        self.assertEqual((self.link.lines, self.said), ([], [BEHIND_IT.format(NOT_TAKEN)]))
+
+    def wait(self, seconds):
+        """Lets seconds pass, one by one."""
+        for _ in range(seconds):
+            self.now += 1
+            self.loop.do_due()
 
     def test_later(self):
         """One for which there is no room yet is waited for, and what was typed behind it too: that is told, and after 60 seconds why
@@ -179,29 +233,26 @@ class Handed(Case):
             self.paste(LONG)
             number = len(self.shells.gave)
             self.pastes.type("char 61")
-            self.now += HANDING / 2
+            self.wait(30)
             self.tell(number, LATER, "64 texts wait to be pasted")
             self.assertEqual((self.link.lines, self.said), ([], ["what is pasted waits: 64 texts wait to be pasted"]))
             if is_held:
                 self.tell(number, "held")
                 self.assertEqual(self.link.lines, [self.mark(number), "char 61"])
                 continue
-            self.now += HANDING / 2
-            self.loop.do_due()
-            self.assertEqual((self.link.lines, self.said[1:]), (["char 61"], ["nothing is pasted: 64 texts wait to be pasted"]))
+            self.wait(30)
+            self.assertEqual((self.link.lines, self.said[1:]), ([], [BEHIND_IT.format("nothing is pasted: 64 texts wait to be pasted")]))
 
     def test_not_taken(self):
-        """A keeper that takes nothing for 60 seconds is told of, and what was typed behind it goes."""
+        """A keeper that takes nothing for 60 seconds is told of, and what was typed behind it is dropped."""
         self.paste(LONG)
         self.pastes.type("char 61")
-        self.now += HANDING - 1
-        self.loop.do_due()
-        self.assertEqual(self.link.lines, [])
-        self.now += 1
-        self.loop.do_due()
-        self.assertEqual((self.link.lines, self.said, self.shells.cancelled), (["char 61"], [NOT_TAKEN], [f"{1:016x}"]))
+        self.wait(59)
+        self.assertEqual((self.link.lines, self.said), ([], []))
+        self.wait(1)
+        self.assertEqual((self.link.lines, self.said, self.shells.cancelled), ([], [BEHIND_IT.format(NOT_TAKEN)], [f"{1:016x}"]))
         self.tell(1, "held")
-        self.assertEqual(self.link.lines, ["char 61"])
+        self.assertEqual((self.link.lines, self.loop.due, HANDING), ([], {}, 60.0))
 
     def test_interrupted(self):
         """A C-c that is typed behind pastes that wait drops them and all keys between and behind them, and is typed itself; one that is
@@ -288,14 +339,24 @@ class Handed(Case):
         self.assertEqual((self.said[3:], len(self.shells.gave)), ([TOO_LONG], 2))
 
     def test_full(self):
-        """So much may be typed behind one before no more is read."""
+        """So many keys are typed behind one before others are dropped, which is told: not C-c, which drops all, nor other acts."""
         self.paste(LONG)
         self.pastes.type(*["char 61"] * (MOST_BEHIND - 1))
         self.assertFalse(self.pastes.is_full())
         self.pastes.type("char 61")
         self.assertTrue(self.pastes.is_full())
+        self.pastes.type("next")
+        self.pastes.type("view 3", "char 62")
+        self.pastes.type("focus 1", "char 62")
+        self.pastes.type_lines([["char 62", "focus 2", "char 62", "focus 1"]])
+        self.assertEqual((set(self.said), weight(self.pastes.waiting)), ({FULL_BEHIND}, MOST_BEHIND + 4))
         self.tell(1, "held")
         self.assertFalse(self.pastes.is_full())
+        self.assertEqual((self.link.lines[3:], self.pastes.behind), (["next", "view 3", "focus 1"], 0))
+        self.paste(LONG)
+        self.pastes.type(*["char 61"] * MOST_BEHIND)
+        self.pastes.type("char 3")
+        self.assertEqual((self.link.lines[6:], self.pastes.behind), (["char 3"], 0))
 
 
 class Given(Sockets):
