@@ -31,6 +31,11 @@ DRAWN = 0.05
 # So many seconds later nothing stands there any more of a window that was left, where the other isn't painted yet.
 ENTERS = 0.15
 
+# A part that the start chose over an earlier screen is asked for again after so many seconds, and after twice as many each time, until it
+# has the new one.
+CHOSEN_AGAIN = 0.05
+MOST_CHOSEN = 8
+
 # A terminal has so many seconds for taking what it is left with: one that takes nothing, as where its emulator hangs, isn't waited for.
 LEAVES = 1.0
 
@@ -177,6 +182,10 @@ class Display:
         self.zoomed: Rect | None = None
         self.corner: tuple[int, int] | None = None
         self.is_held = False
+        # Whether all of the session is asked for from its first row and column on, since what is shown began elsewhere; whether it is told
+        # where the part begins that was asked for last; and how often in a row one was asked for again.
+        self.is_from_first = self.is_placed = False
+        self.chosen = 0
         # Whether nothing that is painted may reach the terminal before all is painted anew.
         self.is_stale = True
         # What stands in place of the session; what is told in the last row; for how many seconds nothing was heard of the server; and the
@@ -214,7 +223,7 @@ class Display:
     def begin(self) -> None:
         """Knows nothing of what a start paints that was just connected to: it paints the whole where it isn't asked for a part."""
         self.asked, self.painted_size, self.place = None, NO_SIZE, self.place if self.drawing else (0, 0)
-        self.corner = None
+        self.corner, self.is_from_first = None, False
         self.is_stale, self.silent, self.line_put, self.is_masked = True, 0, None, False
 
     def know(self, size: terminal.Size, labels: str, may_be_whole: bool) -> None:
@@ -223,6 +232,7 @@ class Display:
         self.told_size, self.labels, self.may_be_whole = size, labels, may_be_whole
         # What is shown of one that is smaller now may begin too far below, or to the right.
         self.choose(is_anew=is_smaller and self.place != (0, 0))
+        self.mend_place()
         self.put_line()
 
     def size(self) -> terminal.Size:
@@ -260,20 +270,49 @@ class Display:
             return
         if self.cover.startswith(TOO_SMALL):
             self.cover, is_painted = "", True
-        corner = (self.zoomed.row - 1, self.zoomed.col - 1) if self.zoomed else None
         if self.is_held:
             return
-        if (self.wanted(), corner) != (self.asked, self.corner) or is_anew:
+        part = self.wanted()
+        self.is_from_first = not self.zoomed and self.has_all(part) and (self.is_from_first or self.place != (0, 0))
+        corner = (self.zoomed.row - 1, self.zoomed.col - 1) if self.zoomed else (0, 0) if self.is_from_first else None
+        if (part, corner) != (self.asked, self.corner) or is_anew:
             self.corner = corner
-            self.ask_part(self.wanted())
+            self.ask_part(part)
         elif is_painted and not self.cover:
             self.repaint()
         self.moved()
 
+    def has_all(self, part: terminal.Size | None) -> bool:
+        """Return True if a part has all rows and columns of the panes: the session's status row alone is left out."""
+        size = self.size()
+        return size != NO_SIZE and part == (size[0] - 1, size[1])
+
+    def mend_place(self) -> None:
+        """Ask for another part if the one that is shown has the session's own status row. The start chooses a part over the screen that it
+        has, and may have the new one of a session that became smaller only after that was told here. What has all panes begins at the first
+        row and column, whatever screen the start has; of another part the start has to choose again."""
+        if not self.asked or self.corner or self.is_held or not self.is_beyond(self.asked):
+            self.chosen = 0
+        elif self.has_all(self.asked):
+            self.choose()
+        elif "part" not in self.loop.due and self.chosen < MOST_CHOSEN:
+            self.loop.later("part", CHOSEN_AGAIN * 2 ** self.chosen, self.choose_again)
+
+    def is_beyond(self, part: terminal.Size) -> bool:
+        """Return True if it is told where the part begins, and it reaches beyond the panes."""
+        rows, cols = self.size()
+        return self.is_placed and self.size() != NO_SIZE and (self.place[0] + part[0] > rows - 1 or self.place[1] + part[1] > cols)
+
+    def choose_again(self) -> None:
+        """Have the start choose the part again, if it still has to."""
+        if self.asked and not self.corner and not self.is_held and self.is_beyond(self.asked):
+            self.chosen += 1
+            self.choose(is_anew=True)
+
     def ask_part(self, part: terminal.Size | None) -> None:
         """Asks for a part of the session, or for all of it: for that part with the cursor that is nearest to the first row and column, or,
         where something is drawn over it, for the one that is shown."""
-        self.asked, self.is_stale = part, True
+        self.asked, self.is_stale, self.is_placed = part, True, False
         if part and (self.corner or self.drawing):
             rows, cols = self.size()
             top, left = self.corner or (max(0, min(place, most)) for place, most in zip(self.place, (rows - 1 - part[0], cols - part[1])))
@@ -295,7 +334,7 @@ class Display:
     def shows_all(self) -> bool:
         """Whether all of the session is shown, as far as its size is known: its status row may be left out."""
         size = self.size()
-        return self.zoomed is not None or self.asked is None or size == NO_SIZE or self.asked == (size[0] - 1, size[1])
+        return self.zoomed is not None or self.asked is None or size == NO_SIZE or self.has_all(self.asked)
 
     # ---- a pane alone
 
@@ -348,8 +387,9 @@ class Display:
         if record.word == "size":
             self.take_size((record.numbers[0], record.numbers[1]))
         elif record.word == "part":
-            self.place = record.numbers[0], record.numbers[1]
+            self.place, self.is_placed = (record.numbers[0], record.numbers[1]), True
             self.moved()
+            self.mend_place()
         elif record.word in ("paint", "anew"):
             self.take_painting(record)
         elif record.word in ("silent", "heard"):

