@@ -27,6 +27,7 @@ from roam_live.program import has_others
 from roam_live.programs import told
 from roam_live.following import PanesFollower
 from roam_live.places import BESIDE, MOVES, Places
+from roam_live.preloading import REPLACED
 from roam_live.presence import LEAVE_OTHERS
 from roam_live.prompts import Prompts
 from roam_live.synchronizing import Synchronizing
@@ -71,6 +72,9 @@ OF_WINDOW = ("fit", "others", "size", "given", "motion", "border", "untold", "ev
 # What is told where the session gets this terminal's size since somebody types here.
 LATEST_TOLD = "sized to this terminal (window-size latest): what is wider was cut"
 SIZED_TOLD = 2.0
+
+# So many seconds a line stands that tells that roam was replaced.
+REPLACED_TOLD = 3.0
 
 # What is told where no pane is known that was in focus before.
 NO_LAST = "no other pane was in focus"
@@ -162,7 +166,15 @@ class Commands:
             self.display.uncover()
         # A key that ends the help means nothing else, unless it begins something.
         if not is_help or key.name in (self.typing.prefix, "paste"):
-            self.take(key)
+            try:
+                self.take(key)
+            except ImportError:
+                self.tell_replaced()
+
+    def tell_replaced(self) -> None:
+        """Tell that a module of this roam can't be imported any more, and go on without what needs it."""
+        self.copying.give_up()
+        self.display.tell(REPLACED, REPLACED_TOLD)
 
     def reported(self, key: Key) -> None:
         """Takes what the terminal reports: what is done with the mouse, or a colour that it has."""

@@ -196,6 +196,11 @@ class Copying:
         self.screen.lay()
         self.go_on()
 
+    def give_up(self) -> None:
+        """Closes it in whatever state it is, and drops what waits."""
+        self.close()
+        self.events.clear()
+
     def close(self, why: str = "") -> None:
         """Closes it, where it is open, and drops what waits; tells why, where there is something to tell."""
         if not self.is_on():

@@ -20,6 +20,7 @@ from roam_live.following import AWAITED, PanesFollower
 from roam_live.links import LAST_WAIT, Keeper, StartLink
 from roam_live.loops import Loop
 from roam_live.own_settings import OWN
+from roam_live.preloading import Preloading
 from roam_live.program import Fault, all_done, noted_front_end, read, unwoken, woken
 from roam_live.shells_link import ShellsLink
 from roam_live.status_row import StatusRow
@@ -76,6 +77,7 @@ class FrontEnd:
         self.shells = ShellsWatch(session, self.loop, lambda line: self.display.tell(line, LOSS_TOLD))
         self.display = Display(self.loop, self.say)
         self.parting = Parting(self.loop)
+        self.preloading = Preloading(self.loop)
         # The sizes of the windows of which all was shown as they were left, by their numbers.
         self.shown_whole: dict[int, Size] = {}
         # In which of them keys were switched to go to all panes, or not.
@@ -372,7 +374,10 @@ class FrontEnd:
 
     def turn(self) -> None:
         """Waits until something can be done, and does it. What is at hand goes at once, where it is taken: a person waits for each key."""
-        self.loop.turn()
+        try:
+            self.loop.turn()
+        except ImportError:
+            self.commands.tell_replaced()
         if self.has_keypads():
             places = self.panes.places
             self.display.set_keypad(places is not None and places.focus in self.bells.keypads)
@@ -406,6 +411,8 @@ class FrontEnd:
     def take(self, record: ToldRecord) -> None:
         """Takes a record: by the size of what is painted that of the session may be known, where nothing else tells it."""
         self.display.take(record)
+        if record.word == "anew":
+            self.preloading.begin()
         if record.word == "size" and not self.commands.is_fitted and "size" not in self.loop.due:
             self.loop.later("size", SIZES, self.commands.fit_first)
 

@@ -23,8 +23,11 @@ def columns_of(letter: str) -> int:
     if letter.isascii():
         return 1
     # Most rows have none of these, and a front end is there sooner without the tables.
-    from roam_live.copy_rows import width_of
-
+    try:
+        from roam_live.copy_rows import width_of
+    except ImportError:
+        # The files of this roam are gone: more columns than it may have, so that the row never overflows.
+        return 2
     return width_of(letter)
 
 
