@@ -24,6 +24,7 @@ from roam_live.preloading import Preloading
 from roam_live.program import Fault, all_done, noted_front_end, read, unwoken, woken
 from roam_live.shells_link import ShellsLink
 from roam_live.status_row import StatusRow
+from roam_live.untaken import UntakenLines
 from roam_live.visits import Parting, Visit, opened_server
 from roam_live.watches import ShellsWatch
 from roam_live.window_wishes import WindowWishes
@@ -78,6 +79,7 @@ class FrontEnd:
         self.display = Display(self.loop, self.say)
         self.parting = Parting(self.loop)
         self.preloading = Preloading(self.loop)
+        self.untaken = UntakenLines(lambda: self.link, self.display, self.loop)
         # The sizes of the windows of which all was shown as they were left, by their numbers.
         self.shown_whole: dict[int, Size] = {}
         # In which of them keys were switched to go to all panes, or not.
@@ -411,13 +413,15 @@ class FrontEnd:
     def take(self, record: ToldRecord) -> None:
         """Takes a record: by the size of what is painted that of the session may be known, where nothing else tells it."""
         self.display.take(record)
-        if record.word == "anew":
+        if record.word in ("paint", "anew"):
+            self.untaken.heard()
             self.preloading.begin()
         if record.word == "size" and not self.commands.is_fitted and "size" not in self.loop.due:
             self.loop.later("size", SIZES, self.commands.fit_first)
 
     def send(self) -> None:
         """Sends what the start takes."""
+        self.untaken.given()
         if not self.link.send():
             self.link.hear_last()
             self.lost()

@@ -1,0 +1,69 @@
+"""Sees that lines which a front end gave to the client start aren't taken, though the server is heard, and tells a person so."""
+from __future__ import annotations
+
+from collections.abc import Callable
+
+from roam_live.loops import Loop
+
+TYPE_CHECKING = False
+if TYPE_CHECKING:
+    from roam_live.display import Display
+    from roam_live.links import StartLink
+
+# What the moment is called at which it is looked again, and how many seconds lie between two looks.
+MOMENT = "untaken"
+LOOKS = 1.0
+
+# No line was taken for so many seconds while something was painted, so the server is heard: it keeps acts for which it has no memory, and
+# all behind them. Where nothing is painted that isn't known before a silence of the server would have been told, after ten seconds.
+UNTAKEN = 2.0
+UNTAKEN_SILENTLY = 12.0
+
+NO_KEYS = "the server takes no keys; it may be out of memory"
+NOT_TAKEN = "no keys are taken: the server may be out of memory, or the client start be stopped"
+
+
+class UntakenLines:
+    """Looks, while lines aren't taken, for how long none was. A call gives the link to the start of the window where the person is."""
+
+    def __init__(self, link: Callable[[], StartLink], display: Display, loop: Loop) -> None:
+        self.link, self.display, self.loop = link, display, loop
+        # The link for which that is counted, how many of its lines were taken, since when no more were, and when something was painted.
+        self.counted: StartLink | None = None
+        self.taken = 0
+        self.since = self.painted = 0.0
+
+    def given(self) -> None:
+        """A line is given."""
+        if MOMENT not in self.loop.due:
+            self.count()
+            self.loop.later(MOMENT, LOOKS, self.look)
+
+    def heard(self) -> None:
+        """Something is painted."""
+        self.painted = self.loop.clock()
+
+    def count(self) -> None:
+        """Count from now on."""
+        self.counted, self.taken, self.since = self.link(), self.link().taken, self.loop.clock()
+
+    def look(self) -> None:
+        """Tell a person if no line was taken for long, until one is; look again while lines aren't taken."""
+        link = self.link()
+        if link is not self.counted or link.taken != self.taken:
+            self.count()
+        why = self.why()
+        if why and self.display.told in ("", NO_KEYS, NOT_TAKEN):
+            self.display.tell(why, None)
+        elif not why and self.display.told in (NO_KEYS, NOT_TAKEN):
+            self.display.end_told()
+        if link.peer and not link.is_done():
+            self.loop.later(MOMENT, LOOKS, self.look)
+
+    def why(self) -> str:
+        """Say why no line is taken, or return "" if that isn't so, or a silence of the server tells it."""
+        link, waits = self.link(), self.loop.clock() - self.since
+        if not link.peer or link.is_done() or self.display.silent:
+            return ""
+        is_heard = waits >= UNTAKEN and self.painted >= self.since + LOOKS
+        return NO_KEYS if is_heard else NOT_TAKEN if waits >= UNTAKEN_SILENTLY else ""
