@@ -11,7 +11,7 @@ from roam_live.bindings import NEWEST, OWN, PICKS, Typing, help_with
 from roam_live.border_keys import BorderKeys
 from roam_live.choices import ESCAPE_TIME, follows_latest, number_of
 from roam_live.choosing import Choosing, ChoosingWindow
-from roam_live.copying import Copying, CopyEvent
+from roam_live.copying import INTERRUPT, Copying, CopyEvent
 from roam_live.display import NO_SIZE, Display
 from roam_live.foci import Foci
 from roam_live.extended_keys import ANSWERED, form_for
@@ -210,6 +210,9 @@ class Commands:
     def type_key(self, acts: list[str], key: Key = Key("", "")) -> None:
         """Types what a key asks for: where keys go to all panes, those of it that do."""
         keys = [act for act in acts if act.startswith(TYPES)]
+        if keys and key.name == INTERRUPT and not self.link.watches:
+            # A program may have it in another form than that of an interrupt.
+            self.pastes.interrupt()
         if not keys or not self.synchronizing.is_working():
             places = self.places() if key.extended else None
             self.act(*(self.formed(acts, key, places.focus) if places else acts))

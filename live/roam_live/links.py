@@ -6,6 +6,7 @@ import socket
 import time
 from collections.abc import Callable
 
+from roam_live.keys import TYPES
 from roam_live.loops import READ, WRITE, ready
 from roam_live.program import Fault, SocketPeer, connected_now, is_disk_full, read, reason
 from roam_live.told import NoRecord, Records
@@ -37,6 +38,9 @@ LAST_READS = 64
 # So many acts stand in one line at most, where they come at once, as what is pasted: they are typed in one turn. A start has 64 on their
 # way, so that one line waits while another is answered, and another terminal's key finds room between.
 MOST_ACTS = 32
+
+# What a line begins with whose acts were pasted.
+PASTED = "paste ; "
 
 # Why a link was lost.
 LOST = "the client start has ended; what was typed last may be lost"
@@ -126,9 +130,24 @@ class StartLink:
                 self.waiting[-1:] = f" ; {act}\n".encode()
                 self.acts += 1
             else:
-                self.say(f"paste ; {act}" if is_pasted else act)
+                self.say(f"{PASTED}{act}" if is_pasted else act)
                 self.acts = 1
             self.is_pasted = is_pasted
+
+    def drop_pasted(self) -> list[str]:
+        """Drop the pastes that weren't begun to be sent, and all keys behind the first of them, and return the lines that had them. Other
+        acts, and what is asked for, stay. A line that is half sent is sent whole."""
+        if PASTED.encode() not in self.waiting:
+            return []
+        begin = self.waiting.find(b"\n") + 1 if self.given else 0
+        lines = self.waiting[begin:].decode().splitlines()
+        first = next((place for place, line in enumerate(lines) if line.startswith(PASTED)), len(lines))
+        left = [*lines[:first], *filter(None, map(without_keys, lines[first:]))]
+        dropped = [line for line in lines[first:] if without_keys(line) != line]
+        self.waiting[begin:] = "".join(f"{line}\n" for line in left).encode()
+        self.lines -= len(lines) - len(left)
+        self.acts = 0
+        return dropped
 
     def send(self) -> bool:
         """Sends what the start takes now; tells whether it is still there."""
@@ -223,6 +242,13 @@ class StartLink:
             has_ended = self.exchanged() is None
         self.close()
         return has_ended and not self.waiting
+
+
+def without_keys(line: str) -> str:
+    """Return a line without what it types into a pane; nothing of one that was pasted."""
+    if line.startswith(PASTED):
+        return ""
+    return " ; ".join(act for act in line.split(" ; ") if not act.startswith(TYPES))
 
 
 def opened(session: FolderSession, watches: bool) -> StartLink:

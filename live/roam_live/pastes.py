@@ -8,7 +8,7 @@ from roam_live.keys import TYPES, pasted_acts
 from roam_live.loops import Loop
 from roam_live.places import MOVES
 from roam_live.shells_link import HELD, LATER, LOST, PUT, UNTOLD
-from roam_live.texts import MOST_BYTES, cleaned, mark_acts, random_name
+from roam_live.texts import MOST_BYTES, cleaned, mark_acts, marked_in, random_name
 
 TYPE_CHECKING = False
 if TYPE_CHECKING:
@@ -330,9 +330,21 @@ class Pastes:
     def drop_by(self, acts: Sequence[str]) -> None:
         """Drops the pastes that wait, and the keys behind them, if a C-c is among acts, which is typed in any case."""
         if INTERRUPT in acts:
-            self.drops_until = 0.0
-            if self.waiting:
-                self.drop_waiting()
+            self.interrupt()
+
+    def interrupt(self) -> None:
+        """Drop the pastes that wait here and the keys behind them, also what the start hasn't read of them, so that a C-c is typed at
+        once. Keys that were typed without a paste before them stay."""
+        self.drops_until = 0.0
+        dropped = self.link.drop_pasted()
+        for line in dropped:
+            name = marked_in(line.split(" ; "))
+            if name and self.shells:
+                self.shells.cancel(name)
+        if self.waiting:
+            self.drop_waiting()
+        elif dropped:
+            self.tells(DROPPED)
 
     def taken(self, acts: tuple[str, ...]) -> tuple[str, ...]:
         """Return those of these acts that are typed while keys may be dropped: all from the act that moves the focus on, and no key

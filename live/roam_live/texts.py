@@ -45,7 +45,18 @@ def random_name() -> str:
     return os.urandom(8).hex()
 
 
+# The acts that begin and end a mark.
+MARK_ACTS = "char 9f", "char 9c"
+
+
 def mark_acts(name: str) -> list[str]:
     """The acts that type the mark of a text: APC, its name and ST, in forms that no key sends. They stand in one line, so that nothing
     comes between."""
     return [f"char {ord(letter):x}" for letter in f"\x9f{name}\x9c"]
+
+
+def marked_in(acts: list[str]) -> str:
+    """Return the name of the text whose mark these acts type; "" if they type none."""
+    begin = acts.index(MARK_ACTS[0]) + 1 if MARK_ACTS[0] in acts else len(acts)
+    end = acts.index(MARK_ACTS[1], begin) if MARK_ACTS[1] in acts[begin:] else begin
+    return "".join(chr(int(act.removeprefix("char "), 16)) for act in acts[begin:end])

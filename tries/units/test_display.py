@@ -78,6 +78,10 @@ class StartLink:
         """Keeps a line."""
         self.lines.append(line)
 
+    def drop_pasted(self):
+        """Nothing waits."""
+        return []
+
 
 class AnySession:
     """A session's folder, and where its panes are."""

@@ -904,6 +904,15 @@ class Wishes(Case):
         person.types(b"\x02Z")
         self.assertEqual((person.display.told, person.loop.due["told"][0]), ("C-b Z is not bound; C-b ? shows the keys", 101.0))
 
+    def test_interrupts(self):
+        """C-c drops what waits of pastes, also where the program has it in another form; not where it isn't typed."""
+        for text, modes, count in ((b"\x03", "", 1), (b"\x1b[27;5;99~", "keys2", 1), (b"\x1b[27;5;99~", "", 1), (b"\x02[\x03", "", 0)):
+            person = self.person()
+            person.panes.modes_of = {1: modes}
+            with mock.patch.object(person.commands.pastes, "interrupt") as interrupts:
+                acts = person.types(text)
+            self.assertEqual((interrupts.call_count > 0, "char 3" in acts), (bool(count), bool(count) and not modes), text)
+
     def test_unknown_meta(self):
         """Behind the prefix an escape and the key right behind it are one with Meta: nothing of a key that isn't bound is typed, whether it
         comes at once or in pieces, within the time that an escape waits. A paste is none."""

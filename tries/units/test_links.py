@@ -263,6 +263,44 @@ class AnySession:
         self.earlier.append(earlier)
 
 
+class Dropped(Linked):
+    """What is dropped by a C-c."""
+
+    def test_pastes(self):
+        """Pastes go that wait for the start, and the keys behind them; not those before them, nor what is no key, nor a line that is half
+        sent, and the lines are counted as they are given then."""
+        link, other = self.link(False)
+        link.send()
+        link.type("char 61", "key up")
+        link.type("char 62", is_pasted=True)
+        link.say("paste ; focus 2 ; char 9f ; char 61 ; char 9c ; focus 1")
+        link.type("char 63", "next", "char 64")
+        link.type("key return")
+        link.say("part 23 80")
+        link.type("size 24 80")
+        given = link.lines
+        self.assertEqual(link.drop_pasted(), ["paste ; char 62", "paste ; focus 2 ; char 9f ; char 61 ; char 9c ; focus 1",
+                                              "char 63 ; next ; char 64 ; key return"])
+        link.type("char 3")
+        link.send()
+        self.assertEqual(read_now(other), b"told\nchar 61 ; key up\nnext\npart 23 80\nsize 24 80\nchar 3\n")
+        self.assertEqual((link.lines, link.drop_pasted()), (given - 2 + 1, []))
+
+    def test_half_sent(self):
+        """Of a paste that is half sent the line goes whole, and the others are dropped."""
+        link, _ = self.link(False)
+        link.waiting[:] = b"paste ; char 61\npaste ; char 62\nchar 63\n"
+        link.given, link.lines = 4, 3
+        self.assertEqual(link.drop_pasted(), ["paste ; char 62", "char 63"])
+        self.assertEqual((link.waiting, link.lines, link.given), (b"paste ; char 61\n", 1, 4))
+
+    def test_none(self):
+        """Where nothing was pasted nothing is dropped."""
+        link, _ = self.link(False)
+        link.type("char 61", "char 62")
+        self.assertEqual((link.drop_pasted(), link.waiting), ([], b"told\nchar 61 ; char 62\n"))
+
+
 class Kept(Linked):
     """A link that is had again."""
 

@@ -270,6 +270,14 @@ class Handed(Case):
         self.assertEqual(self.link.lines[3:], ["char 3"])
         self.assertEqual((self.loop.due, self.shells.cancelled), ({}, [f"{1:016x}", f"{2:016x}"]))
 
+    def test_interrupted_sent(self):
+        """So goes what of pastes the start hasn't read, and of a text whose mark is dropped nothing is awaited any more."""
+        self.link.drop_pasted = mock.Mock(return_value=["paste ; char 61", self.spread_line(7, 2), self.mark(8), "char 62"])
+        self.pastes.type("char 61")
+        self.assertEqual((self.link.drop_pasted.call_count, self.said), (0, []))
+        self.pastes.type("char 3")
+        self.assertEqual((self.shells.cancelled, self.said, self.link.lines[1:]), ([f"{7:016x}", f"{8:016x}"], [DROPPED], ["char 3"]))
+
     def test_interrupted_held(self):
         """That holds too where the keeper holds a later paste, which the first alone keeps back: nothing of it is typed."""
         self.paste(LONG)
