@@ -57,11 +57,10 @@ def running(process: str, jobs: list[str]) -> str:
     return " and ".join(filter(None, (", ".join(names[:MOST_NAMED]), *more)))
 
 
-class Process(namedtuple("Process", "number name state group session front")):
+class Process(namedtuple("Process", "number state group session front")):
     """A process as /proc/PID/stat describes it. `front` is the foreground process group of its terminal."""
 
     number: int
-    name: str
     state: str
     group: int
     session: int
@@ -74,10 +73,9 @@ def processes() -> Iterator[Process]:
     for number in filter(str.isdigit, os.listdir("/proc")):
         with contextlib.suppress(OSError, IndexError, ValueError):
             text = pathlib.Path(f"/proc/{number}/stat").read_text(encoding="utf-8", errors="replace")
-            name, _, rest = text.partition("(")[2].rpartition(")")
-            words = rest.split()
+            words = text.rpartition(")")[2].split()
             if words[STATE] not in "ZXx":
-                yield Process(int(number), name, words[STATE], *(int(words[place]) for place in (GROUP, SESSION, FOREGROUND)))
+                yield Process(int(number), words[STATE], *(int(words[place]) for place in (GROUP, SESSION, FOREGROUND)))
 
 
 def jobs_in(leader: int) -> list[str]:
@@ -105,8 +103,7 @@ def is_behind(group: list[Process]) -> bool:
 
 def job_name(group: list[Process]) -> str:
     """Name a process group by its leader, else by another of its processes, and say what it does if it isn't in front."""
-    leader = next((process for process in group if process.number == process.group), group[0])
-    name = printable(leader.name) or "a program"
+    name = name_of(next((process.number for process in group if process.number == process.group), group[0].number))
     if not is_behind(group):
         return name
     return f"{name} (stopped)" if all(process.state in "Tt" for process in group) else f"{name} (background)"

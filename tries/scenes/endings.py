@@ -43,6 +43,33 @@ def killed(folder):
 
 
 @scene
+def jobs(folder):
+    """A shell with a stopped editor, or a program in the background, isn't closed without a question, which names it."""
+    outer = Outer(tool("mux", "other"))
+    outer.shows("$ ")
+    outer.type(b"\x02%")
+    outer.status(" 1 [2]")
+    outer.type(b"cat\r")
+    comes(lambda: outer.rows()[-1].rstrip().endswith(":cat*"))
+    outer.type(b"\x1a")
+    outer.shows("Stopped")
+    outer.type(b"sleep 1000 &\r")
+    comes(lambda: outer.rows()[-1].rstrip().endswith(":sh*"))
+    names = "cat (stopped), sleep (background)"
+    for keys, text in ((b"\x02x", f"close {names} in pane 2? y"), (b"\x02&", f"shut window 1, with {names} in pane 2 and end")):
+        outer.type(keys)
+        check(f"{keys!r} asks, and names them", outer.status(text), outer.rows)
+        outer.type(b"n")
+        outer.status(" 1 [2]")
+    for name, end in (("other.2", "closes it"), ("other", "ends it")):
+        wanted = (1, "", f"mux: session other runs {names} in pane 2; `mux kill -f {name}` {end}\n")
+        check(f"mux kill {name} refuses likewise", said("kill", name) == wanted, said("kill", name))
+    outer.type(b"kill -9 %1 %2; wait; echo go''ne\r")
+    outer.shows("gone")
+    check("without them it is closed at once", comes(lambda: said("kill", "other.2")[0] == 0) and outer.status("[1] 1:"), outer.rows)
+
+
+@scene
 def silent(folder):
     """A server that doesn't answer is told of, the person can leave, and what was typed comes once it answers."""
     outer = Outer(tool("mux", "other"))
