@@ -205,7 +205,8 @@ class Commands:
             acts = [act for act in acts if act == NEWEST]
             wish = "no" if wish == "yes" else wish if wish in UNDER_COVER or wish.startswith(GOES) else ""
         self.type_key(acts, key)
-        self.grant(wish, key)
+        if wish:
+            self.grant(wish, key)
 
     def type_key(self, acts: list[str], key: Key = Key("", "")) -> None:
         """Types what a key asks for: where keys go to all panes, those of it that do."""
@@ -278,11 +279,11 @@ class Commands:
 
     def note_moves(self, *acts: str) -> None:
         """Takes note of those of these acts that move the focus, and of where the last one goes, where it is a key."""
-        for act in acts:
+        moves = [act for act in acts if act.startswith(MOVES)]
+        for act in moves:
             word, _, pane = act.partition(" ")
-            if word in MOVES:
-                self.move(word, int(pane) if word == "focus" else 0)
-        if any(act.startswith(MOVES) for act in acts):
+            self.move(word, int(pane) if word == "focus" else 0)
+        if moves:
             self.copying.focus_moved(acts)
             self.close_lists()
         if acts and acts[-1].startswith(TYPES):

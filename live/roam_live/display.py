@@ -55,7 +55,8 @@ class OuterTerminal:
         # Whether its keypad sends the codes of applications.
         self.is_application = False
         self.end = terminal.opened_for_writing(1)
-        self.known = terminal.size_of(0)
+        # Its size, and whether it may have another since, which a signal tells.
+        self.known, self.is_known = terminal.size_of(0), True
         # Those that it had before; whether it is taken now; and by when it is left.
         self.modes: terminal.Modes | None = None
         self.is_taken = False
@@ -71,14 +72,18 @@ class OuterTerminal:
         self.waiting += self.aside.keys_asked(is_first=True) + terminal.ENTERED
 
     def size(self) -> terminal.Size:
-        """Its rows and columns now; of one that has hung up those that it had."""
-        with contextlib.suppress(OSError):
-            self.known = terminal.size_of(0)
+        """Its rows and columns, which are asked for once after each signal that tells of a size; of one that has hung up those that it
+        had."""
+        if not self.is_known:
+            self.is_known = True
+            with contextlib.suppress(OSError):
+                self.known = terminal.size_of(0)
         return self.known
 
     def enter_again(self) -> None:
         """Takes the terminal again, after a shell had it while this was stopped."""
         terminal.make_raw(0)
+        self.is_known = False
         self.is_taken = True
         self.waiting += self.aside.keys_asked() + terminal.ENTERED
         self.is_application = False
@@ -417,13 +422,16 @@ class Display:
         if self.cover or self.is_held or not self.fits() or self.is_stale and not is_anew:
             self.is_stale = True
             return
-        drawing = self.drawing
-        self.end_entering()
+        drawing, was_entering = self.drawing, self.is_entering
+        if was_entering:
+            self.end_entering()
         self.outer.waiting += drawing.lifted() if drawing else b""
         self.outer.waiting += terminal.CLEARED + record.data.removeprefix(terminal.RESET) if is_anew else record.data
         is_over = is_anew or self.is_line_lost or self.asked is None or not self.has_row()
         self.is_stale = self.is_line_lost = False
-        self.put_line(is_over)
+        if is_over or was_entering:
+            # Another painting leaves the last row as it is, and whatever changes its line has it written then.
+            self.put_line(is_over)
         self.outer.waiting += drawing.laid(is_anew) if drawing else b""
 
     def shown_at(self, row: int, col: int, is_near: bool = False) -> tuple[int, int] | None:

@@ -339,6 +339,7 @@ class FrontEnd:
 
     def resized(self) -> None:
         """Goes by a new size of the terminal."""
+        self.display.outer.is_known = False
         self.commands.resized()
         self.display.resized()
         self.loop.later("size", 0.0 if self.commands.is_fresh() else SIZES, self.commands.fit)
@@ -380,19 +381,17 @@ class FrontEnd:
             self.loop.turn()
         except ImportError:
             self.commands.tell_replaced()
-        if self.has_keypads():
-            places = self.panes.places
-            self.display.set_keypad(places is not None and places.focus in self.bells.keypads)
-        if self.link.peer and self.link.waiting:
+        visit, outer = self.visit, self.display.outer
+        if visit.bells.keypads or outer.is_application:
+            # The keypad is an application's, in a pane or at the terminal.
+            places = visit.panes.places
+            self.display.set_keypad(places is not None and places.focus in visit.bells.keypads)
+        if visit.link.waiting and visit.link.peer:
             self.send()
-        if self.display.outer.has_more():
+        if outer.has_more():
             self.show()
         if self.parting.visits and not self.display.is_stale:
             self.parting.settle()
-
-    def has_keypads(self) -> bool:
-        """Whether the keypad is an application's, in a pane or at the terminal."""
-        return bool(self.bells.keypads or self.display.outer.is_application)
 
     def typed(self) -> None:
         """Takes what was typed."""

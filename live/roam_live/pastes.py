@@ -311,8 +311,12 @@ class Pastes:
         """Types acts, behind the pastes that wait; a C-c drops these."""
         if not is_pasted:
             self.drop_by(acts)
-            acts = self.taken(acts)
-        self.put(Behind(acts, is_pasted))
+            if self.drops_until or self.is_full():
+                acts = self.taken(acts)
+        if self.waiting:
+            self.put(Behind(acts, is_pasted))
+        elif acts:
+            self.link.type(*acts, is_pasted=is_pasted)
 
     def type_lines(self, lines: list[list[str]]) -> None:
         """Types keys in lines of their own, behind the pastes that wait; a C-c drops these."""
@@ -362,11 +366,13 @@ class Pastes:
         if self.is_full():
             self.tells(FULL_BEHIND)
             return True
-        is_behind = self.loop.clock() < self.drops_until
-        if is_behind and self.drops_why:
+        if self.loop.clock() >= self.drops_until:
+            self.drops_until = 0.0
+            return False
+        if self.drops_why:
             self.tells(BEHIND_IT.format(self.drops_why))
             self.drops_why = ""
-        return is_behind
+        return True
 
     def put(self, acts: Behind) -> None:
         """Types acts, if there are any: now, where no paste waits."""

@@ -47,7 +47,7 @@ def line_of(line: bytes) -> ToldRecord:
         raise NoRecord(f"{word[:20]!r} begins no record")
     if len(rest) < count or (len(rest) > count and word != "refused"):
         raise NoRecord(f"{word} with {len(rest)} words")
-    numbers = tuple(number_of(text) for text in rest[:count])
+    numbers = tuple(map(number_of, rest[:count]))
     if word in CARRYING and numbers[0] > MOST_BYTES:
         raise NoRecord(f"{word} of {numbers[0]} bytes")
     return ToldRecord(word, numbers, b"", " ".join(rest[count:]))

@@ -385,7 +385,7 @@ class WindowWishes:
 
     def is_full(self) -> bool:
         """Whether so much waits that nothing more is to come."""
-        return len(self.held) >= MOST_KEYS or sum(len(key.text) for key in self.held) >= MOST_TEXT
+        return bool(self.held) and (len(self.held) >= MOST_KEYS or sum(len(key.text) for key in self.held) >= MOST_TEXT)
 
     # ---- names, and ends
 

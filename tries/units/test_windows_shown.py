@@ -406,6 +406,7 @@ class Opened(Windows):
     def test_no_room(self):
         """Where one can't be asked for either what stands behind in the same read is dropped, and what is typed later isn't."""
         terminal.set_size(0, 3, 80)
+        self.front.resized()
         self.type(b"\x02cab")
         self.turn()
         self.assertEqual((self.typed[1], self.front.display.told), ("", SMALL + DROPPED))
