@@ -38,9 +38,8 @@ if TYPE_CHECKING:
     from roam_live.terminal import Size
     from roam_live.told import ToldRecord
 
-# So many bytes may wait for the terminal, and so many for the session, before what brings more is left alone.
+# So many bytes may wait for the terminal before what brings more is left alone.
 PAINTED_LIMIT = 1 << 16
-TYPED_LIMIT = 1 << 24
 
 # While a terminal is drawn larger by hand it has hundreds of sizes: the session gets one that has stood for so many seconds. Of one that it
 # had got before a smaller followed it would be cut.
@@ -262,7 +261,7 @@ class FrontEnd:
         """Has the loop see the session's end, signals, what is typed, and what the terminal takes."""
         outer = self.display.outer
         self.loop.add(self.wakeup, self.signalled)
-        self.loop.add(0, self.typed, hears=lambda: len(self.link.waiting) < TYPED_LIMIT and not self.commands.is_full())
+        self.loop.add(0, self.typed, hears=lambda: not (self.link.is_stuffed() or self.commands.is_full()))
         self.loop.add(outer.end, None, self.show, has_more=outer.has_more)
 
     def leave(self, line: str | None, status: int = 0) -> None:

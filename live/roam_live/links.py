@@ -39,6 +39,9 @@ LAST_READS = 64
 # way, so that one line waits while another is answered, and another terminal's key finds room between.
 MOST_ACTS = 32
 
+# So many bytes wait for a start before no more is read of what is typed.
+TYPED_LIMIT = 1 << 24
+
 # What a line begins with whose acts were pasted.
 PASTED = "paste ; "
 
@@ -134,10 +137,22 @@ class StartLink:
                 self.acts = 1
             self.is_pasted = is_pasted
 
+    def is_stuffed(self) -> bool:
+        """Return True if so much waits that nothing more is to be typed, and no paste among it, which a C-c would drop."""
+        return len(self.waiting) >= TYPED_LIMIT and not self.has_pastes()
+
+    def is_full_behind(self) -> bool:
+        """Return True if as much waits with a paste among it, so that only a C-c helps."""
+        return len(self.waiting) >= TYPED_LIMIT and self.has_pastes()
+
+    def has_pastes(self) -> bool:
+        """Return True if a paste waits, or may."""
+        return PASTED.encode() in self.waiting
+
     def drop_pasted(self) -> list[str]:
         """Drop the pastes that weren't begun to be sent, and all keys behind the first of them, and return the lines that had them. Other
         acts, and what is asked for, stay. A line that is half sent is sent whole."""
-        if PASTED.encode() not in self.waiting:
+        if not self.has_pastes():
             return []
         begin = self.waiting.find(b"\n") + 1 if self.given else 0
         lines = self.waiting[begin:].decode().splitlines()

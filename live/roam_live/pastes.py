@@ -399,7 +399,7 @@ class Pastes:
 
     def is_full(self) -> bool:
         """Whether so much waits behind a paste that no more keys are to come."""
-        return self.behind >= MOST_BEHIND
+        return self.behind >= MOST_BEHIND or self.link.is_full_behind()
 
     def hands_over(self) -> bool:
         """Whether a paste waits to be handed over."""

@@ -1,5 +1,6 @@
 """What ends, is killed, is stopped or can't be had: shells, starts, sessions, descriptors."""
 import contextlib
+import fcntl
 import json
 import os
 import pathlib
@@ -7,8 +8,10 @@ import pty
 import resource
 import shutil
 import signal
+import struct
 import subprocess
 import sys
+import termios
 import time
 
 from tried import (
@@ -67,6 +70,55 @@ def jobs(folder):
     outer.type(b"kill -9 %1 %2; wait; echo go''ne\r")
     outer.shows("gone")
     check("without them it is closed at once", comes(lambda: said("kill", "other.2")[0] == 0) and outer.status("[1] 1:"), outer.rows)
+
+
+class Frozen:
+    """A front end on a terminal whose emulator reads nothing."""
+
+    def __init__(self, words):
+        self.master, slave = pty.openpty()
+        terminal.set_size(slave, 40, 120)
+        ends = {"stdin": slave, "stdout": slave, "stderr": slave}
+        known = {"TERM": "xterm-256color", **os.environ}
+        self.process = subprocess.Popen(words, **ends, env=known, start_new_session=True, preexec_fn=own_terminal)
+        os.close(slave)
+
+    def is_full(self):
+        """Whether its terminal takes nothing more."""
+        return struct.unpack("i", fcntl.ioctl(self.master, termios.FIONREAD, bytes(4)))[0] >= 4095
+
+    def ends(self, seconds):
+        """Whether it ends in so many seconds."""
+        return comes(lambda: self.process.poll() is not None, seconds)
+
+    def close(self):
+        """Lets it go."""
+        self.process.kill()
+        self.process.wait()
+        os.close(self.master)
+
+
+@scene
+def frozen(folder):
+    """A terminal that takes nothing is left by a signal, and from elsewhere, and what was typed there comes."""
+    outer = Outer(tool("mux", "other"), (40, 120))
+    outer.shows("$ ")
+    ways = {"SIGTERM": signal.SIGTERM, "SIGHUP": signal.SIGHUP, "SIGINT": signal.SIGINT, "C-b D elsewhere": None}
+    for way, number in ways.items():
+        stuck = Frozen(tool("mux", "other"))
+        comes(lambda: len(said("clients", "other")[1].splitlines()) == 2)
+        outer.type(b"seq 1 400000; clear\r")
+        is_full = comes(stuck.is_full)
+        os.write(stuck.master, f"echo ca''me by {way}\r".encode())
+        time.sleep(0.5)
+        if number:
+            os.kill(stuck.process.pid, number)
+        else:
+            outer.type(b"\x02D")
+        has_ended = stuck.ends(4)
+        check(f"it ends by {way}", is_full and has_ended, (is_full, has_ended))
+        check("and what was typed there comes", outer.shows(f"came by {way}"), outer.rows)
+        stuck.close()
 
 
 @scene

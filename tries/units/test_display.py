@@ -82,6 +82,10 @@ class StartLink:
         """Nothing waits."""
         return []
 
+    def is_full_behind(self):
+        """Nothing does."""
+        return False
+
 
 class AnySession:
     """A session's folder, and where its panes are."""

@@ -271,6 +271,18 @@ class Loop(Fronts):
             self.type(text)
             self.assertEqual((read_now(start), self.front.left, bool(waits.waiting)), (lines, left, not lines))
 
+    def test_much_in_the_link(self):
+        """So they are where the start hasn't taken as much that was pasted; of keys alone no more is read then."""
+        link = self.front.link
+        self.connect()
+        for piece, text, reads in ((b"char 61\n", b"x", False), (b"paste ; char 61\n", b"x\x03", True)):
+            self.patch_of(links, "TYPED_LIMIT", 1000)
+            self.front.loop.remove(link)
+            link.waiting[:] = piece * 200
+            with mock.patch.object(link, "send", return_value=True):
+                self.type(text)
+            self.assertEqual(bytes(link.waiting), b"char 3\n" if reads else piece * 200)
+
     def test_outage(self):
         """There is an outage while the server is silent, or no connection to what keeps the shells is there."""
         start = self.connect()

@@ -156,6 +156,10 @@ class StartLink:
     def say(self, line):
         """Nothing is shown here."""
 
+    def is_full_behind(self):
+        """Nothing waits."""
+        return False
+
 
 class OuterTerminal:
     """A terminal of 24 rows and 80 columns."""
