@@ -157,13 +157,18 @@ class OuterTerminal:
         terminal.restore(0, self.modes)
 
     def write_by(self, moment: float) -> None:
-        """Write what the terminal takes until then. To one that couldn't be opened anew a write of more than a byte may wait."""
-        step = 1 if os.get_blocking(self.end) else len(self.waiting)
+        """Write what the terminal takes until then. One that isn't told to take something may take a little; where it couldn't be opened
+        anew a write of more than a byte may wait."""
+        is_waiting = os.get_blocking(self.end)
+        if not is_waiting:
+            write(self.end, self.waiting)
         while self.waiting and ready(self.end, WRITE, max(0.0, moment - time.monotonic())):
-            piece = self.waiting[:step]
-            if not write(self.end, piece):
+            piece = self.waiting[: 1 if is_waiting else len(self.waiting)]
+            del self.waiting[: len(piece)]
+            if write(self.end, piece):
+                self.waiting[:0] = piece
+            else:
                 self.waiting.clear()
-            del self.waiting[: step - len(piece)]
 
 
 class Display:

@@ -593,10 +593,14 @@ class Loop(Fronts):
     def fill(self):
         """Has the terminal take nothing more."""
         outer = self.front.display.outer
-        # The system moves what was written on a moment later, and there is room again.
-        while select.select([], [outer.end], [], 0.05)[1]:
-            with suppress(BlockingIOError):
-                os.write(outer.end, bytes(256))
+        for size in (256, 1):
+            is_full = False
+            while not is_full:
+                try:
+                    os.write(outer.end, bytes(size))
+                except BlockingIOError:
+                    # The system moves what was written on a moment later, and there is room again.
+                    is_full = not select.select([], [outer.end], [], 0.05)[1]
 
     def test_frozen(self):
         """A terminal that takes nothing is left after a second: what was typed is handed over before, and its modes are as before. One that
@@ -604,13 +608,12 @@ class Loop(Fronts):
         self.patch_of(display, "LEAVES", 0.05)
         for takes in (False, True):
             outer, steps = self.front.display.outer, []
-            self.fill()
 
             def part():
                 steps.append((bytes(outer.waiting), outer.is_taken))
                 return read_now(self.master) if takes else b""
 
-            with mock.patch.object(self.front, "connect"), mock.patch.object(self.front, "part", part):
+            with mock.patch.object(self.front, "connect", self.fill), mock.patch.object(self.front, "part", part):
                 self.front.left = "[terminated]"
                 self.front.run()
             self.assertEqual(steps, [(given_back(0) + terminal.LEFT + b"[terminated]\r\n", True)])
