@@ -187,9 +187,11 @@ class WindowWishes:
         self.shown = numbers
         labels = [self.told.label(number, here, last) for number in numbers]
         place = numbers.index(here) if here in numbers else 0
-        if self.front.display.windows != (labels, place):
-            self.front.display.windows = labels, place
-            self.front.display.put_line()
+        display = self.front.display
+        if display.windows != (labels, place) or display.status:
+            # A settings file may have more of a name stand there than a label has.
+            display.windows = labels, place
+            display.put_line()
         chooses = self.front.commands.choosing_window
         if chooses:
             chooses.told_anew()
