@@ -249,16 +249,25 @@ class ShellsLink(Following):
     def ask_to_take(self, name: str, data: bytes | int) -> None:
         """Gives a text, or a buffer, to the keeper that is there."""
         self.asked.add(name)
-        if isinstance(data, int):
-            self.ask(f"give {name} {BUFFER} {data}")
-            return
-        self.ask(f"give {name} {len(data)}")
-        self.waiting += data
+        self.ask(giving_line(name, data))
+        self.waiting += b"" if isinstance(data, int) else data
 
     def cancel(self, name: str) -> None:
         """Gives a text no more. One that is half given is given whole, since its bytes are awaited."""
-        self.giving.pop(name, None)
+        data = self.giving.pop(name, None)
         self.given.pop(name, None)
+        if data is not None:
+            self.drop_waiting(name, data)
+
+    def drop_waiting(self, name: str, data: bytes | int) -> None:
+        """Take a text out of what waits for the keeper, where nothing of it was sent: no other line has its name, which is random."""
+        line = f"{giving_line(name, data)}\n".encode()
+        begin = self.waiting.find(line)
+        if begin >= 0:
+            del self.waiting[begin : begin + len(line) + (0 if isinstance(data, int) else len(data))]
+            self.asked.discard(name)
+            if self.is_full:
+                self.give_first()
 
     def answered(self, name: str, word: str, more: str) -> None:
         """Takes what becomes of a text that was given: one for which the keeper has no room is given again later."""
@@ -289,3 +298,8 @@ class ShellsLink(Following):
     def has_others(self) -> bool | None:
         """Whether somebody else types at the session; None where that isn't known."""
         return self.others.has_typing()
+
+
+def giving_line(name: str, data: bytes | int) -> str:
+    """Return the line by which a text is given, behind which its bytes stand, or a buffer of the keeper's."""
+    return f"give {name} {BUFFER} {data}" if isinstance(data, int) else f"give {name} {len(data)}"

@@ -508,16 +508,22 @@ class Given(Sockets):
         self.assertEqual((self.told, link.takes_texts(), link.giving), ([(self.names[0], UNTOLD, "")], False, {}))
 
     def test_cancelled(self):
-        """One that isn't wanted any more isn't given again; what was begun of it goes on."""
+        """One that isn't wanted any more isn't given again, nor at all where nothing of it was sent; what was begun of it goes on."""
+        link, names = self.made_link, self.names
         self.turn()
-        self.made_link.give(self.names[0], b"one")
-        self.assertEqual(self.made_link.waiting, f"give {self.names[0]} 3\none".encode())
-        self.made_link.cancel(self.names[0])
-        self.made_link.cancel(self.names[0])
-        room = MOST_GIVING - len(self.made_link.waiting)
-        self.assertEqual([self.made_link.has_room(length) for length in (room + 1, room)], [False, True])
+        for name, data in zip(names, (b"one", b"two", 7)):
+            link.give(name, data)
+        for name in (names[0], names[0], names[2]):
+            link.cancel(name)
+        self.assertEqual((link.waiting, link.asked), (f"give {names[1]} 3\ntwo".encode(), {names[1]}))
+        room = MOST_GIVING - len(link.waiting)
+        self.assertEqual([link.has_room(length) for length in (room + 1, room)], [False, True])
         self.turn()
-        self.assertEqual((self.told, list(self.socket.texts.texts)), ([], [self.names[0]]))
+        link.give(names[3], b"x" * 900000)
+        link.loop.turn()
+        link.cancel(names[3])
+        self.turn(60)
+        self.assertEqual((self.told, list(self.socket.texts.texts)), ([(names[1], "held", "")], [names[1], names[3]]))
 
 
 class Persons(unittest.TestCase):
