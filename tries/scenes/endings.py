@@ -15,7 +15,7 @@ import termios
 import time
 
 from tried import (
-    Outer, PROGRAM, check, children, commands, comes, folder_of, listed, noted, own_terminal, said, scene, tool, window_of)
+    LIVE, Outer, PROGRAM, check, children, commands, comes, folder_of, listed, noted, own_terminal, said, scene, tool, window_of)
 from roam_live import terminal
 from roam_live.program import TOOLS, begun
 from roam_live.sessions import FolderSession
@@ -119,6 +119,25 @@ def frozen(folder):
         check(f"it ends by {way}", is_full and has_ended, (is_full, has_ended))
         check("and what was typed there comes", outer.shows(f"came by {way}"), outer.rows)
         stuck.close()
+
+
+@scene
+def moved(folder):
+    """A front end goes on where its files are moved away: copy mode, a command and the settings are there."""
+    shutil.copytree(LIVE, folder / "tree/live", ignore=shutil.ignore_patterns("__pycache__"))
+    outer = Outer([str(folder / "tree/live/mux"), "other"])
+    outer.shows("$ ")
+    outer.type(b"seq 1 50\r")
+    outer.shows("50")
+    # It imports what it may need for a second.
+    time.sleep(2)
+    (folder / "tree").rename(folder / "moved")
+    for keys, text in ((b"\x02[", "copy mode"), (b"/4", "4"), (b"\rq", "[1] 1:"), (b"\x02:display-message moved\r", "moved"),
+                       (b"\x02R", "roam.conf was read"), (b"\x02?", "these keys")):
+        outer.type(keys)
+        check(f"{keys!r} does what it does", comes(lambda text=text: any(text in row for row in outer.rows())), outer.rows)
+    outer.type(b"x\x02d")
+    check("and it is left", outer.ends() and outer.is_restored(), outer.rows)
 
 
 @scene
