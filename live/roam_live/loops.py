@@ -287,6 +287,12 @@ class Loop:
         elif not self.is_done(lambda: fails(fault)) and self.sources.get(number) is source:
             self.remove(number)
 
+    def pause(self, end: End) -> None:
+        """Has an end rest for a while, since nothing can be done there now."""
+        number = number_of(end)
+        if number in self.sources:
+            self.rest(number, self.sources[number])
+
     def rest(self, number: int, source: LoopEnd) -> None:
         """Waits for nothing at an end for a while, since what comes there can't be taken now."""
 

@@ -230,8 +230,13 @@ class PaneCommand:
         self.see_to_ends()
 
     def fail(self, fault: Exception) -> None:
-        """Goes on without the piece in which there was a fault; too many soon behind each other are taken no more."""
-        if self.faults.is_last():
+        """Goes on without the piece in which there was a fault; too many soon behind each other are taken no more. Where memory is short it
+        goes on a moment later, however often."""
+        if isinstance(fault, MemoryError):
+            for end in (self.peer, self.terminal):
+                if end is not None:
+                    self.loop.pause(end)
+        elif self.faults.is_last():
             self.gives_up()
 
     def give_up(self) -> None:

@@ -211,10 +211,18 @@ class RowFilter:
     def join(self) -> None:
         """Makes one record of what was written for one terminal."""
         if self.pieces:
-            self.waiting += b"bytes %d %d\n" % (self.terminal, self.pieces_size)
-            self.waiting += b"".join(self.pieces)
-            self.pieces, self.pieces_size = [], 0
+            try:
+                self.join_pieces()
+            except MemoryError:
+                self.sheds()
+                self.join_pieces()
         self.terminal = -1
+
+    def join_pieces(self) -> None:
+        """Makes one record of pieces: nothing is changed where memory is short for it."""
+        record = b"bytes %d %d\n" % (self.terminal, self.pieces_size) + b"".join(self.pieces)
+        self.waiting += record
+        self.pieces, self.pieces_size = [], 0
 
     def write(self) -> None:
         """Writes what it takes; where it takes nothing more its end is soon told."""

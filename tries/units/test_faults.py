@@ -5,7 +5,7 @@ import socket
 from unittest import mock
 
 from aids import Case, read_now
-from roam_live import faults, row_filter, row_pieces, window_lines
+from roam_live import faults, pane_commands, row_filter, row_pieces, window_lines
 from roam_live.faults import FaultLog, SoonFaults
 from roam_live.given import GivenTexts
 from roam_live.program import logs
@@ -179,14 +179,23 @@ class Kept(Keeper):
         self.assertEqual((self.keeper.bells.followers, self.keeper.common.faults.count), ([], 1))
 
     def test_memory(self):
-        """Where memory is short the older half of what is kept of rows goes."""
-        self.begin()
+        """Where memory is short the older half of what is kept of rows goes, and the pane goes on a second later, however often that is."""
+        panes = self.begin()
         self.keeper.rows.shed = mock.Mock()
-        with mock.patch.object(self.keeper.panes[1].bells, "rung", side_effect=MemoryError):
-            self.made[0].send(b"x")
-            self.turn()
-        self.keeper.rows.shed.assert_called_once_with()
-        self.keeper.common.rows.shed = mock.Mock()
+        read = pane_commands.read
+        with mock.patch.object(pane_commands, "read", lambda end: self.short() if end == self.keeper.panes[1].terminal else read(end)):
+            self.made[0].send(b"kept")
+            for _ in range(5):
+                self.turn()
+                self.now += 1.0
+        self.assertEqual(len(self.keeper.rows.shed.call_args_list), 5)
+        self.now += 1.0
+        self.turn()
+        self.assertEqual((read_now(panes[0]), self.keeper.panes[1].runs()), (b"kept", True))
+
+    def short(self):
+        """What there is no memory for."""
+        raise MemoryError
 
 
 class Sizes(Case):
@@ -221,6 +230,17 @@ class Short(Case):
         room.shed()
         self.assertEqual(([len(pane.pieces) for pane in panes], snapshot.is_lost, room.held), ([2, 2], True, 0))
         self.assertEqual(room.kept, sum(piece.charge() for pane in panes for piece in pane.pieces))
+
+    def test_handed(self):
+        """What the filter is to be handed waits whole, also where memory is short for making a record of it."""
+        one = row_filter.RowFilter.__new__(row_filter.RowFilter)
+        one.terminal, one.pieces, one.pieces_size, one.waiting = 3, [b"ab", b"c"], 3, bytearray()
+        one.sheds = mock.Mock()
+        with mock.patch.object(row_filter.RowFilter, "join_pieces", side_effect=[MemoryError, None]):
+            one.join()
+        one.terminal = 3
+        one.join()
+        self.assertEqual((one.sheds.call_count, bytes(one.waiting), one.pieces), (1, b"bytes 3 3\nabc", []))
 
     def test_records(self):
         """A piece for which there was no memory is taken again."""
