@@ -307,28 +307,37 @@ class Loop:
 
     # ---- turns
 
-    def ask(self, number: int, source: LoopEnd) -> None:
-        """Has the system watch for what an end waits for now."""
-        try:
-            self.watched.watch(number, source.events())
-        except Exception as fault:
-            if isinstance(fault, OSError) and fault.errno in (errno.ENOMEM, errno.ENOSPC):
-                self.rest(number, source)
-            elif source.fails or self.faults:
-                self.fail(number, source, fault)
-            else:
-                raise
+    def ask(self, sources: dict[int, LoopEnd]) -> None:
+        """Has the system watch for what ends wait for now."""
+        known = self.watched.events
+        for number, source in list(sources.items()):
+            if self.sources.get(number) is not source:
+                continue
+            try:
+                events = source.events()
+                if events != known.get(number, 0):
+                    self.watched.watch(number, events)
+            except Exception as fault:
+                if not self.is_refused(number, source, fault):
+                    raise
+
+    def is_refused(self, number: int, source: LoopEnd, fault: Exception) -> bool:
+        """Goes on without an end that can't be watched, and tells whether that can be: for want of memory it is tried again."""
+        if isinstance(fault, OSError) and fault.errno in (errno.ENOMEM, errno.ENOSPC):
+            self.rest(number, source)
+        elif source.fails or self.faults:
+            self.fail(number, source, fault)
+        else:
+            return False
+        return True
 
     def ready(self, seconds: float | None) -> dict[int, int]:
         """Waits until something can be done at an end, so many seconds at most, and tells the events by their ends."""
         if self.asked:
-            for number, source in list(self.asked.items()):
-                self.ask(number, source)
+            self.ask(self.asked)
         if self.changes:
             changes, self.changes = self.changes, {}
-            for number, source in changes.items():
-                if self.sources.get(number) is source:
-                    self.ask(number, source)
+            self.ask(changes)
         return self.watched.found(seconds)
 
     def wait_time(self) -> float | None:

@@ -2,6 +2,7 @@
 import collections
 import os
 import pathlib
+import select
 import sys
 from unittest import mock
 
@@ -38,6 +39,8 @@ class Budget(Fronts):
     def key(self, start):
         """Types a key, and shows it."""
         os.write(self.master, b"a")
+        # The system hands it to the other end a moment later.
+        select.select([0], [], [], 1)
         self.front.turn()
         typed = read_now(start)
         start.send(record("taken", self.front.link.lines) + record("paint", data=b"\x1b[5;10Ha\x1b[0m"))
