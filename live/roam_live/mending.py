@@ -75,9 +75,10 @@ class Mending:
 
     def mend(self, session: WindowedSession) -> None:
         """Makes all anew, under another name where another session has this; its lock is held."""
-        common = self.windows.asked.common
+        common, told = self.windows.asked.common, MENDED
         if self.is_taken(session):
             common = self.move()
+            told = RENAMED.format(os.path.basename(common))
         renew_log(common)
         self.note(common)
         for window in self.there():
@@ -87,8 +88,7 @@ class Mending:
                 window.processes.note_name(window.name)
             if window.shells:
                 window.shells.listen_in(window.processes.folder)
-        if common == str(session.folder):
-            self.windows.common.tell(MENDED)
+        self.windows.common.tell(told)
 
     @staticmethod
     def is_taken(session: WindowedSession) -> bool:
@@ -116,7 +116,6 @@ class Mending:
                 window.shells.asked.common = common
         begin_agent(common)
         windows.begin_lasting()
-        windows.common.tell(RENAMED.format(name))
         return common
 
     def note(self, common: str) -> None:
