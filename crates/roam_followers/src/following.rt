@@ -28,7 +28,7 @@ use roam_pane_list::{
     AskList, BesideList, ClipList, Closing, PaneList, acts_for, lines_between, read_close,
 };
 use roam_pane_sockets::Panes;
-use roam_sockets::listen;
+use roam_sockets::{listen, listen_again};
 use roam_typing::{Front, Lines};
 use std::alloc::Global;
 use std::fs::{Files, remove_file};
@@ -466,6 +466,16 @@ impl Followers {
             all: Vec::new(alloc),
             may_ask: false,
         })
+    }
+
+    /// Binds the socket anew if its file is gone.
+    pub fn mend<R: Files + Net>(&mut self, rt: &R, registry: &Registry)
+        ensures others { self.new ≡ record self.old { listener = self.new.listener } }
+    {
+        if listen_again(rt, self.path.as_str(), &mut self.listener) {
+            // If it isn't reported, a wait ends by its time alone.
+            let _ = registry.register(&mut self.listener, Token(0), Interest::READABLE);
+        }
     }
 
     /// Takes the programs that wait at the socket.

@@ -77,6 +77,10 @@ pub record Changes (Goes : Pane → Pane → Type 0) (pane : ℕ) (old new : Lis
   pub others : (k : ℕ) → k + 1 ≢ pane → slice_get new k ≡ slice_get old k
   pub this : 1 ≤ pane → IfSome (slice_get old (pane - 1)) (λ p. IfSome (slice_get new (pane - 1)) (λ q. Goes p q))
 
+-- another listener may be at the socket of a pane; all else is as it was
+abbrev pub IsMended : Pane → Pane → Type 0
+IsMended p q = q ≡ record p { listener = q.listener }
+
 -- until when a frame is held on the way to a pane's terminal, of the first one that ends
 abbrev pub frames_until : List Pane → Option ℕ
 frames_until [] = None

@@ -1,12 +1,12 @@
 //! The sockets of the panes, where their programs are reached.
 ghost use Rattle.std.specs.Prelude.{◌≡◌, ◌≢◌, ◌⊎◌, ◌++◌, ◌≤◌, ◌<◌, ◌-◌, [], ◌∷◌, length, map, slice_get, string_bytes, is_some, nat_lt, None, Some, IfOk, OnOk, IfSome, IfErr, IsOkUnless};
-ghost use Rattle.std.specs.List.{All};
+ghost use Rattle.std.specs.List.{All, AllZip};
 ghost use Rattle.roam_pane_sockets.specs.Panes.{path_of, paths_of};
 ghost use Rattle.roam_pane_sockets.specs.Besides.{AreBeside, pane_beside, shown_bells, title_of};
 ghost use Rattle.roam_pane_sockets.specs.Questions.{AreAsks, last_of, pane_asks};
 ghost use Rattle.roam_pane_sockets.specs.Clips.{AreClips, clip_of, pane_clips};
 ghost use Rattle.roam_pane_sockets.specs.Inflows.{HandsOn, IsFreshInflow};
-ghost use Rattle.roam_pane_sockets.specs.Peers.{Changes, HasFreeIn, Lives, Asks, Hears, any_goes_on, frames_until, has_peer, inflow_in};
+ghost use Rattle.roam_pane_sockets.specs.Peers.{Changes, HasFreeIn, IsMended, Lives, Asks, Hears, any_goes_on, frames_until, has_peer, inflow_in};
 ghost use Rattle.roam_pane_sockets.specs.Sieves.{CountsSome, bytes_given};
 
 use crate::inflows::Inflow;
@@ -19,7 +19,7 @@ use roam_beside::Question;
 use roam_cells::Fault;
 use roam_faults::RunFault;
 use roam_pane_list::{AskList, AskPane, BesideList, BesidePane, ClipList, ClipPane};
-use roam_sockets::listen;
+use roam_sockets::{listen, listen_again};
 use std::alloc::Global;
 use std::fs::{Files, remove_file};
 use std::net::Net;
@@ -62,6 +62,16 @@ impl Pane {
             making: None,
             inflow: Inflow::new(alloc, as_meant),
         })
+    }
+
+    // Binds the socket anew if its file is gone.
+    fn mend<R: Files + Net>(&mut self, rt: &R, registry: &Registry)
+        ensures others { self.new ≡ record self.old { listener = self.new.listener } }
+    {
+        if listen_again(rt, self.path.as_str(), &mut self.listener) {
+            // If it isn't reported, a wait ends by its time alone.
+            let _ = registry.register(&mut self.listener, Token(0), Interest::READABLE);
+        }
     }
 
     // From now on this making of the pane is there, or none is.
@@ -161,6 +171,17 @@ fn any_goes_on(all: &[Pane]) -> bool
     }
 }
 
+// Binds those sockets anew whose files are gone.
+fn mend_all<R: Files + Net>(rt: &R, registry: &Registry, all: &mut [Pane])
+    ensures others { AllZip IsMended all.old all.new }
+{
+    let Some((first, others)) = all.split_first_mut() else {
+        return;
+    };
+    first.mend(rt, registry);
+    mend_all(rt, registry, others);
+}
+
 /// The sockets `p1` to `p9` of a folder, each of the pane of that number.
 #[derive(Drop)]
 pub struct Panes {
@@ -229,6 +250,13 @@ impl Panes {
     {
         self.all.push(pane)?;
         Ok(())
+    }
+
+    /// Binds those sockets anew whose files are gone. The panes and their peers stay.
+    pub fn mend<R: Files + Net>(&mut self, rt: &R, registry: &Registry)
+        ensures others { AllZip IsMended self.old.all.items self.new.all.items }
+    {
+        mend_all(rt, registry, &mut self.all);
     }
 
     /// From now on this making of a pane, 1 to 9, is there, or none is: a peer that came to another is let go.

@@ -1,6 +1,6 @@
 //! The ports of a server over sockets. What they carried isn't told.
 ghost use Rattle.std.specs.Prelude.{◌≡◌, ◌≢◌, ◌⊎◌, ◌<◌, ◌≤◌, ◌+◌, ◌-◌, ◌||◌, ◌==◌, if◌then◌else◌, [], ℕ, List, Option, slice_get, true, false, not, length, map, string_bytes, is_some, nat_lt, None, Some, IfOk, IfSome, IfErr};
-ghost use Rattle.std.specs.List.{All};
+ghost use Rattle.std.specs.List.{All, AllZip};
 ghost use Rattle.std.specs.Option.{option_map};
 ghost use Rattle.roam_sockets.specs.Addresses.{number_of};
 ghost use Rattle.roam_sockets.specs.Clients.{Accepts, IsOf, IsQueuedFor};
@@ -19,7 +19,7 @@ ghost use Rattle.roam_pane_sockets.specs.Moments.{sooner, standing};
 ghost use Rattle.roam_serving.specs.Ports.{IsPortOf, clients_path, is_looked};
 ghost use Rattle.roam_pane_sockets.specs.Panes.{paths_of};
 ghost use Rattle.roam_pane_sockets.specs.Inflows.{HandsOn, IsFreshInflow};
-ghost use Rattle.roam_pane_sockets.specs.Peers.{Asks, Changes, HasFreeIn, Hears, IsStill, Lives, any_goes_on, frames_until};
+ghost use Rattle.roam_pane_sockets.specs.Peers.{Asks, Changes, HasFreeIn, Hears, IsMended, IsStill, Lives, any_goes_on, frames_until};
 ghost use Rattle.roam_pane_sockets.specs.Sieves.{CountsSome, bytes_given};
 
 use crate::echoes::Echoes;
@@ -35,12 +35,16 @@ use roam_pane_sockets::{Panes, is_time, sooner, standing};
 use roam_sockets::{Clients, Moments, Udp, Waits, next_by_turns, wait_for};
 use roam_turns::Ports;
 use std::alloc::Global;
+use std::fs;
 use std::fs::Files;
 use std::net::Net;
 use std::time::{Clock, Instant};
 
 /// It is looked so often whether somebody waits at the sockets, where no wait told.
 const LOOKS: u64 = 20;
+
+/// It is looked once in so many milliseconds whether the files of the sockets are still there.
+const MENDS: u64 = 60_000;
 
 /// The session and the id of the start by which a server closes the panes that programs ask for.
 #[derive(Clone, Copy, Debug, PartialEq, Eq)]
@@ -73,6 +77,8 @@ pub struct ServerPorts<R> {
     looked: u64,
     // Whether a program may have come to the socket `panes` since it was looked there.
     may_come: bool,
+    // When it was looked last whether the files of the sockets are still there.
+    mended: u64,
 }
 
 // Binds the sockets beside those of the panes. `Bind` where one can't be bound, `OutOfMemory`; then none stays.
@@ -289,6 +295,7 @@ impl<R: Clock + Drop> ServerPorts<R> {
                 is_udp_next: false,
                 looked: 0,
                 may_come: true,
+                mended: 0,
             }),
             Err(fault) => {
                 panes.remove(rt);
@@ -474,11 +481,44 @@ impl<R: Clock + Drop> ServerPorts<R> {
         tell_asks(self.alloc, &mut self.followers, &self.panes);
     }
 
+    /// Binds those sockets anew whose files are gone, as a cleaner of old files leaves them: once a minute, and only if the folder's file
+    /// `session` has this id, since the folder may be another session's by then. Panes, followers and client starts that are there stay.
+    pub fn mend<N: Files + Net + AllocGlobal>(&mut self, rt: &N, folder: &str, session: u64)
+        ensures panes { AllZip IsMended self.old.panes.all.items self.new.panes.all.items
+            ⊎ (self.new.panes ≡ self.old.panes) }
+        ensures moment { self.new.moment ≡ self.old.moment }
+    {
+        if !is_time(Some(self.mended), self.clock, MENDS) {
+            return;
+        }
+        self.mended = self.clock;
+        if !is_session(rt, folder, session) {
+            return;
+        }
+        self.panes.mend(rt, self.waits.registry());
+        self.followers.mend(rt, self.waits.registry());
+        self.clients.mend(rt, &self.waits);
+    }
+
     /// Removes the files of the sockets.
     pub fn remove(&self, files: &impl Files) {
         self.panes.remove(files);
         self.followers.remove(files);
         self.clients.remove(files);
+    }
+}
+
+// Returns true if the file `session` of a folder has this id.
+fn is_session<N: Files + AllocGlobal>(rt: &N, folder: &str, session: u64) -> bool {
+    let (Ok(path), Ok(id)) = (
+        format!(in rt.alloc(); "{folder}/session"),
+        format!(in rt.alloc(); "{session:x}\n"),
+    ) else {
+        return false;
+    };
+    match fs::read(rt, path.as_str()) {
+        Ok(text) => text.as_slice() == id.as_bytes(),
+        Err(_) => false,
     }
 }
 

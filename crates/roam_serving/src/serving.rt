@@ -106,23 +106,25 @@ fn tell_and_rest<C: Clock + Drop>(turns: u64, server: &Server, ports: &mut Serve
 }
 
 // Takes the turns of a server, and after each tells and waits.
-fn serve_turns<C: Clock + Drop>(
-    alloc: Global,
-    turns: u64,
+fn serve_turns<R: Files + Net + AllocGlobal, C: Clock + Drop>(
+    rt: &R,
+    serve: &Serve<'_>,
+    session: u64,
     server: &mut Server,
     ports: &mut ServerPorts<C>,
 )
-    ensures turns { ServesTurns turns server.old server.new }
+    ensures turns { ServesTurns serve.now.turns server.old server.new }
     // After each turn, and so after the last.
-    ensures told { 0 < turns → HasToldAll ⟦<UnixStream as Stream>⟧.contents server.new ports.new.moment ports.new.panes.all.items
+    ensures told { 0 < serve.now.turns → HasToldAll ⟦<UnixStream as Stream>⟧.contents server.new ports.new.moment ports.new.panes.all.items
         ports.new.followers.all.items }
-    ensures rested { 0 < turns → HasRested turns server.new ports.new.clock ports.new.clients ports.new.followers.may_ask ports.new.udp
+    ensures rested { 0 < serve.now.turns → HasRested serve.now.turns server.new ports.new.clock ports.new.clients ports.new.followers.may_ask ports.new.udp
         (sooner (sooner ports.new.telling.due ports.new.clipping.due) (frames_until ports.new.panes.all.items))
         ports.new.echoes.wish ports.new.waits.longest }
 {
-    for _ in 0..turns {
-        serve_turn(alloc, server, ports);
-        tell_and_rest(turns, server, ports);
+    for _ in 0..serve.turns {
+        ports.mend(rt, serve.folder, session);
+        serve_turn(rt.alloc(), server, ports);
+        tell_and_rest(serve.turns, server, ports);
     }
 }
 
@@ -195,7 +197,7 @@ fn serve_bound<R: Files + Net + Clock + RandomSource + Eprint + AllocGlobal>(
     let written = write_session(rt, serve.folder, session);
     if written.is_ok() {
         tell_port(rt, serve.port, ports.port());
-        serve_turns(alloc, serve.turns, server, &mut ports);
+        serve_turns(rt, serve, session, server, &mut ports);
         remove_session(rt, serve.folder);
     }
     ports.remove(rt);

@@ -5,7 +5,7 @@ ghost use Rattle.roam_sockets.specs.Addresses.{address_of, number_of};
 ghost use Rattle.roam_sockets.specs.Clients.{Accepts, AcceptsOne, HasNoneAt, HaveCome, HaveNone, IsDone, IsFlushed, IsInTurn, IsLostAt, IsLostFor, IsNext, IsOf, IsPlaceOf, IsQueuedAt, IsQueuedFor, KeepsOpen, NoneCame, OneCame, Stays, most_peers, numbers_of, place_behind, queues_of};
 
 use crate::arrivals::Arrivals;
-use crate::files::listen;
+use crate::files::{listen, listen_again};
 use crate::waits::Waits;
 use mio::net::{UnixListener, UnixStream};
 use roam_cells::{Addr, Fault};
@@ -202,6 +202,15 @@ impl Clients {
             turn: 0,
             is_flushed: true,
         })
+    }
+
+    /// Binds the socket anew if its file is gone.
+    pub fn mend<R: Files + Net>(&mut self, rt: &R, waits: &Waits)
+        ensures others { self.new ≡ record self.old { listener = self.new.listener } }
+    {
+        if listen_again(rt, self.path.as_str(), &mut self.listener) {
+            waits.report(&mut self.listener, false);
+        }
     }
 
     // Adds a stream under the next number. Refuses want of memory; then the stream is closed, and its number goes to none.

@@ -48,6 +48,22 @@ pub fn listen<R: Files + Net>(rt: &R, path: &str) -> Option<UnixListener> {
     UnixListener::bind(rt, path).ok()
 }
 
+/// Binds a path anew if its file is gone, as a cleaner of old files leaves it, and returns true if it is another listener then. A file that
+/// is there stays.
+pub fn listen_again<R: Files + Net>(rt: &R, path: &str, listener: &mut UnixListener) -> bool {
+    match symlink_metadata(rt, path) {
+        Err(error) if error.kind() == ErrorKind::NotFound => (),
+        _ => return false,
+    }
+    match UnixListener::bind(rt, path) {
+        Err(_) => false,
+        Ok(anew) => {
+            *listener = anew;
+            true
+        }
+    }
+}
+
 /// Why a folder can't hold a server's sockets.
 #[derive(Clone, Copy, Debug, PartialEq, Eq, Error)]
 pub enum FolderFault {

@@ -15,7 +15,7 @@ mod waits;
 pub use arrivals::{Arrivals, next_by_turns};
 pub use chance::random_id;
 pub use clients::{Clients, address_of};
-pub use files::{FolderFault, listen, may_hold, own_folder, try_listen, write_alone};
+pub use files::{FolderFault, listen, listen_again, may_hold, own_folder, try_listen, write_alone};
 pub use moments::Moments;
 pub use udp::{Udp, loopback, try_port};
 pub use waits::{SHORT_WAIT, Waits, wait_for, wait_until};

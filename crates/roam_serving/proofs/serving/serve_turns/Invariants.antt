@@ -10,6 +10,6 @@ abbrev pub invariant-loop : goal.invariant-loop
 invariant-loop g l = record {
   turns : ServesTurns l.counter l.initial.server l.server;
   told : 0 < l.counter → HasToldAll (λ s. None) l.server l.ports.moment l.ports.panes.all.items l.ports.followers.all.items;
-  rested : 0 < l.counter → HasRested l.turns l.server l.ports.clock l.ports.clients l.ports.followers.may_ask l.ports.udp (sooner (sooner l.ports.telling.due l.ports.clipping.due) (frames_until l.ports.panes.all.items))
+  rested : 0 < l.counter → HasRested l.serve.turns l.server l.ports.clock l.ports.clients l.ports.followers.may_ask l.ports.udp (sooner (sooner l.ports.telling.due l.ports.clipping.due) (frames_until l.ports.panes.all.items))
       l.ports.echoes.wish l.ports.waits.longest;
 }
