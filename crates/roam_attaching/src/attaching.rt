@@ -420,6 +420,7 @@ fn follow_terminals<R: Files + Net + Clock + RandomSource + AllocGlobal>(
         attach.turns,
         client,
         connection,
+        rt,
         home_of(attach.home),
     )
 }

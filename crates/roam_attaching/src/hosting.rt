@@ -4,6 +4,7 @@ ghost use Rattle.roam_attaching.specs.Ways.{Goes, IsFrom, MoreGoes, Sends, Still
 ghost use Rattle.roam_sockets.specs.declared.moments.Moments.{Moments};
 ghost use Rattle.roam_sockets.specs.Waits.{wait_until};
 
+use crate::arriving::Arrival;
 use crate::connecting::Connection;
 use mio::net::{UnixListener, UnixStream};
 use roam_cells::Fault;
@@ -33,6 +34,7 @@ const FOR_GOOD: u64 = u64::MAX;
 struct Doorway<R> {
     listener: UnixListener,
     came: Option<UnixStream>,
+    clock: R,
     connection: Connection<R>,
 }
 
@@ -124,16 +126,16 @@ impl<R: Clock + Drop> Ports for Doorway<R> {
     }
 }
 
-impl<R: Clock + Drop> Door<Opaque<UnixStream>> for Doorway<R> {
+impl<R: Clock + Copy + Drop> Door<Opaque<Arrival<R>>> for Doorway<R> {
     // A socket reports once, so there is no wait where one came: others may be there.
-    fn next(&mut self) -> Option<Opaque<UnixStream>>
+    fn next(&mut self) -> Option<Opaque<Arrival<R>>>
         ensures stirs { IfSome result (λ _. self.new.connection.waits.quiet ≡ false) }
         ensures none { result ≡ None → self.new ≡ self.old }
         ensures way { self.new.connection.way ≡ self.old.connection.way }
     {
         let stream = first_at(&mut self.came, &self.listener, &self.connection)?;
         self.connection.stir();
-        Some(Opaque::new(stream))
+        Some(Opaque::new(Arrival::new(stream, self.clock)))
     }
 
     fn has_ended(&mut self) -> bool
@@ -176,13 +178,14 @@ impl<R: Clock + Drop> Door<Opaque<UnixStream>> for Doorway<R> {
 }
 
 /// Is the start of all outer terminals that connect to a socket, for so many rounds at most. `Bind` where the socket can't be bound.
-pub(crate) fn host<R: Files + Net, C: Clock + Drop>(
+pub(crate) fn host<R: Files + Net, C: Clock + Copy + Drop>(
     rt: &R,
     alloc: Global,
     path: &str,
     rounds: u64,
     client: Client,
     connection: Connection<C>,
+    clock: C,
     to: Addr,
 ) -> Result<End, RunFault>
     ensures faults { IfErr result (λ fault. fault ≡ RunFault.Bind) }
@@ -195,6 +198,7 @@ pub(crate) fn host<R: Files + Net, C: Clock + Drop>(
     let mut door = Listening::new(Doorway {
         listener,
         came: None,
+        clock,
         connection,
     });
     let end = run_shared(alloc, &mut shared, &mut door, to, rounds);

@@ -1,6 +1,7 @@
 //! `roam attach`: the turns of a client start round real sockets, the clock and its outer terminals.
 #![tactic(auto)]
 
+mod arriving;
 mod attaching;
 mod client_ports;
 mod connecting;

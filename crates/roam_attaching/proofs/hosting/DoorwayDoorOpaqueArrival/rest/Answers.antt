@@ -2,8 +2,8 @@ use Rattle.std.proofs.Common.{◌≡◌, min, rules, subst, false}
 use Rattle.std.specs.Prelude.{◌≢◌, IfSome}
 use Rattle.roam_sockets.specs.Waits.{wait_until}
 use Rattle.roam_attaching.proofs.Waiting.{waits_no_longer}
-use Rattle.roam_attaching.proofs.hosting.DoorwayDoorOpaqueUnixStream.rest.Goals as goal
-use Rattle.roam_attaching.proofs.hosting.DoorwayDoorOpaqueUnixStream.rest.Goals.{then-longest-eq0, else-longest-eq0}
+use Rattle.roam_attaching.proofs.hosting.DoorwayDoorOpaqueArrival.rest.Goals as goal
+use Rattle.roam_attaching.proofs.hosting.DoorwayDoorOpaqueArrival.rest.Goals.{then-longest-eq0, else-longest-eq0}
 
 pub returns-clause-waited : goal.returns-clause-waited
 returns-clause-waited g c =
