@@ -20,8 +20,13 @@ use std::fs::{Files, remove_file};
 use std::net::Net;
 use std::time::Clock;
 
-/// How many datagrams are dropped at most before it is looked whether a terminal came.
-const MOST_DROPPED: u32 = 64;
+/// The server sends a heartbeat after three seconds of silence, unless it has forgotten the start: so many milliseconds are longer.
+const FORGOTTEN: u64 = 4_000;
+
+/// A terminal that comes to a start that was forgotten waits for the newest screen: at most so many times so many milliseconds.
+const WAKES: u32 = 2;
+
+const WAKING: u64 = 50;
 
 /// How many bytes of a datagram are read at most.
 const DATAGRAM: usize = 2048;
@@ -29,13 +34,29 @@ const DATAGRAM: usize = 2048;
 /// So many looks end with the machine.
 const FOR_GOOD: u64 = u64::MAX;
 
-// The socket at which outer terminals come, one that came while the start slept, and the way of their start to its server.
+// The socket at which outer terminals come, and the way of their start to its server.
 #[derive(Drop)]
 struct Doorway<R> {
     listener: UnixListener,
+    // One that came while the start slept.
     came: Option<UnixStream>,
     clock: R,
     connection: Connection<R>,
+    // When something came from the server last; and for how many rounds a terminal waits at most, so that it is shown no old screen.
+    heard: u64,
+    waking: u32,
+}
+
+// Whether a datagram tells nothing new: it is whole, and its change is from a number to the same one.
+fn is_heartbeat(datagram: &[u8]) -> bool {
+    match (
+        datagram.get(38..40),
+        datagram.get(42..50),
+        datagram.get(50..58),
+    ) {
+        (Some(count), Some(old), Some(new)) => count == [0, 1].as_slice() && old == new,
+        _ => false,
+    }
 }
 
 // The terminal that came before, or one that comes now.
@@ -57,24 +78,50 @@ fn first_at<R: Clock + Drop>(
     Some(stream)
 }
 
-// Drops the datagrams that came: the protocol takes them for lost.
-fn drop_arrivals<R: Clock + Drop>(connection: &mut Connection<R>) {
-    let mut buf = [0; DATAGRAM];
-    for _ in 0..MOST_DROPPED {
-        if connection.receive(&mut buf).is_none() {
-            return;
+impl<R: Clock + Drop> Doorway<R> {
+    // Drops a datagram that came while the start sleeps, and returns true if it has news: the server sends those again.
+    fn is_woken_by_server(&mut self) -> bool {
+        let mut buf = [0; DATAGRAM];
+        let Some((_, len)) = self.connection.receive(&mut buf) else {
+            return false;
+        };
+        self.heard = self.connection.moment();
+        match buf.get(..len) {
+            Some(datagram) => !is_heartbeat(datagram),
+            None => true,
         }
+    }
+
+    // Looks whether a terminal came while the start sleeps.
+    fn is_woken_by_terminal(&mut self) -> bool
+        ensures came { result ≡ is_some self.new.came }
+    {
+        self.came = first_at(&mut self.came, &self.listener, &self.connection);
+        self.came.is_some()
+    }
+
+    // Notes that the start wakes for a terminal: if the server has forgotten the start, what it shows may be old.
+    fn wake(&mut self)
+        ensures others { self.new ≡ record self.old { waking = self.new.waking } }
+    {
+        let silent = self.connection.moment().saturating_sub(self.heard);
+        self.waking = if silent >= FORGOTTEN { WAKES } else { 0 };
     }
 }
 
-impl<R: Clock + Drop> Doorway<R> {
-    // Looks who came while the start sleeps, and returns true if it is to wake: a terminal came, or the server has ended.
-    fn is_woken(&mut self) -> bool
-        ensures woken { result ≡ true → (is_some self.new.came ≡ true) ⊎ (has_ended self.new.connection.way ≡ true) }
-    {
-        drop_arrivals(&mut self.connection);
-        self.came = first_at(&mut self.came, &self.listener, &self.connection);
-        self.came.is_some() || self.connection.has_ended()
+// Whether a moment is before another one, if there is one.
+fn is_before(now: u64, due: Option<u64>) -> bool {
+    match due {
+        None => false,
+        Some(due) => now < due,
+    }
+}
+
+// How many milliseconds until a moment, an hour where there is none or it has come.
+fn until(due: Option<u64>, now: u64) -> u64 {
+    match due {
+        Some(due) if due > now => due - now,
+        _ => wait_until(None, now),
     }
 }
 
@@ -92,7 +139,10 @@ impl<R: Clock + Drop> Ports for Doorway<R> {
         ensures stirs { IfSome result (λ _. self.new.connection.waits.quiet ≡ false) }
         ensures waiting { StillWaits self.old.connection.way self.new.connection.way }
     {
-        self.connection.receive(buf)
+        let came = self.connection.receive(buf)?;
+        self.heard = self.connection.moment();
+        self.waking = 0;
+        Some(came)
     }
 
     fn send(&mut self, to: Addr, bytes: &[u8]) -> bool
@@ -133,6 +183,9 @@ impl<R: Clock + Copy + Drop> Door<Opaque<Arrival<R>>> for Doorway<R> {
         ensures none { result ≡ None → self.new ≡ self.old }
         ensures way { self.new.connection.way ≡ self.old.connection.way }
     {
+        if self.waking > 0 {
+            return None;
+        }
         let stream = first_at(&mut self.came, &self.listener, &self.connection)?;
         self.connection.stir();
         Some(Opaque::new(Arrival::new(stream, self.clock)))
@@ -160,19 +213,32 @@ impl<R: Clock + Copy + Drop> Door<Opaque<Arrival<R>>> for Doorway<R> {
         self.connection.rest(wait);
     }
 
-    // The start takes no turn meanwhile, so the server hears nothing of it and stops sending after a minute.
-    fn sleep(&mut self, longest: u64) {
+    // Until something is due the start waits as ever. From then on it says nothing, so the server stops sending after a minute without news.
+    fn sleep(&mut self, longest: u64, due: Option<u64>) {
+        if self.waking > 0 {
+            self.waking -= 1;
+            self.connection.rest(longest.min(WAKING));
+            return;
+        }
         let begun = self.connection.moment();
         for _ in 0..FOR_GOOD {
-            if self.is_woken() {
+            if self.is_woken_by_terminal() {
+                self.wake();
                 return;
             }
-            let passed = self.connection.now().saturating_sub(begun);
+            let now = self.connection.now();
+            let is_light = is_before(now, due);
+            if !is_light && (self.is_woken_by_server() || self.connection.has_ended()) {
+                return;
+            }
+            let passed = now.saturating_sub(begun);
             if passed >= longest {
                 return;
             }
-            self.connection
-                .rest(wait_until(None, 0).min(longest - passed));
+            self.connection.rest(until(due, now).min(longest - passed));
+            if is_light && is_before(self.connection.now(), due) {
+                return;
+            }
         }
     }
 }
@@ -200,6 +266,8 @@ pub(crate) fn host<R: Files + Net, C: Clock + Copy + Drop>(
         came: None,
         clock,
         connection,
+        heard: 0,
+        waking: 0,
     });
     let end = run_shared(alloc, &mut shared, &mut door, to, rounds);
     // A file that somebody removed before is no matter.

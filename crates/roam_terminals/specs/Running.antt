@@ -128,8 +128,7 @@ pub record IsIdle {S : Type 0} (s : Shared S) : Type 0 where
   pub goes_on : s.ending ≡ None
   pub settled : s.client.kept.acts.acts ≡ []
 
--- How a start rests behind a round, so many milliseconds at most: one that is idle until a terminal comes; any other until it next has
--- something due.
+-- How a start rests behind a round, so many milliseconds at most: one that is idle sleeps; any other waits until it next has something due.
 pub data Rests {S : Type 0} (longest : ℕ) (calls calls' : Option (List PortCall)) (s : Shared S) : Type 0 where
   sleeps : IsIdle s → Tells calls calls' (Asked (Slept longest) ∷ []) → Rests longest calls calls' s
   waits : (due : Option ℕ) → (IsIdle s → ⊥) → IsNextDue s.client due → Tells calls calls' (Asked (Rested longest due) ∷ [])

@@ -76,14 +76,14 @@ impl<P: Ports + Drop> Listening<P> {
         self.ports.rest(longest, due);
     }
 
-    // Waits until a terminal comes or the server has ended.
-    pub(crate) fn sleep<S>(&mut self, longest: u64)
+    // Waits until a terminal comes, the server has news, or it has ended.
+    pub(crate) fn sleep<S>(&mut self, longest: u64, due: Option<u64>)
     where
         P: Door<S>,
         ensures tells { Tells (P.told self.old.ports) (P.told self.new.ports) (Asked (Slept longest) ∷ []) }
         ensures others { self.new ≡ record self.old { ports = self.new.ports; has_slept = true } }
     {
-        self.ports.sleep(longest);
+        self.ports.sleep(longest, due);
         self.has_slept = true;
     }
 }

@@ -40,8 +40,9 @@ pub trait Door<S>: Ports {
     fn rest(&mut self, longest: u64, due: Option<u64>)
         ensures tells { Tells (Self.told self.old) (Self.told self.new) (Asked (Rested longest due) ∷ []) };
 
-    /// Waits until a terminal comes or the server has ended, so many milliseconds at most. What the server sends meanwhile is dropped.
-    fn sleep(&mut self, longest: u64)
+    /// Waits until a terminal comes, the server has news, or it has ended, so many milliseconds at most. Until a moment anything that comes
+    /// ends the wait; behind it what is no news is dropped.
+    fn sleep(&mut self, longest: u64, due: Option<u64>)
         ensures tells { Tells (Self.told self.old) (Self.told self.new) (Asked (Slept longest) ∷ []) };
 }
 
@@ -96,8 +97,8 @@ fn longest_rest<S: Duplex + Drop>(
     within(rounds != FOR_GOOD, SHORT, while_ending)
 }
 
-// Rests behind a round, so many milliseconds at most: until a terminal comes if none is there and nothing is left to do, else until the
-// start next has something due.
+// Rests behind a round, so many milliseconds at most: until the start next has something due, or longer if no terminal is there and nothing
+// is left to do.
 fn rest_behind<S: Duplex + Drop, D: Door<S> + Drop>(
     shared: &SharedStart<S>,
     door: &mut Listening<D>,
@@ -107,7 +108,7 @@ fn rest_behind<S: Duplex + Drop, D: Door<S> + Drop>(
     ensures silence { door.new.silence ≡ door.old.silence }
 {
     if shared.is_idle() {
-        door.sleep(longest);
+        door.sleep(longest, shared.client().next_due());
     } else {
         door.rest(longest, shared.client().next_due());
     }

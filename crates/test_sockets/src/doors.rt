@@ -99,8 +99,8 @@ impl<'a> Door<Opaque<TypedStream<'a>>> for MemoryDoor<'a> {
         self.ports.set_moment(self.moment);
     }
 
-    fn sleep(&mut self, longest: u64) {
-        self.rest(longest, None);
+    fn sleep(&mut self, longest: u64, due: Option<u64>) {
+        self.rest(longest, due);
     }
 }
 

@@ -13,7 +13,7 @@ returns-else-is_idle-clause-rests g c =
     let yes : IsTrue c.is_idle.result = c.is_idle.ensures.idle.1 o in
     let no = c.if-is_idle.false in
     absurd cc in
-    let due : IsNextDue c.args.shared.now.client c.next_due.result =
-    subst (λ k. IsNextDue k c.next_due.result) c.client.ensures.client
-    (record { before = c.next_due.ensures.before; at = c.next_due.ensures.at }) in
-    waits c.next_due.result busy due c.rest.ensures.tells
+    let due : IsNextDue c.args.shared.now.client c.next_due-else-is_idle.result =
+    subst (λ k. IsNextDue k c.next_due-else-is_idle.result) c.client-else-is_idle.ensures.client
+    (record { before = c.next_due-else-is_idle.ensures.before; at = c.next_due-else-is_idle.ensures.at }) in
+    waits c.next_due-else-is_idle.result busy due c.rest.ensures.tells
