@@ -1,0 +1,68 @@
+"""Client processes that nobody looks at, and connections that say nothing."""
+import contextlib
+import pathlib
+import socket
+import time
+
+from tried import check, comes, noted, said, scene, terminals_of
+
+# A client process sleeps after so many seconds without a terminal, and its server has forgotten it after so many.
+SLEEPS = 4.0
+FORGOTTEN = 64.0
+
+# So many connections fill a client process; each has so many seconds for its first line.
+MOST = 16
+FIRST_LINE = 10.0
+
+# Wakeups of a session without terminals are counted for so many seconds.
+COUNTED = 20.0
+
+
+def wakeups(processes):
+    """Return how often these processes have given up a processor of their own accord."""
+    count = 0
+    for process in processes:
+        text = pathlib.Path(f"/proc/{process}/status").read_text(encoding="utf-8")
+        count += int(text.partition("\nvoluntary_ctxt_switches:")[2].split()[0])
+    return count
+
+
+def type_line(session, line):
+    """Type a line into a session's shell."""
+    said("send", "-l", line, session)
+    said("send", session, "Enter")
+
+
+@scene
+def slept(folder):
+    """A window that nobody looks at costs nothing, and shows the newest screen to whoever comes."""
+    said("new", "-d", "asleep")
+    type_line("asleep", "(sleep 8; echo ne''ws) &")
+    time.sleep(SLEEPS + 6)
+    check("what was printed while the client process slept is captured", comes(lambda: "news" in said("capture", "asleep")[1], 2.0),
+          lambda: said("capture", "asleep")[1])
+    type_line("asleep", "(sleep 66; echo la''ter) &")
+    time.sleep(FORGOTTEN)
+    processes = [noted("asleep")[role][0] for role in ("server", "terminals", "shells")]
+    before = wakeups(processes)
+    time.sleep(1.5)
+    check("a session without terminals wakes at most for its programs", wakeups(processes) - before <= 3, wakeups(processes) - before)
+    time.sleep(4)
+    begun = time.monotonic()
+    text = said("capture", "asleep")[1]
+    check("and the first capture has the newest screen", "later" in text, text)
+    check("soon", time.monotonic() - begun < 2, time.monotonic() - begun)
+    said("kill", "-f", "asleep")
+
+
+@scene
+def idle_terminals(folder):
+    """Connections that say nothing keep nobody out for long."""
+    said("new", "-d", "idle")
+    with contextlib.ExitStack() as peers:
+        for _ in range(MOST):
+            peer = peers.enter_context(socket.socket(socket.AF_UNIX))
+            peer.connect(str(terminals_of("idle")))
+        check("somebody else gets in once they had their time", comes(lambda: said("capture", "idle")[0] == 0, FIRST_LINE + 5),
+              lambda: said("capture", "idle"))
+    said("kill", "-f", "idle")
