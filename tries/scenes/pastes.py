@@ -194,7 +194,7 @@ def paste_lost(folder):
     outer.type(b"\x03")
     check("a C-c drops a paste that waits", outer.status("what was pasted and still waited is dropped"), outer.rows)
     os.kill(keeper, signal.SIGCONT)
-    check("and goes, with the keys before it", has(path, b"<" + text + b">a\x03"), path.read_bytes)
+    check("and comes, without the keys behind the paste", has(path, b"<" + text + b">\x03"), path.read_bytes)
     os.kill(keeper, signal.SIGSTOP)
     outer.type(pasted("echo ne''ver" + " " * 40 + "\n"))
     time.sleep(0.5)
