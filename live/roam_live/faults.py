@@ -1,4 +1,4 @@
-"""Faults that nobody foresaw, in a process that goes on: the log is told where each came from, and not all of them."""
+"""Unexpected exceptions in a process that goes on: each is logged with its traceback, at a limited rate."""
 from __future__ import annotations
 
 import contextlib
@@ -8,22 +8,22 @@ from collections.abc import Callable
 from roam_live.program import Fault, log_in_full, say
 from roam_live.words import one_line
 
-# A fault at one place is logged once in so many seconds, and so many places are known.
+# An exception raised at one source line is logged once in APART seconds; MOST_PLACES lines are remembered.
 APART = 60.0
 MOST_PLACES = 64
 
-# So many calls of where one came from are logged, and so many characters of that.
+# Limits of a logged traceback: calls, characters, and characters of a line.
 MOST_CALLS = 16
 MOST_LOGGED = 4000
 LONGEST_LINE = 300
 
-# A pane may have a fault before this one in so many seconds, and one more; the next closes it.
+# A pane may have MOST_SOON exceptions in SOON seconds; the next one closes it.
 MOST_SOON = 2
 SOON = 10.0
 
 
 def place_of(fault: BaseException) -> str:
-    """The place in the source where a fault came from."""
+    """Return the source line that raised an exception."""
     last = fault.__traceback__
     while last and last.tb_next:
         last = last.tb_next
@@ -31,7 +31,7 @@ def place_of(fault: BaseException) -> str:
 
 
 def told_in_full(fault: BaseException) -> str:
-    """Where a fault came from, call by call, no more than a log is to have of one."""
+    """Return the traceback of an exception, bounded for a log."""
     import traceback
 
     lines = traceback.format_exception(type(fault), fault, fault.__traceback__, limit=-MOST_CALLS)
@@ -39,18 +39,18 @@ def told_in_full(fault: BaseException) -> str:
 
 
 class FaultLog:
-    """Logs faults, each with what it was at; one at a place that was logged a short while ago is counted alone."""
+    """Logs unexpected exceptions. One from a source line that was logged less than APART seconds ago is only counted."""
 
     def __init__(self, clock: Callable[[], float] = time.monotonic) -> None:
         self.clock = clock
-        # When a fault at each place was logged, and how many came since; and how many came at all.
+        # For each source line: when it was logged, and how many exceptions came since. And the number of all exceptions.
         self.logged: dict[str, tuple[float, int]] = {}
         self.count = 0
 
     def take(self, fault: Exception) -> None:
-        """Takes a fault."""
+        """Log an exception, or count it."""
         self.count += 1
-        # Where memory is short also this may be refused.
+        # If memory is short, logging may fail too.
         with contextlib.suppress(Exception):
             place, now = place_of(fault), self.clock()
             since, more = self.logged.get(place, (float("-inf"), 0))
@@ -65,25 +65,24 @@ class FaultLog:
 
     @staticmethod
     def tell(fault: Exception, more: int) -> None:
-        """Tells the log of a fault."""
+        """Log an exception. A `Fault` is a refusal that somebody worded, so it needs no traceback."""
         if isinstance(fault, Fault):
-            # Somebody foresaw it, and said why in words.
             say(one_line(str(fault)[:LONGEST_LINE]))
             return
         line = one_line(f"{type(fault).__name__}: {fault}"[:LONGEST_LINE])
-        say(f"a fault of roam, which goes on: {line}" + (f" ({more} more since the last that was logged)" if more else ""))
+        say(f"internal error, roam continues: {line}" + (f" ({more} more since the last one logged)" if more else ""))
         log_in_full(told_in_full(fault))
 
 
 class SoonFaults:
-    """The faults of something that stands one or two of them, and not a third soon behind."""
+    """Counts exceptions, and says when there were too many in SOON seconds."""
 
     def __init__(self, clock: Callable[[], float]) -> None:
         self.clock = clock
         self.moments: list[float] = []
 
     def is_last(self) -> bool:
-        """Takes note of a fault, and tells whether it is one too many."""
+        """Count an exception, and return True if it is one too many."""
         now = self.clock()
         self.moments = [moment for moment in self.moments if now < moment + SOON]
         is_last = len(self.moments) >= MOST_SOON

@@ -56,7 +56,7 @@ class Following:
     def __init__(self, connects: Callable[[], socket.socket], loop: Loop, hears: Callable[[list[str]], object],
                  loses: Callable[[], object]) -> None:
         self.connects, self.loop, self.hears, self.loses = connects, loop, hears, loses
-        # What takes a fault in what is told here, where that isn't the process's end.
+        # Handler for an exception in what is reported here; without one it ends the process.
         self.fails: Callable[[Exception], object] | None = None
         # What is asked for at each connection, before all else.
         self.words: list[str] = []
@@ -181,8 +181,8 @@ class KeeperFollowing(Following):
         super().end()
 
     def lose_for(self, fault: Exception) -> None:
-        """Lets go of a connection in which there was a fault: the panes stay, and all is told anew."""
-        self.lost(f"what it tells can't be gone by: {reason(fault)}")
+        """Drop the connection after an exception. The panes stay, and the server reports everything anew."""
+        self.lost(f"invalid report of panes: {reason(fault)}")
 
     def heard(self, lines: list[str]) -> None:
         """Takes lines that came."""

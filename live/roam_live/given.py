@@ -11,7 +11,7 @@ from roam_live.texts import MOST_BYTES
 MOST_TEXTS = 64
 KEPT = 60.0
 
-# What the moment is called at which one has waited for too long.
+# The timer at which a text has waited for too long.
 WAITED = "given texts"
 
 # So many names are known that were spent.

@@ -29,8 +29,8 @@ def listening(path: str | os.PathLike[str]) -> socket.socket:
 
 
 class Listener:
-    """Takes who connects and is of this user, while there is room for another; who comes waits else. Whether there is room is asked before
-    each wait, or only where somebody tells that it may have changed."""
+    """Accepts connections of this user while there is room; others wait. With `is_told` the owner calls `room_changed`; otherwise the loop
+    asks before each wait."""
 
     def __init__(self, loop: Loop, path: str | os.PathLike[str], takes: Callable[[socket.socket], object], has_room: Callable[[], bool],
                  refused: Callable[[OSError], object], is_told: bool = False) -> None:
@@ -41,18 +41,18 @@ class Listener:
         self.join()
 
     def join(self) -> None:
-        """Has the loop see who comes."""
+        """Add the socket to the loop."""
         self.loop.add(self.end, self.take, hears=self.hears, is_told=self.is_told)
 
     def is_found(self) -> bool:
-        """Whether the socket lies where it was made: a cleaner of old files may have removed it, and another may be there."""
+        """Return True if the socket's file is still the one that was bound: a cleaner of old files may have removed it."""
         try:
             return os.path.samestat(self.made, os.lstat(self.path))
         except OSError:
             return False
 
     def move(self, path: str | os.PathLike[str]) -> None:
-        """Listens at another socket from now on, which is made; Fault or OSError where that can't be."""
+        """Bind a new socket at a path and listen there; Fault or OSError if that fails."""
         end = listening(path)
         self.loop.remove(self.end)
         self.end.close()
@@ -87,7 +87,7 @@ class Listener:
         self.room_changed()
 
     def room_changed(self) -> None:
-        """Looks whether there is room now."""
+        """Check whether there is room now."""
         self.loop.changed(self.end)
 
     def close(self) -> None:

@@ -1,4 +1,4 @@
-"""What a process waits for: ends that come and go, with what is done there, and moments."""
+"""The event loop of a process: descriptors ("ends") with callbacks, named timers, and hooks before each wait."""
 from __future__ import annotations
 
 import contextlib
@@ -13,10 +13,10 @@ if TYPE_CHECKING:
     from typing import Protocol, Union
 
     class HasEnd(Protocol):
-        """What has a descriptor."""
+        """An object with a descriptor."""
 
         def fileno(self) -> int:
-            """Its descriptor."""
+            """Return the descriptor."""
 
     End = Union[int, HasEnd]
     Does = Callable[[], object]
@@ -24,58 +24,61 @@ if TYPE_CHECKING:
 
 READ, WRITE = 1, 2
 
-# What the system tells of an end, as events here. Any other, as that its other end is gone, is all that is waited for there.
+# epoll events as events of this module, and the reverse. Any other epoll event, such as a hangup, counts as all that the end waits for.
 FOUND = {select.EPOLLIN: READ, select.EPOLLOUT: WRITE, select.EPOLLIN | select.EPOLLOUT: READ | WRITE}
 WATCHED = {READ: select.EPOLLIN, WRITE: select.EPOLLOUT, READ | WRITE: select.EPOLLIN | select.EPOLLOUT}
 
-# epoll counts in milliseconds: a wait of fewer seconds is had by select, which takes descriptors below this.
+# epoll waits whole milliseconds. A shorter wait than FINE seconds uses select, which takes descriptors below MOST_SELECTED.
 FINE = 0.01
 MOST_SELECTED = 1024
 
-# No wait is longer; what is due later is waited for again.
+# Longest wait, in seconds; epoll rejects longer timeouts than 24 days.
 LONGEST = 86400.0
 
-# So many seconds an end rests after a fault of which nobody said what it ends, and so many later a moment's fault is tried again.
+# Seconds for which an end without a `fails` callback is paused after an exception, and after which a timer that failed is called again.
 RESTS = 1.0
 
 MOMENT = itemgetter(0)
 
 
 def place_of(found: tuple[LoopEnd, int, int]) -> int:
-    """The place of an end at which something was found, among all that were added."""
+    """Return the rank of a ready end: ends are served in the order in which they were added."""
     return found[0].place
 
 
 def always() -> bool:
-    """What holds at any time."""
+    """Return True."""
     return True
 
 
 def number_of(end: End) -> int:
-    """The descriptor of an end."""
+    """Return the descriptor of an end."""
     return end if isinstance(end, int) else end.fileno()
 
 
 def ready(end: End, events: int, seconds: float) -> int:
-    """Which of these events an end has within so many seconds."""
+    """Wait up to `seconds` for some of these events at an end, and return those that it has."""
     poll = select.poll()
     poll.register(number_of(end), (select.POLLIN if events & READ else 0) | (select.POLLOUT if events & WRITE else 0))
     return sum(FOUND.get(found, READ | WRITE) & events for _, found in poll.poll(max(0.0, seconds) * 1000))
 
 
 def comes(end: End, seconds: float) -> bool:
-    """Whether something can be read at an end within so many seconds."""
+    """Return True if an end becomes readable within so many seconds."""
     return bool(ready(end, READ, seconds))
 
 
 def is_taken(end: End, seconds: float) -> bool:
-    """Whether an end takes something within so many seconds."""
+    """Return True if an end becomes writable within so many seconds."""
     return bool(ready(end, WRITE, seconds))
 
 
 class Watched:
-    """The descriptors that the system watches, and which events of each. Of what isn't waited for nothing is told, not even its end. A file
-    that can't be watched is always ready, as one that is no stream."""
+    """The descriptors that epoll watches, with the events of each.
+
+    A descriptor with no events is unregistered, since epoll would report its hangup again and again. Regular files, which epoll rejects,
+    are always ready.
+    """
 
     def __init__(self) -> None:
         self.poller = select.epoll()
@@ -83,7 +86,7 @@ class Watched:
         self.files: set[int] = set()
 
     def watch(self, number: int, events: int) -> None:
-        """Has these events of a descriptor be told from now on; OSError where the system refuses that."""
+        """Watch a descriptor for these events from now on; OSError if the system refuses."""
         if events == self.events.get(number, 0):
             return
         if not events:
@@ -94,7 +97,7 @@ class Watched:
         self.events[number] = events
 
     def tell_system(self, number: int, mask: int) -> None:
-        """Has the system watch a descriptor, which may be another file than was watched under its number."""
+        """Register or change a descriptor at epoll. The number may stand for another file than the one that was registered."""
         with contextlib.suppress(FileNotFoundError):
             if number in self.events:
                 self.poller.modify(number, mask)
@@ -107,14 +110,14 @@ class Watched:
             self.files.add(number)
 
     def forget(self, number: int) -> None:
-        """Watches a descriptor no more, which may be closed already."""
+        """Stop watching a descriptor, which may be closed already."""
         if self.events.pop(number, None) is not None and number not in self.files:
             with contextlib.suppress(OSError):
                 self.poller.unregister(number)
         self.files.discard(number)
 
     def found(self, seconds: float | None) -> dict[int, int]:
-        """Waits until something can be done at one of them, so many seconds at most, and tells the events by their numbers."""
+        """Wait up to `seconds` (None: forever), and return the events by descriptor."""
         if self.files:
             seconds = 0
         elif seconds and seconds < FINE and self.poller.fileno() < MOST_SELECTED:
@@ -131,28 +134,28 @@ class Watched:
 
 
 class LoopEnd:
-    """What is done where something comes at an end, and where the end takes something, each while it is wanted; and what a fault in that
-    ends, where that is known."""
+    """A descriptor's callbacks: what reads it while `hears` holds, what writes it while `has_more` holds, and what an exception in them
+    ends (`fails`)."""
 
     def __init__(self, reads: Does | None, writes: Does | None, hears: Callable[[], object], has_more: Callable[[], object],
                  fails: TakesFault | None = None, is_told: bool = False) -> None:
         self.reads, self.writes, self.hears, self.has_more, self.fails = reads, writes, hears, has_more, fails
-        # Whether the same is always waited for; and whether who added it tells when something else may be, which is asked before each wait
-        # else.
+        # `is_fixed`: the events never change. `is_told`: the owner calls `Loop.changed` when they may have changed; otherwise the loop asks
+        # before each wait.
         self.is_fixed = hears is always and (writes is None or has_more is always)
         self.is_told = is_told or self.is_fixed
-        # Its place among all that were added, and whether it rests after a fault.
+        # Rank among all ends, and True while paused after an exception.
         self.place, self.rests = 0, False
 
     def events(self) -> int:
-        """What is waited for now."""
+        """Return the events that this end waits for now."""
         if self.rests:
             return 0
         return ((READ if self.reads and (self.hears is always or self.hears()) else 0)
                 | (WRITE if self.writes and (self.has_more is always or self.has_more()) else 0))
 
     def do(self, events: int) -> bool:
-        """Does what can be done for the first of these events, and tells whether others are left."""
+        """Call the callback of the first of these events, and return True if others are left."""
         if events & READ and self.reads:
             self.reads()
             return bool(events & WRITE)
@@ -162,32 +165,35 @@ class LoopEnd:
 
 
 class Loop:
-    """Waits until something can be done, and does it.
+    """Waits for descriptors and timers, and calls their callbacks.
 
-    What goes wrong there unforeseen is the process's end, as anywhere, but where an end says what a fault in it ends, and where somebody
-    takes faults: then all else goes on."""
+    An exception in a callback propagates and so ends the process, unless the end has a `fails` callback or the loop has a handler
+    (`faults`). Then only that callback ends: the other ends, timers and hooks go on.
+    """
 
     def __init__(self, clock: Callable[[], float] | None = None) -> None:
         self.clock = clock or time.monotonic
         self.watched = Watched()
         self.sources: dict[int, LoopEnd] = {}
         self.added = 0
-        # Those that are asked before each wait what they wait for, and those of which that may be something else now.
+        # Ends whose events are asked before each wait, and ends whose events may have changed since the last wait.
         self.asked: dict[int, LoopEnd] = {}
         self.changes: dict[int, LoopEnd] = {}
         self.due: dict[str, tuple[float, Does]] = {}
         self.before: list[Callable[[], float | None]] = []
         self.next: dict[Does, None] = {}
-        # Who takes faults that nobody foresaw.
+        # Handler for unexpected exceptions.
         self.faults: TakesFault | None = None
 
     # ---- ends
 
     def add(self, end: End, reads: Does | None = None, writes: Does | None = None, *, hears: Callable[[], object] = always,
             has_more: Callable[[], object] = always, fails: TakesFault | None = None, is_told: bool = False) -> None:
-        """Has an end read where something came and `hears` holds, and written where it takes something and `has_more` holds. These two are
-        asked before each wait; of many ends they are better asked only where somebody tells by `changed` that they may be others
-        (`is_told`). A fault there is for `fails`."""
+        """Call `reads` when an end is readable and `hears` holds, and `writes` when it is writable and `has_more` holds.
+
+        The loop asks `hears` and `has_more` before each wait. With `is_told` it asks only after a callback of this end, and after the owner
+        called `changed`: use that if there are many ends. An exception in a callback of this end is passed to `fails`.
+        """
         number = number_of(end)
         self.remove(number)
         source = self.sources[number] = LoopEnd(reads, writes, hears, has_more, fails, is_told)
@@ -196,14 +202,14 @@ class Loop:
         (self.changes if source.is_told else self.asked)[number] = source
 
     def changed(self, end: End) -> None:
-        """Has it asked before the next wait what an end waits for."""
+        """Ask an end before the next wait which events it waits for."""
         number = end if isinstance(end, int) else end.fileno()
         source = self.sources.get(number)
         if source:
             self.changes[number] = source
 
     def remove(self, end: End) -> None:
-        """Lets an end go, before it is closed."""
+        """Remove an end. Call this before closing it."""
         number = number_of(end)
         if self.sources.pop(number, None):
             self.asked.pop(number, None)
@@ -211,7 +217,7 @@ class Loop:
             self.watched.forget(number)
 
     def hear(self, end: End) -> None:
-        """Does at once what is done where something comes at an end."""
+        """Call the read callback of an end now."""
         number = number_of(end)
         source = self.sources.get(number)
         if source:
@@ -220,44 +226,44 @@ class Loop:
     # ---- moments
 
     def at(self, name: str, moment: float, does: Does) -> None:
-        """Has something done at a moment; what has a name that is there takes its place."""
+        """Set a timer for a moment of the loop's clock; it replaces a timer of the same name."""
         self.due[name] = moment, does
 
     def later(self, name: str, seconds: float, does: Does) -> None:
-        """Has something done so many seconds from now."""
+        """Set a timer to so many seconds from now."""
         self.at(name, self.clock() + seconds, does)
 
     def drop(self, name: str) -> None:
-        """What is needless isn't done."""
+        """Cancel a timer, if it is set."""
         self.due.pop(name, None)
 
     def each(self, does: Callable[[], float | None]) -> None:
-        """Has something done before each wait; it tells the moment by which it has to be done again, or None."""
+        """Call a hook before each wait. It returns the moment by which it has to be called again, or None."""
         self.before.append(does)
 
     def end_each(self, does: Callable[[], float | None]) -> None:
-        """What isn't needed any more isn't done before each wait."""
+        """Remove a hook."""
         if does in self.before:
             self.before.remove(does)
 
     def soon(self, does: Does) -> None:
-        """Has something done before the next wait, once, however often that is said."""
+        """Call something once before the next wait, however often this is said."""
         self.next[does] = None
 
     def do_due(self) -> None:
-        """Does what is due."""
+        """Call the timers that are due."""
         now = self.clock()
         if not self.due or min(self.due.values(), key=MOMENT)[0] > now:
             return
         for name in [name for name, (moment, _) in self.due.items() if moment <= now]:
-            # What was done before may have made it needless, or later.
+            # A timer before it may have cancelled or postponed it.
             if name in self.due and self.due[name][0] <= now:
                 does = self.due.pop(name)[1]
                 if not self.is_done(does) and name not in self.due:
                     self.later(name, RESTS, does)
 
     def do_next(self) -> None:
-        """Does what is to be done before the next wait; what that has done soon is done before another."""
+        """Make the calls that were asked for by `soon`. Those that they ask for wait until the next time."""
         if self.next:
             calls, self.next = self.next, {}
             for does in calls:
@@ -266,7 +272,7 @@ class Loop:
     # ---- faults
 
     def is_done(self, does: Does) -> bool:
-        """Does something, and tells whether that went without a fault that nobody foresaw."""
+        """Call something, and return True if it raised nothing. Without a handler its exception propagates."""
         try:
             does()
         except Exception as fault:
@@ -277,8 +283,7 @@ class Loop:
         return True
 
     def fail(self, number: int, source: LoopEnd, fault: Exception) -> None:
-        """Has a fault at an end, which is told, end what it is said to end. Where nothing is said of that the end rests for a while; where
-        that fails too it is let go."""
+        """Report an exception in a callback of an end and pass it to `fails`. Without `fails` pause the end; remove it if `fails` fails."""
         if self.faults:
             self.faults(fault)
         fails = source.fails
@@ -288,13 +293,13 @@ class Loop:
             self.remove(number)
 
     def pause(self, end: End) -> None:
-        """Has an end rest for a while, since nothing can be done there now."""
+        """Pause an end, if it is there."""
         number = number_of(end)
         if number in self.sources:
             self.rest(number, self.sources[number])
 
     def rest(self, number: int, source: LoopEnd) -> None:
-        """Waits for nothing at an end for a while, since what comes there can't be taken now."""
+        """Wait for no event of an end for RESTS seconds, so that a callback that fails again and again takes no processor."""
 
         def go_on() -> None:
             source.rests = False
@@ -308,7 +313,7 @@ class Loop:
     # ---- turns
 
     def ask(self, sources: dict[int, LoopEnd]) -> None:
-        """Has the system watch for what ends wait for now."""
+        """Have the system watch these ends for the events that they wait for now."""
         known = self.watched.events
         for number, source in list(sources.items()):
             if self.sources.get(number) is not source:
@@ -322,7 +327,7 @@ class Loop:
                     raise
 
     def is_refused(self, number: int, source: LoopEnd, fault: Exception) -> bool:
-        """Goes on without an end that can't be watched, and tells whether that can be: for want of memory it is tried again."""
+        """Handle an end that can't be watched, and return True if that is possible. If memory is short it is tried again later."""
         if isinstance(fault, OSError) and fault.errno in (errno.ENOMEM, errno.ENOSPC):
             self.rest(number, source)
         elif source.fails or self.faults:
@@ -332,7 +337,7 @@ class Loop:
         return True
 
     def ready(self, seconds: float | None) -> dict[int, int]:
-        """Waits until something can be done at an end, so many seconds at most, and tells the events by their ends."""
+        """Wait up to `seconds` (None: forever) for events, and return them by descriptor."""
         if self.asked:
             self.ask(self.asked)
         if self.changes:
@@ -341,7 +346,7 @@ class Loop:
         return self.watched.found(seconds)
 
     def wait_time(self) -> float | None:
-        """Does what is done before each wait, and tells how long nothing is due then; None where nothing ever is."""
+        """Call what has to be called before a wait, and return the seconds until the next timer; None if there is none."""
         self.do_next()
         least = None
         for does in list(self.before) if self.before else ():
@@ -356,7 +361,7 @@ class Loop:
         return None if least is None else max(0.0, least - self.clock())
 
     def hooked(self, does: Callable[[], float | None]) -> float | None:
-        """Does something that is done before each wait, and tells by when it has to be done again."""
+        """Call a hook, and return the moment by which it has to be called again. A hook that failed is called again after a pause."""
         try:
             return does()
         except Exception as fault:
@@ -366,7 +371,7 @@ class Loop:
             return self.clock() + RESTS
 
     def do(self, number: int, source: LoopEnd, events: int) -> int:
-        """Does what can be done first at an end, and tells the events that are left."""
+        """Call a callback of an end, and return the events that are left."""
         if source.is_told and not source.is_fixed:
             self.changes[number] = source
         try:
@@ -378,14 +383,14 @@ class Loop:
             return 0
 
     def turn(self) -> None:
-        """Waits until something can be done, and does it: what has come before what is due."""
+        """Wait once, and call what is ready: callbacks of ends first, then timers."""
         ready = self.ready(self.wait_time())
         if ready:
             found = [(self.sources[number], number, events) for number, events in ready.items()]
             if len(found) > 1:
                 found.sort(key=place_of)
             for source, number, events in found:
-                # What was done before may have let it go, or closed it and opened another.
+                # A callback before it may have removed it, or closed it and opened another under its number.
                 while events and self.sources.get(number) is source:
                     events = self.do(number, source, events)
         self.do_due()

@@ -1,5 +1,7 @@
-"""What a cleaner of old files removed of a session with windows, made anew by its keeper: the sockets at which it is found, and the notes of
-its processes."""
+"""Restores what a cleaner of old files removed of a session with windows: the sockets of the pty host, and the notes of its processes.
+
+Without them the session would run on, but nobody could find it or end it.
+"""
 from __future__ import annotations
 
 import json
@@ -16,20 +18,20 @@ if TYPE_CHECKING:
     from roam_live.sessions import WindowedSession
     from roam_live.windows import KeptWindow, Windows
 
-# A session whose name another has by now has a number behind it, from 2 to this; a name has so many characters.
+# Suffixes of a session whose name was taken run from 2 to LAST_NUMBER. LONGEST_NAME is the limit of a session's name.
 LAST_NUMBER = 999
 LONGEST_NAME = 32
 
-RENAMED = "the session's folder was removed, and another has its name: this one is {} from now on"
+RENAMED = "the session's folder was removed and another session has its name; this session is now called {}"
 
 
 def names_beside(name: str) -> list[str]:
-    """The names that a session may have whose own another has."""
+    """Return the names to try for a session whose name is taken."""
     return [f"{name[: LONGEST_NAME - len(str(number)) - 1]}-{number}" for number in range(2, LAST_NUMBER + 1)]
 
 
 def renew_log(folder: str) -> None:
-    """Has what this process says go into a new log, where its log was removed."""
+    """Open a new log in a folder if the log of this process was removed."""
     found = os.fstat(2)
     if stat.S_ISREG(found.st_mode) and not found.st_nlink:
         log = os.open(os.path.join(folder, "log"), os.O_WRONLY | os.O_APPEND | os.O_CREAT | os.O_CLOEXEC | os.O_NOFOLLOW, 0o600)
@@ -39,19 +41,19 @@ def renew_log(folder: str) -> None:
 
 
 class Mending:
-    """Looks, for a keeper of windows, whether it is found by others."""
+    """Checks for a pty host with windows whether others can find it."""
 
     def __init__(self, windows: Windows) -> None:
         self.windows = windows
-        # What was said of it that couldn't be mended.
+        # The last message about a failure: it isn't repeated.
         self.said = ""
 
     def there(self) -> list[KeptWindow]:
-        """The windows that have sockets."""
+        """Return the windows that have sockets."""
         return [window for window in self.windows.windows.values() if window.shells]
 
     def look(self) -> None:
-        """Makes anew what isn't there any more, where nobody launches something in the session's folder just now."""
+        """Restore what is missing, unless somebody holds the session's lock, as one who launches something there."""
         if all(window.shells.is_found() for window in self.there() if window.shells):
             return
         from roam_live.sessions import WindowedSession
@@ -62,19 +64,19 @@ class Mending:
                 self.mend(session)
                 self.said = ""
         except BlockingIOError:
-            # It is looked again.
+            # The next look tries again.
             pass
         except (Fault, OSError) as fault:
             self.tell(UNMENDED.format(reason(fault)))
 
     def tell(self, words: str) -> None:
-        """Tells once that something couldn't be done."""
+        """Report a failure once."""
         if words != self.said:
             self.said = words
             self.windows.common.tell(words)
 
     def mend(self, session: WindowedSession) -> None:
-        """Makes all anew, under another name where another session has this; its lock is held."""
+        """Restore everything, under a new name if another session has this one. The caller holds the session's lock."""
         common, told = self.windows.asked.common, MENDED
         if self.is_taken(session):
             common = self.move()
@@ -92,12 +94,12 @@ class Mending:
 
     @staticmethod
     def is_taken(session: WindowedSession) -> bool:
-        """Whether another session has the name by now."""
+        """Return True if another session has the name by now."""
         found = (session.process(session.served), session.listener(session.sockets[session.served]))
         return any(process not in (None, os.getpid()) for process in found)
 
     def move(self) -> str:
-        """Has the session have another name, and tells its folder."""
+        """Give the session another name, and return its new folder."""
         windows, before = self.windows, self.windows.asked.common
         for name in names_beside(os.path.basename(before)):
             common = os.path.join(os.path.dirname(before), name)
@@ -107,7 +109,7 @@ class Mending:
                 continue
             break
         else:
-            raise Fault("too many sessions have such a name")
+            raise Fault("no name is free for this session")
         windows.asked.common, windows.folder = common, windows_folder(common)
         windows.common.shells.unmet.folder = common
         for window in self.there():
@@ -119,7 +121,7 @@ class Mending:
         return common
 
     def note(self, common: str) -> None:
-        """Notes this process, and where somebody was last."""
+        """Write the note of this process, and which window was shown last."""
         asked = self.windows.asked
         command = [] if asked.instead else asked.command
         state = {"version": WINDOWS_VERSION, "command": command, "shells": [os.getpid(), begun(os.getpid())]}

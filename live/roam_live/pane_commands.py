@@ -33,20 +33,20 @@ FOREIGN = ("COLUMNS", "LINES", "TERMCAP", "TMUX", "TMUX_PANE", "STY", "WINDOWID"
 # What was typed before a shell is there again has come once nothing more comes for so many seconds: a client says again what wasn't taken.
 SETTLES = 0.5
 
-# What opens the other end of a pseudo-terminal without its name (Linux, TIOCGPTPEER). Python has no name for it before 3.13.
+# TIOCGPTPEER (Linux): opens the slave of a pseudo-terminal by its master. Python has no name for it before 3.13.
 OPENS_THEIRS = 0x5441
 
 # So many seconds a server has until it reads what a pane's programs write.
 READ_WAIT = 3.0
 
-# Of what is left on the terminal of a command that has ended all is read. Where another process still has that terminal it is all once there
-# was nothing twice, so many seconds apart, or so many bytes came since: a terminal holds fewer. Where it can't be taken now it is looked
-# again later.
+# After a command has ended, its terminal is read until end of file. If another process still holds the terminal, reading stops once it was
+# empty twice, LAST_WAIT seconds apart, or once MOST_LAST bytes were read: a terminal buffers less. If the pane takes nothing now, the
+# host looks again after LAST_LATER seconds.
 LAST_WAIT = 0.02
 MOST_LAST = 1 << 16
 LAST_LATER = 0.25
 
-GIVEN_UP = b"\r\n[ended after several faults of roam; a key begins anew]\r\n"
+GIVEN_UP = b"\r\n[closed after internal errors; a key starts the command again]\r\n"
 DROPPED = b"\r\n[a new shell; what was typed since the last one ended is dropped]\r\n"
 NOT_RUN = "[not run: {}; a key tries again]\r\n"
 
@@ -122,7 +122,7 @@ class PaneCommand:
         typed.drops_unread = self.drops_unread
         # Whether something that was typed was dropped since its programs had read all.
         self.is_dropping = False
-        # Whether its command has ended; how much was read since then, when there first was nothing, and what is shown behind all.
+        # True once the command has ended; bytes read since then, when the terminal was first found empty, and a last line to show.
         self.has_ended = False
         self.last_read, self.empty_at, self.last_words = 0, math.inf, b""
         # How much was written there, and whether what was typed before another kept the shell may still come.
@@ -132,8 +132,7 @@ class PaneCommand:
         self.asked_until = 0.0
         self.bells, self.has_rung = Bells(), False
         self.keypad = Keypad()
-        # Whether something was typed or written since that was looked at, and whether something was written; and what is called then, and
-        # where all is written of a command that has ended.
+        # True if something was typed or written, or written, since the last look. `touches` is called then, and at the end of a command.
         self.is_touched = self.has_news = False
         self.touches: Callable[[], object] = lambda: None
         # What new panes have of those who attached.
@@ -143,7 +142,7 @@ class PaneCommand:
         # What takes all that is written to the pane, for the rows that are kept, and whether it takes more now.
         self.keeps: Callable[[bytes], object] = lambda data: None
         self.hears: Callable[[], bool] = always
-        # Faults at its ends, and what is called where there are too many.
+        # Exceptions in callbacks of this pane, and what is called after too many.
         self.faults = SoonFaults(loop.clock)
         self.gives_up: Callable[[], object] = lambda: None
 
@@ -168,7 +167,7 @@ class PaneCommand:
         self.run()
 
     def show(self, text: bytes) -> None:
-        """Has what is written to the pane go there, as far as it takes more now, and kept."""
+        """Send output to the pane, at once as far as it takes it, and to the kept rows."""
         is_first = not self.to_pane
         self.to_pane += text
         self.keeps(text)
@@ -178,7 +177,7 @@ class PaneCommand:
             self.see_to_ends()
 
     def see_to_ends(self) -> None:
-        """Has it looked what is waited for at both ends."""
+        """Have the loop ask both ends which events they wait for."""
         for end in (self.peer, self.terminal):
             if end is not None:
                 self.loop.changed(end)
@@ -202,7 +201,7 @@ class PaneCommand:
                       hears=self.has_room, fails=self.fail, is_told=True)
 
     def has_room(self) -> bool:
-        """Whether more of what the programs write is taken now."""
+        """Return True if more output is read now."""
         return len(self.to_pane) < LIMIT and self.hears()
 
     def resize(self, size: terminal.Size) -> None:
@@ -230,8 +229,7 @@ class PaneCommand:
         self.see_to_ends()
 
     def fail(self, fault: Exception) -> None:
-        """Goes on without the piece in which there was a fault; too many soon behind each other are taken no more. Where memory is short it
-        goes on a moment later, however often."""
+        """Drop the piece whose callback failed, and give up after too many failures. If memory is short, only pause."""
         if isinstance(fault, MemoryError):
             for end in (self.peer, self.terminal):
                 if end is not None:
@@ -240,7 +238,7 @@ class PaneCommand:
             self.gives_up()
 
     def give_up(self) -> None:
-        """Ends the programs, whose terminal can't be gone on with: a key begins anew."""
+        """End the programs after too many failures. The next key starts the command anew."""
         self.end_programs()
         self.to_pane.clear()
         self.process, self.has_ended = None, False
@@ -267,12 +265,14 @@ class PaneCommand:
         return self.process is not None and not self.has_ended
 
     def is_typed_into(self) -> bool:
-        """Whether programs are there that may read what is typed."""
+        """Return True if a program may read what is typed."""
         return self.terminal is not None and not self.has_ended
 
     def ends(self, words: bytes = b"") -> None:
-        """Takes note that its command has ended: nothing more is typed, and what it wrote last is read as the pane takes it, until nobody has
-        the terminal. What it left behind may write for ever, and is hung up. Words are shown behind all."""
+        """Note that the command has ended: type nothing more, and read its last output as the pane takes it. `words` are shown behind it.
+
+        Processes that it left behind are hung up once that output is read.
+        """
         self.has_ended, self.last_words = True, words
         self.to_terminal.clear()
         if self.terminal is None:
@@ -281,14 +281,14 @@ class PaneCommand:
             self.read_last()
 
     def read_last(self) -> None:
-        """Reads what is left of an ended command, where the pane takes more."""
+        """Read on after the end of the command, if the pane takes more."""
         if self.terminal is not None and self.has_room():
             self.hear_terminal()
         elif self.terminal is not None:
             self.loop.later(f"last of {self.named}", LAST_LATER, self.read_last)
 
     def note_last(self, count: int, is_empty: bool) -> None:
-        """Takes note of how much was read of an ended command, and whether there was nothing more; closes the terminal where that is all."""
+        """Count what was read since the command ended, and close the terminal if that is all."""
         now = self.loop.clock()
         self.last_read += count
         self.empty_at = min(self.empty_at, now) if is_empty else self.empty_at
@@ -298,7 +298,7 @@ class PaneCommand:
             self.loop.at(f"last of {self.named}", self.empty_at + LAST_WAIT, self.read_last)
 
     def finish(self) -> None:
-        """Shows what stands behind all that an ended command wrote."""
+        """Show the last line, behind all output of an ended command."""
         self.loop.drop(f"last of {self.named}")
         self.show(self.last_words)
         self.last_words = b""
@@ -323,7 +323,7 @@ class PaneCommand:
             self.run()
 
     def touch(self) -> None:
-        """Takes note that something was typed or written."""
+        """Note that something was typed or written."""
         self.is_touched = True
         self.touches()
 
@@ -382,13 +382,15 @@ class PaneCommand:
             self.write_terminal()
 
     def drops_unread(self, behind: int) -> bool:
-        """Drops what the programs haven't read of what was typed, where that is more than so many bytes, and tells whether it was: at the end
-        of the terminal that they have, which is opened for this alone, since here what they wrote would be dropped."""
+        """Flush the terminal's input if more than `behind` bytes of it are unread, and return True if so.
+
+        The slave is opened for this alone: flushing the master would drop the programs' output.
+        """
         with contextlib.suppress(OSError, termios.error):
             assert self.terminal is not None
             theirs = fcntl.ioctl(self.terminal, OPENS_THEIRS, os.O_RDWR | os.O_NOCTTY | os.O_CLOEXEC)
             try:
-                # What is still on its way within the terminal is there once that was asked.
+                # Polling moves bytes that the kernel still holds back into the input queue.
                 comes(theirs, 0)
                 if struct.unpack("i", fcntl.ioctl(theirs, termios.FIONREAD, bytes(4)))[0] > behind:
                     termios.tcflush(theirs, termios.TCIFLUSH)
@@ -398,7 +400,7 @@ class PaneCommand:
         return False
 
     def type(self, answer: bytes) -> None:
-        """Types what a program asked for, where it takes that."""
+        """Type an answer to the program, if it may read one."""
         if self.is_typed_into():
             self.to_terminal.add(answer)
             self.write_terminal()

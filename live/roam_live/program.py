@@ -73,7 +73,7 @@ def log_to(folder: str | os.PathLike[str]) -> None:
 
 
 def log_in_full(text: str) -> None:
-    """Has the logs get several lines."""
+    """Append several lines to the logs."""
     told = "\n".join(map(printable, text.split("\n")))
     make_room_in_logs(len(told))
     for path in logs:
@@ -515,7 +515,7 @@ class Lines:
 
     def __init__(self, longest: int = LONGEST_LINE) -> None:
         self.rest, self.longest = b"", longest
-        # Whether what comes is still of a line that is too long to be one.
+        # True while the rest of a line that is too long is being skipped.
         self.is_cut = False
 
     def fed(self, piece: bytes) -> list[str]:

@@ -63,6 +63,8 @@ BEHIND = {"version": [], "frames": ["set"], "pastes": ["set"], "foreground": ["b
 def question_in(line: str) -> PaneQuestion | None:
     """The question that a line tells, `asks P LIFE WHAT`; None where it is another line."""
     word, *words = line.split(" ")
-    if word != ASKS or len(words) < 3 or words[2] not in BEHIND or not all(part.isascii() and part.isdigit() and len(part) <= MOST_DIGITS for part in words[:2]):
+    if word != ASKS or len(words) < 3 or words[2] not in BEHIND:
+        return None
+    if not all(part.isascii() and part.isdigit() and len(part) <= MOST_DIGITS for part in words[:2]):
         return None
     return PaneQuestion(words) if words[3:] in ([], BEHIND[words[2]]) else None

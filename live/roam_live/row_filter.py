@@ -78,8 +78,7 @@ class RowRecords:
         self.missing = 0
 
     def fed(self, piece: bytes) -> list[RowRecord]:
-        """The records that are whole now; BadRecord where one can't be. Where there is no memory for them it is as if the piece hadn't
-        come."""
+        """Return the records that are complete; BadRecord if one is invalid. After a MemoryError the same piece can be fed again."""
         before, count = (self.rest, self.head, self.parts, self.missing), len(self.parts)
         try:
             return self.taken_apart(piece)
@@ -89,7 +88,7 @@ class RowRecords:
             raise
 
     def taken_apart(self, piece: bytes) -> list[RowRecord]:
-        """The records that are whole with a piece."""
+        """Parse a piece, and return the records that are complete."""
         found, at = [], 0
         if self.missing:
             self.parts.append(piece[: self.missing])
@@ -219,7 +218,7 @@ class RowFilter:
         self.terminal = -1
 
     def join_pieces(self) -> None:
-        """Makes one record of pieces: nothing is changed where memory is short for it."""
+        """Join the pieces into one record. A MemoryError changes nothing."""
         record = b"bytes %d %d\n" % (self.terminal, self.pieces_size) + b"".join(self.pieces)
         self.waiting += record
         self.pieces, self.pieces_size = [], 0
@@ -251,7 +250,7 @@ class RowFilter:
             self.takes(record)
 
     def fed(self, piece: bytes) -> list[RowRecord]:
-        """The records that are whole with a piece; where memory is short for them some is made free."""
+        """Parse a piece. If memory is short, free some and try once more."""
         try:
             return self.records.fed(piece)
         except MemoryError:
@@ -275,7 +274,7 @@ class RowFilter:
         self.reap()
 
     def fail(self, fault: Exception) -> None:
-        """Ends it, since something of what it takes or prints is lost by a fault."""
+        """End the filter after an exception: part of its input or output is lost."""
         self.kill("memory is short" if isinstance(fault, MemoryError) else "there is a fault in what is done with it")
 
     def kill(self, why: str) -> None:

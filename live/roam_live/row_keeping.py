@@ -27,7 +27,7 @@ WAITS = 1.0
 SCREEN_WAIT = 2.0
 MOST_AWAITED = 64
 
-# So many bytes are kept for making memory free where it is short.
+# Bytes held in reserve, freed first if memory is short.
 RESERVED = 1 << 18
 
 # The pauses before the filter is spawned again; one that ran for so many seconds was sound. The same isn't told again for so many.
@@ -116,8 +116,7 @@ class RowKeeper:
         self.logs = 0
         self.logs_came: Callable[[PaneRows], object] = lambda rows: None
         self.waits_for_logs: Callable[[], bool] = lambda: False
-        # What is called where something may be told of rows that came, or of a pane that is gone, to who asked for that; and where panes
-        # are read from now on, or aren't.
+        # Called when rows came or a pane is gone, which a peer may want to know; and when panes are read from now on, or no longer.
         self.came: Callable[[], object] = lambda: None
         self.hears_changed: Callable[[], object] = lambda: None
         # Whether a pane's program is known to show the other screen: no row leaves that, also of a terminal that is new.
@@ -174,7 +173,7 @@ class RowKeeper:
             self.tells(words)
 
     def shed(self) -> None:
-        """Drops the older half of all rows, since memory is short: they are the least of what is kept here."""
+        """Drop the older half of all rows if memory is short: they matter least of what the host keeps."""
         self.reserve = b""
         with contextlib.suppress(MemoryError):
             self.room.shed()
@@ -194,7 +193,7 @@ class RowKeeper:
         return self.filter is not None and self.filter.is_there and not self.is_losing and self.filter.size() < 2 * QUEUE
 
     def set_behind(self, is_behind: bool) -> None:
-        """Has panes be read, or not, as the filter keeps up."""
+        """Read panes, or stop, depending on whether the filter keeps up."""
         if is_behind != self.is_behind:
             self.is_behind = is_behind
             self.hears_changed()
@@ -354,7 +353,7 @@ class RowKeeper:
             self.came()
 
     def add_rows(self, rows: PaneRows, record: RowRecord) -> None:
-        """Keeps rows; where memory is short for them older ones go, and these are lost too."""
+        """Keep rows. If memory is short, older ones are dropped and these are lost."""
         try:
             rows.add(record.count, record.data)
         except MemoryError:

@@ -142,7 +142,7 @@ class PaneRows:
         return KeptRange(self.first, self.end, self.pieces)
 
     def newest(self, first: int) -> KeptRange:
-        """What is kept now from a number on: of many pieces the last ones are found at once."""
+        """Return the kept rows from a number on, without a look at all older pieces."""
         found: deque[Piece] = deque()
         for piece in reversed(self.pieces):
             found.appendleft(piece)
@@ -188,14 +188,14 @@ class RowsRoom:
         self.drop_oldest(self.most_bytes)
 
     def shed(self) -> None:
-        """Drops the older half of what is kept, and all that snapshots hold, since memory is short."""
+        """Drop the older half of all rows, and all snapshots, because memory is short."""
         while self.snapshots:
             self.snapshots[0].is_lost = True
             self.release(self.snapshots[0])
         self.drop_oldest(self.kept // 2)
 
     def drop_oldest(self, most: int) -> None:
-        """Drops the oldest pieces while there are more bytes than so many in all."""
+        """Drop the oldest pieces until at most `most` bytes are left."""
         while self.kept + self.held > most:
             oldest = min((rows for rows in self.panes if rows.pieces), key=lambda rows: rows.pieces[0].place, default=None)
             if not oldest:

@@ -45,7 +45,7 @@ LOG_WAIT = 1.0
 # So often it is looked again whether all are known who may be at the session, while somebody waits to be told of them.
 MEETS_AGAIN = 0.1
 
-# What the moment is called at which it is gone on with what was asked of rows.
+# The timer for questions about rows.
 ROWS_DUE = "rows are asked for"
 
 # What one says that is to be told what runs in front in the panes.
@@ -111,11 +111,11 @@ class CommonShells:
                 peer.asker.tell_logged()
 
     def see_to_rows(self) -> None:
-        """Has what was asked of rows be gone on with before the next wait."""
+        """Go on with questions about rows before the next wait."""
         self.loop.soon(self.tell_rows)
 
     def tell_rows(self) -> None:
-        """Goes on with what was asked of rows, and does so again when that is due."""
+        """Go on with questions about rows, and set a timer for those that are due later."""
         now, dues = self.loop.clock(), []
         for peer in self.peers():
             due = peer.asker.turn(now, not peer.is_full()) if peer.asker else None
@@ -126,7 +126,7 @@ class CommonShells:
             self.loop.drop(ROWS_DUE)
 
     def room_changed(self) -> None:
-        """Looks at all sockets whether another may connect."""
+        """Have all sockets check whether another peer may connect."""
         for one in self.sockets:
             if one.listener:
                 one.listener.room_changed()
@@ -386,7 +386,7 @@ class ShellsSocket:
     # ---- what goes
 
     def renew(self) -> None:
-        """Has what is new of who is there told before the next wait."""
+        """Report before the next wait what is new about who is there."""
         self.loop.soon(self.tell_news)
 
     def tell_news(self) -> None:
@@ -418,7 +418,7 @@ class ShellsSocket:
             self.drop(peer)
 
     def waits(self, peer: ShellsPeer) -> None:
-        """Has something be written to one."""
+        """Have the loop write to a peer."""
         if peer in self.peers:
             self.loop.changed(peer.end)
 

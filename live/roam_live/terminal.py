@@ -24,7 +24,7 @@ if TYPE_CHECKING:
 LEAST = (4, 8)
 MOST = (200, 500)
 
-# The system's terminals have no more rows or columns.
+# Most rows or columns of a terminal of the system.
 MOST_CELLS = 65535
 
 # The least terminal on which something of a session is shown: two rows of it and four columns, above a row of the front end's own.

@@ -81,8 +81,8 @@ class TypedQueue:
         self.parts: deque[bytearray | PlacedText] = deque()
         # How many bytes wait that were typed as such.
         self.typed = 0
-        # Whether something of a text was written since the last interrupt, also between brackets, and how many bytes behind the last of that;
-        # and what drops what the programs haven't read, where that is more than so many bytes, and tells whether it did.
+        # True if part of a pasted text was written since the last interrupt, and if it was bracketed; the number of typed bytes that were
+        # written behind it. `drops_unread` flushes the terminal if more bytes than these are unread, and returns True if it did.
         self.is_pasted = self.is_bracketed = False
         self.behind = 0
         self.drops_unread: Callable[[int], bool] = lambda behind: False
@@ -113,7 +113,7 @@ class TypedQueue:
             self.parts.append(placed)
 
     def add(self, typed: bytes) -> bool:
-        """Has bytes wait, as far as there is room, and tells whether all were kept. An interrupt drops what wasn't read of texts before it."""
+        """Queue bytes, as far as there is room, and return True if all were kept. An interrupt drops what is unread of texts before it."""
         if INTERRUPT in typed:
             typed = self.interrupted(typed)
         if not self.parts or not isinstance(self.parts[-1], bytearray):
@@ -128,8 +128,12 @@ class TypedQueue:
         return is_kept
 
     def interrupted(self, typed: bytes) -> bytes:
-        """What is typed where an interrupt is among these bytes: they alone, where the programs have read all texts. Else what wasn't read is
-        dropped, with all that was typed between and behind texts; the interrupt comes behind the bracket that ends one that has begun."""
+        """Return what to type for bytes with an interrupt (C-c) in them.
+
+        If the program has read all pasted texts, that is the bytes themselves. Otherwise the unread texts are dropped, with all keys
+        between and behind them, and only the interrupts and what follows them are typed. A closing bracket comes first if a flush may
+        have dropped it.
+        """
         is_dropped = self.is_pasted and self.drops_unread(self.behind)
         first = next((place for place, part in enumerate(self.parts) if isinstance(part, PlacedText)), len(self.parts))
         if first == len(self.parts) and not is_dropped:
@@ -139,7 +143,7 @@ class TypedQueue:
         self.is_pasted = self.is_bracketed = False
         begun = self.parts[0] if self.parts and not is_dropped else None
         if isinstance(begun, PlacedText) and begun.has_begun:
-            # What closes its brackets is still typed, and the rest of a character.
+            # Its closing bracket is still typed, and the rest of a character.
             begun.stop()
             self.texts.drop(begun.text)
             first = 1
@@ -147,7 +151,7 @@ class TypedQueue:
         return closes + INTERRUPT * typed.count(INTERRUPT) + typed.rpartition(INTERRUPT)[2]
 
     def drop_from(self, place: int) -> None:
-        """Drops all that waits from a place on."""
+        """Drop the parts of the queue from an index on."""
         while len(self.parts) > place:
             part = self.parts.pop()
             if isinstance(part, PlacedText):
@@ -173,7 +177,7 @@ class TypedQueue:
             self.end_first()
 
     def note_written(self, part: bytearray | PlacedText, count: int) -> None:
-        """Takes note that so many bytes were written."""
+        """Count bytes of a part that were written to the terminal."""
         if isinstance(part, bytearray):
             self.typed -= count
             self.behind += count

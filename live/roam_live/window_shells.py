@@ -36,9 +36,9 @@ CLOSE_WAIT = 3.0
 # So many seconds later what the system refused is tried again.
 AGAIN = 0.25
 
-# What is told where the sockets were removed at which it is found.
-MENDED = "sockets were removed, as by a cleaner of old files: they are there again"
-UNMENDED = "sockets were removed, and can't be made anew: {}"
+# Messages after the host's sockets were removed.
+MENDED = "sockets of the session were removed, as by a cleaner of old files, and have been restored"
+UNMENDED = "sockets of the session were removed and cannot be restored: {}"
 
 UNREAD = "{} isn't shown: the server doesn't read it, as where no descriptor is left for it"
 
@@ -81,34 +81,34 @@ class Common:
         self.shells = CommonShells(self.loop, self.rows)
         self.loop.faults = self.take_fault
         self.rows.hears_changed = self.see_to_panes
-        # What sees to what has to last of folders.
+        # Called once a minute to look after folders.
         self.lasting: list[Callable[[], object]] = []
         self.loop.later("folders", LOOKS, self.look_at_folders)
 
     def take_fault(self, fault: Exception) -> None:
-        """Takes a fault of anything here, which ends no window. Of what is kept rows are the least: where memory is short they go."""
+        """Log an unexpected exception. If memory is short, drop kept rows first: they matter least."""
         if isinstance(fault, MemoryError):
             self.rows.shed()
         self.faults.take(fault)
 
     def see_to_panes(self) -> None:
-        """Has it looked at all panes whether they are read now."""
+        """Check all panes whether they are read now."""
         for window in self.windows.values():
             for pane in window.panes.values():
                 pane.see_to_ends()
 
     def see_to(self, lasts: Callable[[], object]) -> None:
-        """Has it seen to now and again what has to last of a folder."""
+        """Call something before the next wait, and then once a minute, to look after a folder."""
         self.lasting.append(lasts)
         self.loop.soon(lasts)
 
     def see_no_more(self, lasts: Callable[[], object]) -> None:
-        """Sees to it no more."""
+        """Stop calling it."""
         if lasts in self.lasting:
             self.lasting.remove(lasts)
 
     def look_at_folders(self) -> None:
-        """Sees to what has to last of all folders."""
+        """Look after all folders."""
         for lasts in list(self.lasting):
             self.loop.is_done(lasts)
         self.loop.later("folders", LOOKS, self.look_at_folders)
@@ -204,8 +204,7 @@ class Shells:
         self.aside, self.is_new = ToldPanes(), False
         # Whether it is over, and on purpose: its last command has ended.
         self.is_over = self.is_meant = False
-        # In which panes a bell rang, and whether something was written in one, since that was told; the panes at which something is new, and
-        # what is called once that is seen to.
+        # Panes in which a bell rang, and whether one wrote something, since that was reported; panes with news, and a call behind `tend`.
         self.rung: set[int] = set()
         self.has_news = False
         self.touched: dict[int, PaneCommand] = {}
@@ -218,7 +217,7 @@ class Shells:
         self.awaited = size
         # Where that one's command begins, where another window tells it.
         self.folder = folder
-        # Whether it was told that its sockets can't be made anew.
+        # True once it was reported that its sockets can't be restored.
         self.has_missed = False
         common.see_to(self.last)
         self.following = KeeperFollowing(f"{asked.dir}/panes", self.loop, self.hear, self.lost, self.tell, peer)
@@ -263,7 +262,7 @@ class Shells:
             self.there_is(number, Rect(*rect), life)
 
     def take_other(self, words: list[str], line: str) -> None:
-        """Takes a line of D/panes that tells nothing of panes."""
+        """Handle a line of D/panes that doesn't describe panes."""
         if words[:1] == [ASKS]:
             self.answer(line)
         elif len(words) == 3 and all(word.isdigit() for word in words):
@@ -372,7 +371,7 @@ class Shells:
             self.common.hung += [pane.process] if pane.process is not None and pane.runs() else []
 
     def give_up(self, number: int) -> None:
-        """Ends the programs of a pane in which there were too many faults, and closes it; where it is the only one a line there says so."""
+        """End the programs of a pane after too many exceptions, and close it. The only pane of a window stays and shows a line instead."""
         pane = self.panes[number]
         self.common.hung += [pane.process] if pane.process is not None and pane.runs() else []
         pane.give_up()
@@ -458,20 +457,20 @@ class Shells:
         self.lasting.turn()
 
     def note(self, pane: PaneCommand) -> None:
-        """Takes note of a pane at which something is new, which is seen to before the next wait."""
+        """Note that a pane has news; `tend` handles it before the next wait."""
         self.touched[pane.number] = pane
         self.loop.soon(self.tend)
 
     def listeners(self) -> list[Listener]:
-        """What others find it by."""
+        """Return the sockets by which others find this window."""
         return [one for one in (self.socket.listener, self.bells.listener) if one]
 
     def is_found(self) -> bool:
-        """Whether who looks for its sockets finds them."""
+        """Return True if all sockets are where they were bound."""
         return all(one.is_found() for one in self.listeners())
 
     def listen_in(self, folder: str) -> None:
-        """Listens in a folder from now on, where its sockets aren't found any more; Fault or OSError where that can't be."""
+        """Bind the sockets that were removed anew, in a folder; Fault or OSError if that fails."""
         for one in self.listeners():
             if not one.is_found():
                 one.move(os.path.join(folder, os.path.basename(one.path)))
@@ -479,7 +478,7 @@ class Shells:
             self.lasting.own = self.lasting.found()
 
     def listen_again(self) -> None:
-        """Listens anew in its folder where that is there and its sockets aren't, and nobody else listens."""
+        """Restore removed sockets in this session's own folder, unless somebody else listens there."""
         if self.is_found():
             return
         try:

@@ -1,4 +1,4 @@
-"""Faults that nobody foresaw at the keeper of shells: what of it each ends, and what the log is told."""
+"""Unexpected exceptions in the pty host: what each ends, and what is logged."""
 import errno
 import os
 import socket
@@ -15,7 +15,7 @@ from test_keeper import Keeper
 
 
 class Logged(Case):
-    """What the log is told."""
+    """How exceptions are logged."""
 
     def setUp(self):
         self.now = 100.0
@@ -26,28 +26,28 @@ class Logged(Case):
         self.said, self.log = self.heard(), FaultLog(lambda: self.now)
 
     def fault(self, words, depth=0):
-        """Has a fault be logged."""
+        """Log an exception."""
         try:
             self.deep(words, depth)
         except ValueError as fault:
             self.log.take(fault)
 
     def deep(self, words, depth):
-        """Raises a fault from that many calls further in."""
+        """Raise an exception, so many calls deeper."""
         if depth:
             self.deep(words, depth - 1)
         raise ValueError(words)
 
     def test_told(self):
-        """A fault is a line, and in full where the log is, printable and not too long."""
+        """An exception is one line on standard error, and a printable, bounded traceback in the log."""
         self.fault("\x1b[2J" + "x" * 9000, 200)
         text = self.path.read_text()
-        self.assertEqual(self.said.getvalue()[:64], f"unit: a fault of roam, which goes on: ValueError: ?[2J{'x' * 10}")
+        self.assertEqual(self.said.getvalue()[:64], f"unit: internal error, roam continues: ValueError: ?[2J{'x' * 10}")
         self.assertTrue(text.startswith(f"unit, process {os.getpid()}:\nTraceback (most recent call last):\n"))
         self.assertTrue("deep" in text and "\x1b" not in text and len(text) < faults.MOST_LOGGED + 100 and len(self.said.getvalue()) < 400)
 
     def test_apart(self):
-        """One at the same place isn't logged again within a minute, and how many came is told then; one at another is."""
+        """One from the same source line is logged once a minute, with how many came; one from another line is logged."""
         for _ in range(5):
             self.fault("one")
         self.fault("two", 3)
@@ -55,13 +55,13 @@ class Logged(Case):
             int("x")
         except ValueError as fault:
             self.log.take(fault)
-        self.assertEqual((self.said.getvalue().count("a fault"), self.log.count), (2, 7))
+        self.assertEqual((self.said.getvalue().count("internal error"), self.log.count), (2, 7))
         self.now += faults.APART
         self.fault("one")
-        self.assertIn("ValueError: one (5 more since the last that was logged)\n", self.said.getvalue())
+        self.assertIn("ValueError: one (5 more since the last one logged)\n", self.said.getvalue())
 
     def test_refused(self):
-        """Where it can't be told nothing more goes wrong; and not more places are known than some."""
+        """A failure to log raises nothing, and a bounded number of source lines is remembered."""
         with mock.patch.object(faults, "say", side_effect=MemoryError):
             self.fault("one")
         with mock.patch.object(faults, "place_of", side_effect=map(str, range(100))):
@@ -70,7 +70,7 @@ class Logged(Case):
         self.assertEqual(len(self.log.logged), faults.MOST_PLACES)
 
     def test_soon(self):
-        """The third within ten seconds is one too many."""
+        """The third within ten seconds is too many."""
         soon = SoonFaults(lambda: self.now)
         told = []
         for now in (100, 101, 109.9, 110.5, 120, 121, 131):
@@ -80,10 +80,10 @@ class Logged(Case):
 
 
 class Kept(Keeper):
-    """What a fault ends."""
+    """What an exception ends."""
 
     def asker(self, *lines):
-        """One who says lines at the socket `shells`."""
+        """Connect to `shells` and send lines."""
         one = socket.socket(socket.AF_UNIX, socket.SOCK_STREAM)
         self.addCleanup(one.close)
         one.connect(str(self.folder / "shells"))
@@ -92,7 +92,7 @@ class Kept(Keeper):
         return one
 
     def test_peer(self):
-        """One in the line of somebody who is connected ends that connection alone."""
+        """An exception in a peer's line ends that connection only."""
         panes = self.begin()
         other = self.asker("who")
         take_line = ShellsSocket.take_line
@@ -106,7 +106,7 @@ class Kept(Keeper):
         self.assertEqual(read_now(panes[0]), b"goes on")
 
     def test_piece(self):
-        """One in what a pane's program wrote drops that piece; the third soon behind closes the pane, and no other."""
+        """An exception in a pane's output drops that piece; the third within 10 s closes the pane, and no other."""
         panes = self.begin()
         self.keeper.asked.close = True
         pane = self.keeper.panes[2]
@@ -120,15 +120,16 @@ class Kept(Keeper):
         with mock.patch.object(pane.bells, "rung", side_effect=ValueError("wrong")):
             self.made[1].send(b"four")
             self.turn(4)
-        self.assertEqual((pane.terminal, self.keeper.common.hung, list(self.keeper.panes), self.keeper.is_over), (None, [72], [1, 2], False))
-        self.assertIn(b"[ended after several faults of roam; a key begins anew]", read_now(panes[1]))
+        self.assertEqual((pane.terminal, self.keeper.common.hung), (None, [72]))
+        self.assertEqual((list(self.keeper.panes), self.keeper.is_over), ([1, 2], False))
+        self.assertIn(pane_commands.GIVEN_UP, read_now(panes[1]))
         self.assertTrue(read_now(self.server).endswith(b"close 2 5\n"))
         self.made[0].send(b"goes on")
         self.turn()
         self.assertEqual(read_now(panes[0]), b"goes on")
 
     def test_only(self):
-        """The only pane of a window stays: a key has its command begin anew."""
+        """The only pane of a window stays, and a key starts its command again."""
         self.tell("1 1 1 23 80 4", "focus 1")
         self.keeper.asked.close = True
         end = self.taken(self.listeners["p1"])
@@ -146,7 +147,7 @@ class Kept(Keeper):
         self.assertEqual((pane.process, read_now(end), self.keeper.common.windows), (72, b"new", {0: self.keeper}))
 
     def test_moment(self):
-        """One at a moment, and one before a wait, are logged, and all else goes on."""
+        """Exceptions in a timer, a hook and `tend` are logged, and everything else goes on."""
         panes = self.begin()
         self.keeper.loop.later("moment", 0, lambda: 1 / 0)
         self.keeper.loop.each(lambda: [][0])
@@ -159,7 +160,7 @@ class Kept(Keeper):
         self.assertEqual([name in self.said.getvalue() for name in ("ZeroDivisionError", "IndexError", "KeyError")], [True] * 3)
 
     def test_panes(self):
-        """One in what the server tells lets that connection go, which is had again; lines of any kind are none."""
+        """Malformed lines of the server are ignored; an exception in one drops that connection only."""
         self.begin()
         self.tell("", " ", "focus", "focus 9 9", "1 2", "asks 1 " + "9" * 9000 + " version", "1 1 1 99999 99999 4", "\u0661 gone", "modes")
         self.assertEqual((self.keeper.common.faults.count, sorted(self.keeper.panes)), (0, [1, 2]))
@@ -167,7 +168,7 @@ class Kept(Keeper):
         self.assertEqual((self.keeper.common.faults.count, sorted(self.keeper.panes)), (1, [1, 2]))
 
     def test_bells(self):
-        """One who follows the bells is let go by one."""
+        """An exception ends the connection of a follower of bells."""
         self.begin()
         one = socket.socket(socket.AF_UNIX, socket.SOCK_STREAM)
         self.addCleanup(one.close)
@@ -179,7 +180,7 @@ class Kept(Keeper):
         self.assertEqual((self.keeper.bells.followers, self.keeper.common.faults.count), ([], 1))
 
     def test_memory(self):
-        """Where memory is short the older half of what is kept of rows goes, and the pane goes on a second later, however often that is."""
+        """If memory is short, kept rows are dropped and the pane goes on a second later, however often that happens."""
         panes = self.begin()
         self.keeper.rows.shed = mock.Mock()
         read = pane_commands.read
@@ -194,15 +195,15 @@ class Kept(Keeper):
         self.assertEqual((read_now(panes[0]), self.keeper.panes[1].runs()), (b"kept", True))
 
     def short(self):
-        """What there is no memory for."""
+        """Fail for want of memory."""
         raise MemoryError
 
 
 class Sizes(Case):
-    """The sizes that somebody asks for."""
+    """Sizes in requests."""
 
     def test_open(self):
-        """Above the largest that a session may have they are cut to that; what is no size is no line."""
+        """A size is cut to the largest that a session may have; what isn't a size is a bad line."""
         asked = []
         table = mock.Mock(open=lambda size, beside, told: asked.append(size))
         lines = window_lines.WindowLines(table, [])
@@ -218,10 +219,10 @@ class Sizes(Case):
 
 
 class Short(Case):
-    """Rows where memory is short."""
+    """Kept rows if memory is short."""
 
     def test_shed(self):
-        """The older half goes, of whichever pane, and what snapshots hold."""
+        """The older half is dropped, of all panes, and so are snapshots."""
         room = RowsRoom(1000)
         panes = [room.pane(number, 1) for number in (1, 2)]
         for count in range(8):
@@ -232,7 +233,7 @@ class Short(Case):
         self.assertEqual(room.kept, sum(piece.charge() for pane in panes for piece in pane.pieces))
 
     def test_handed(self):
-        """What the filter is to be handed waits whole, also where memory is short for making a record of it."""
+        """A record for the filter is queued completely or not at all."""
         one = row_filter.RowFilter.__new__(row_filter.RowFilter)
         one.terminal, one.pieces, one.pieces_size, one.waiting = 3, [b"ab", b"c"], 3, bytearray()
         one.sheds = mock.Mock()
@@ -243,7 +244,7 @@ class Short(Case):
         self.assertEqual((one.sheds.call_count, bytes(one.waiting), one.pieces), (1, b"bytes 3 3\nabc", []))
 
     def test_records(self):
-        """A piece for which there was no memory is taken again."""
+        """A piece can be fed again after a MemoryError."""
         records = row_filter.RowRecords()
         self.assertEqual(records.fed(b"rows 7 2 6\n a"), [])
         with mock.patch.object(records, "made", side_effect=MemoryError), self.assertRaises(MemoryError):

@@ -303,7 +303,7 @@ class Panes(Keeper):
         for _ in range(3):
             self.now += window_shells.LOOKS
             self.turn(1)
-        self.assertEqual(self.said.getvalue().count("sockets were removed, and can't be made anew: somebody listens at "), 1)
+        self.assertEqual(self.said.getvalue().count("sockets of the session were removed and cannot be restored: somebody listens at "), 1)
         other.close()
         self.now += window_shells.LOOKS
         self.turn(1)

@@ -221,8 +221,7 @@ class Queues(Case):
         self.assertEqual(self.written(), b"a" + OPENS + b"1" * 200000 + CLOSES + b"b" + OPENS + b"2" * 200000 + CLOSES + b"c")
 
     def test_interrupted(self):
-        """A C-c that is typed behind one drops what of it still waits, and what was typed between and behind; brackets that are open are closed,
-        and no character is cut."""
+        """C-c drops the rest of a paste, and the keys between and behind pastes; open brackets are closed, and no character is cut."""
         for count in range(40):
             queue, waiting = TypedQueue(self.texts, lambda: True), "\u4e2d\u00e9x".encode() * 5
             for name in (NAME, OTHER):

@@ -677,7 +677,7 @@ class Noted(Case):
 
 
 class Mended(Played):
-    """What a cleaner of old files removed is made anew."""
+    """What a cleaner of old files removed is restored."""
 
     def setUp(self):
         super().setUp()
@@ -771,14 +771,14 @@ class Mended(Played):
         with self.assertRaises(OSError):
             self.windows.windows[1].shells.lasting.demand()
         self.minutes(2)
-        self.assertEqual(self.said.getvalue().count("from now on"), 1)
+        self.assertEqual(self.said.getvalue().count("is now called"), 1)
 
     def test_refused(self):
         """Where it can't be made anew that is told once, and tried again."""
         self.clean()
         with mock.patch("roam_live.listeners.listening", side_effect=OSError(28, "No space left on device")):
             self.minutes(3)
-        self.assertEqual(self.said.getvalue().count("sockets were removed, and can't be made anew: No space left on device"), 1)
+        self.assertEqual(self.said.getvalue().count(window_shells.UNMENDED.format("No space left on device")), 1)
         self.minutes()
         self.assertEqual(len(self.names()), 2)
 
