@@ -230,12 +230,14 @@ class PaneCommand:
 
     def fail(self, fault: Exception) -> None:
         """Drop the piece whose callback failed, and give up after too many failures. If memory is short, only pause."""
-        if isinstance(fault, MemoryError):
+        is_last = not isinstance(fault, MemoryError) and self.faults.is_last()
+        if is_last:
+            self.gives_up()
+        if is_last or isinstance(fault, MemoryError):
+            # A callback that fails before it has read anything would be called again at once.
             for end in (self.peer, self.terminal):
                 if end is not None:
                     self.loop.pause(end)
-        elif self.faults.is_last():
-            self.gives_up()
 
     def give_up(self) -> None:
         """End the programs after too many failures. The next key starts the command anew."""

@@ -296,7 +296,7 @@ class Shells:
             typed = TypedQueue(self.common.shells.texts, lambda: self.aside.has_set(number, BRACKETED))
             self.panes[number] = PaneCommand(self.asked, self.loop, number, life, size, self.is_again, folder, typed)
             self.panes[number].follows, self.panes[number].brought = self.follow_now, self.common.shells.brought
-            self.panes[number].gives_up = lambda: self.give_up(number)
+            self.panes[number].gives_up = functools.partial(self.give_up, self.panes[number])
             self.panes[number].touches = functools.partial(self.note, self.panes[number])
             key = self.key(number)
             self.rows.begin(key, life, size)
@@ -370,9 +370,10 @@ class Shells:
             pane.hang_up()
             self.common.hung += [pane.process] if pane.process is not None and pane.runs() else []
 
-    def give_up(self, number: int) -> None:
+    def give_up(self, pane: PaneCommand) -> None:
         """End the programs of a pane after too many exceptions, and close it. The only pane of a window stays and shows a line instead."""
-        pane = self.panes[number]
+        if self.panes.get(pane.number) is not pane:
+            return
         self.common.hung += [pane.process] if pane.process is not None and pane.runs() else []
         pane.give_up()
         pane.has_ended = self.asked.close and len(self.panes) > 1

@@ -142,6 +142,9 @@ class Kept(Keeper):
         read_now(end)
         end.send(b"k")
         self.turn()
+        self.assertIsNone(pane.process)
+        self.now += 1.0
+        self.turn()
         self.made[1].send(b"new")
         self.turn()
         self.assertEqual((pane.process, read_now(end), self.keeper.common.windows), (72, b"new", {0: self.keeper}))
