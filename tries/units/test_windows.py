@@ -720,9 +720,12 @@ class Mended(Played):
         self.assertEqual((self.said.getvalue().count(window_shells.MENDED), self.common.faults.count), (1, 0))
 
     def test_folder(self):
-        """So is the folder, with the notes of its processes."""
+        """So is the folder, with the notes of its processes, and each window's id, by which its server knows the folder."""
+        self.path(1, "session").write_text("123456789abcdef\n")
+        self.minutes()
         self.clean(True)
         self.minutes()
+        self.assertEqual(self.path(1, "session").read_text(), "123456789abcdef\n")
         self.assertEqual(self.names(), [b"window 1 -\nwindow 2 74776f\nwindows 2\n"] * 2)
         state = json.loads((self.folder / "state.json").read_text())
         self.assertEqual((state["shells"][0], state["command"]), (os.getpid(), ["sh"]))
