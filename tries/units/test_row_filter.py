@@ -1,5 +1,6 @@
 """The filter of rows as a process: records to it and from it, cut anywhere, and its end in each way."""
 import fcntl
+import gc
 import os
 import signal
 import sys
@@ -134,6 +135,12 @@ class Handed(Case):
         self.assertEqual(self.ends[1:], [("roam: line 3: bad record?[2J; more", None)])
 
 
+def open_ends():
+    """Return this process's descriptors, without those of loops of earlier tests."""
+    gc.collect()
+    return os.listdir("/proc/self/fd")
+
+
 class Spawned(Case):
     """A real process."""
 
@@ -158,7 +165,7 @@ class Spawned(Case):
 
     def test_filters(self):
         """Rows are printed that leave; it ends with its input, and nothing of it is left."""
-        ends = os.listdir("/proc/self/fd")
+        ends = open_ends()
         one = self.spawn(FAKE)
         one.add("pane 7 2 4")
         one.add_bytes(7, b"a\r\nb\r\nc\r\nd")
@@ -168,7 +175,7 @@ class Spawned(Case):
         one.end("it is needed no more")
         self.until(lambda: self.ends)
         self.assertEqual(self.ends, [("it is needed no more", 0)])
-        self.assertEqual(os.listdir("/proc/self/fd"), ends)
+        self.assertEqual(open_ends(), ends)
 
     def test_killed(self):
         """One that is killed, one that ends by itself with words, one that prints no more and stays, one that isn't there."""
@@ -184,10 +191,10 @@ class Spawned(Case):
         self.until(lambda: self.ends)
         self.assertEqual(self.ends, [("it ended", -signal.SIGKILL)])
         self.assertLess(time.monotonic() - begin, ENDS + 2)
-        before = os.listdir("/proc/self/fd")
+        before = open_ends()
         with self.assertRaises(OSError):
             self.spawn(["/no/such/program"])
-        self.assertEqual(os.listdir("/proc/self/fd"), before)
+        self.assertEqual(open_ends(), before)
 
     def test_pipes(self):
         """Its pipes hold what is said of them, also by a Python that names no such call."""
