@@ -12,8 +12,8 @@ MODULES = (
 )
 
 # So many seconds after the first painting they begin, and so many lie between two: a key isn't kept waiting by more than one.
-BEGINS = 0.5
-STEP = 0.05
+BEGINS = 0.2
+STEP = 0.01
 
 # What is told where a module can't be imported.
 REPLACED = "roam was replaced; detach and attach"

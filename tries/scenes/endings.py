@@ -129,8 +129,8 @@ def moved(folder):
     outer.shows("$ ")
     outer.type(b"seq 1 50\r")
     outer.shows("50")
-    # It imports what it may need for a second.
-    time.sleep(2)
+    # It imports what it may need for half a second.
+    time.sleep(1)
     (folder / "tree").rename(folder / "moved")
     for keys, text in ((b"\x02[", "copy mode"), (b"/4", "4"), (b"\rq", "[1] 1:"), (b"\x02:display-message moved\r", "moved"),
                        (b"\x02R", "roam.conf was read"), (b"\x02?", "these keys")):

@@ -191,7 +191,7 @@ def first_row_unzoomed(folder):
         outer.type(b'\x02"')
         comes(lambda: len(there().rects) == 3)
         outer.type(b"\x02z")
-        outer.status("", end="Z") or comes(lambda: is_zoomed(outer))
+        comes(lambda: is_zoomed(outer))
         outer.type(b"exit\r")
         comes(lambda: len(there().rects) == 2 and there().size() == (40, 120))
         right += comes(lambda: not is_zoomed(outer) and shows_first(outer), 3)

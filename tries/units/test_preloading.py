@@ -80,7 +80,7 @@ class Turns(Case):
     """When they are imported."""
 
     def test_steps(self):
-        """They begin once, half a second later, and each has a turn of its own."""
+        """They begin once, a moment later, and each has a turn of its own."""
         loop = StillLoop(lambda: self.now)
         done = Preloading(loop)
         with mock.patch("builtins.__import__") as imported:
