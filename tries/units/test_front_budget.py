@@ -18,7 +18,7 @@ KEYS, BEFORE = 10, 3
 
 # A key and its echo take so many calls of Python and bytecodes of the package at most: a tenth more than they do, since other versions of
 # Python have other bytecodes.
-CALLS, BYTECODES = 175, 3800
+CALLS, BYTECODES = 170, 3800
 
 
 class CountedKeys(list):
@@ -39,12 +39,13 @@ class Budget(Fronts):
     def key(self, start):
         """Types a key, and shows it."""
         os.write(self.master, b"a")
-        # The system hands it to the other end a moment later.
-        select.select([0], [], [], 1)
+        # The system hands over what was written a moment later.
+        select.select([self.slave], [], [], 5)
         self.front.turn()
         typed = read_now(start)
         start.send(record("taken", self.front.link.lines) + record("paint", data=b"\x1b[5;10Ha\x1b[0m"))
         self.front.turn()
+        select.select([self.master], [], [], 5)
         return typed, self.shown()
 
     def counted(self, start):
