@@ -22,6 +22,11 @@ LEAVES = ("q", "\x1b", "\x03", "\x07")
 # So many seconds a line stands.
 TOLD = 2.0
 NONE_KEPT = "no buffer is kept"
+UNTOLD = "nothing is pasted: what keeps the buffers isn't connected"
+
+# Where the connection to what keeps them is cut, as by a relay that goes another way, they are asked for again after so many seconds, while
+# it may be there soon.
+AGAIN = 0.05
 LINE = "buffer {} of {}: Return pastes it, up and down choose, q leaves"
 WINDOWS_LINE = "window {}, of {}: Return and a digit go there, up and down choose, q leaves"
 
@@ -156,15 +161,23 @@ class Choosing(ChoiceList):
             self.commands.display.tell(NONE_KEPT, TOLD)
             return
         self.asked += 1
-        asked = self.asked
-        shells.kept.buffers(lambda notes: self.answered(asked, notes, is_newest))
+        self.ask_list(self.asked, is_newest)
+
+    def ask_list(self, asked: int, is_newest: bool) -> None:
+        """Asks which buffers there are, unless something else was asked since."""
+        shells = self.commands.shells
+        if shells and asked == self.asked:
+            shells.kept.buffers(lambda notes: self.answered(asked, notes, is_newest))
 
     def answered(self, asked: int, notes: list[BufferNote] | None, is_newest: bool) -> None:
-        """Goes by which buffers there are."""
+        """Goes by which buffers there are; None where that isn't told."""
+        shells = self.commands.shells
         if asked != self.asked:
             return
-        if not notes:
-            self.commands.display.tell(NONE_KEPT, TOLD)
+        if notes is None and shells and shells.is_connecting():
+            self.commands.loop.later("buffers", AGAIN, lambda: self.ask_list(asked, is_newest))
+        elif not notes:
+            self.commands.display.tell(UNTOLD if notes is None else NONE_KEPT, TOLD)
         elif is_newest:
             self.commands.pastes.paste_buffer(notes[0].number)
         else:

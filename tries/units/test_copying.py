@@ -1,10 +1,11 @@
 """Copy mode at a person's terminal, with a keeper that is played: how it is opened, drawn, fed and closed, what becomes of what is copied,
 and which buffer is pasted."""
 import base64
+from unittest import mock
 
 from aids import Case
 from kept_rows_played import PlayedKept
-from roam_live import copy_selection
+from roam_live import choosing, copy_selection
 from roam_live.copied import MOST_COPIED
 from roam_live.copy_asking import GONE, MOST_ASKED, WAITING, WAITS
 from roam_live.copying import LENDS, MOST_WAITING, NO_ROOM
@@ -768,6 +769,26 @@ class Chosen(Copied):
         person.said()
         person.commands.pastes.answered(name, "held", "")
         self.assertEqual((person.said(), person.link.acts[-1]), ([" ; ".join(["paste", *mark_acts(name)])], "char 78"))
+
+    def test_cut(self):
+        """Where the connection is cut as it is asked for it is asked for again, while that may be there soon; else it says so."""
+        person = self.person(opens=False)
+        self.kept.texts = [b"one"]
+        self.shells.connects = True
+        with mock.patch.object(self.kept, "buffers", lambda told: told(None)):
+            person.types(b"\x02]")
+            self.pass_time(0.1)
+            person.loop.do_due()
+        self.assertEqual((self.shells.gave, person.display.told), ([], ""))
+        self.pass_time(0.1)
+        person.loop.do_due()
+        self.assertEqual([number for _, number in self.shells.gave], [0])
+        with mock.patch.object(self.kept, "buffers", lambda told: told(None)):
+            person.types(b"\x02]")
+            self.shells.connects = False
+            self.pass_time(0.1)
+            person.loop.do_due()
+        self.assertEqual((len(self.shells.gave), person.display.told), (1, choosing.UNTOLD))
 
     def test_refused(self):
         """What is refused, or not taken, is told, and what waits behind it is dropped."""
