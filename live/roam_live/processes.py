@@ -39,6 +39,9 @@ ROLES = {"server": "the server", "relay": "the relay", "shells": "what keeps the
 # No note has so many characters: one has the command of the panes, which the system bounds.
 MOST_NOTE = 1 << 24
 
+# What a client start says where its server has ended.
+ENDED = b"[the server has ended]"
+
 # So much of what a process said that wasn't there in time is told at most.
 SAID_MOST = 500
 
@@ -277,6 +280,12 @@ class Processes:
     def logged(self) -> int:
         """How many bytes the log has."""
         return self.log.stat().st_size if self.log.exists() else 0
+
+    def tells(self) -> bool:
+        """Whether its log tells more than that client starts ended with their server."""
+        with contextlib.suppress(FileNotFoundError), open(self.log, "rb") as log:
+            return any(line.strip() not in (b"", ENDED) for line in log)
+        return False
 
     def wait_for(self, role: str, before: int, test: Callable[[], bool]) -> None:
         """Waits until what a process that was spawned brings is there; one that doesn't bring it is ended."""

@@ -421,7 +421,7 @@ class FolderSession(Processes):
         for folder in (attached, self.folder / "relays"):
             if folder.is_dir():
                 folder.rmdir()
-        if not self.logged() or time.time() > self.log.stat().st_mtime + LOG_KEPT:
+        if not self.tells() or time.time() > self.log.stat().st_mtime + LOG_KEPT:
             self.log.unlink(missing_ok=True)
         (self.folder / "lock").unlink(missing_ok=True)
         if not self.log.exists():

@@ -89,7 +89,8 @@ def far_starts(folder):
         far.wait()
         far.stdin.close()
     subprocess.run(tool("mux", "kill", "-f", "other"), check=True)
-    check("and nothing is left of the session", not served.parent.parent.exists(), list(served.parent.parent.parent.iterdir()))
+    left = [(path.name, path.read_bytes()[-300:] if path.is_file() else "") for path in served.parent.parent.rglob("*")]
+    check("and nothing is left of the session", not served.parent.parent.exists(), left)
 
 
 def relay_ends(front_ends, relay, near, far):

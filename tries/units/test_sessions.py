@@ -77,12 +77,13 @@ class Listed(Sessions):
         """One that has ended isn't told, and what it left goes, with its folder."""
         for name in ("state.json.77", "ended.8", "attached.9"):
             (self.folder / name).touch()
+        (self.folder / "log").write_text("[the server has ended]\n" * 2, encoding="utf-8")
         self.assertEqual(FolderSession.named("main").listed(), "")
         self.assertFalse(self.folder.exists())
 
     def test_log_kept(self):
         """Its log stays for a day after its end, where it tells something."""
-        (self.folder / "log").write_text("why\n", encoding="utf-8")
+        (self.folder / "log").write_text("[the server has ended]\nwhy\n", encoding="utf-8")
         os.utime(self.folder / "log", (5.0, 5.0))
         (self.folder / "ended").touch()
         for seconds, names in ((0, ["log"]), (86390, ["log"]), (86410, [])):
