@@ -932,7 +932,8 @@ def many_starts(found: Iterable[Places | None]) -> str:
     places = max((one for one in found if one), key=lambda one: one.starts, default=None)
     if not places or places.starts <= MANY_STARTS:
         return ""
-    return f", {places.starts} of {MOST_STARTS} starts{', new ones of this machine alone are taken' if places.warning() else ''}"
+    warning = ", new ones of this machine alone are taken" if places.warning() else ""
+    return f", {places.starts} of {MOST_STARTS} starts{', no other is taken' if places.is_full() else warning}"
 
 
 def command_of(shells: int | None, folder: pathlib.Path) -> list[str]:
