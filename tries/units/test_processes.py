@@ -125,7 +125,8 @@ class Read(Based):
                              (one._replace(starts=47), "main         24 by 80     1 pane   0 terminals, 47 of 64 starts"),
                              (one._replace(starts=48), "main         24 by 80     1 pane   0 terminals, 48 of 64 starts, new ones of this "
                                                        "machine alone are taken"),
-                             (one._replace(starts=64), "main         24 by 80     1 pane   0 terminals, 64 of 64 starts, no other is taken")):
+                             (one._replace(starts=64), "main         24 by 80     1 pane   0 terminals, 64 of 64 starts, no other is "
+                                                       "taken")):
             self.patch_of(session, "places", lambda places=places: places)
             self.assertEqual(session.line(), told)
         (self.folder / "attached").mkdir()
