@@ -22,7 +22,7 @@ PAUSES = (0.1, 1, 2, 4, 8, 15)
 SOUND = 5.0
 
 # While no room is left on the disk it is tried so often: a start is had as soon as there is some.
-FULL_PAUSE = 1.0
+FULL_PAUSE = 1
 
 # So many seconds a start has for its socket, and how often it is looked for.
 READY_WAIT = 10.0
