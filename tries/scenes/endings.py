@@ -141,6 +141,24 @@ def moved(folder):
 
 
 @scene
+def stopped_killed(folder):
+    """`mux kill` ends a session all of whose processes are stopped, its filter of rows too, and leaves no folder."""
+    outer = Outer(tool("mux", "other"))
+    outer.shows("$ ")
+    outer.type(b"\x02d")
+    outer.ends()
+    found = {role: one[0] for role, one in noted("other").items() if role in ("server", "terminals", "shells")}
+    found["filter"] = next(process for process in children(found["shells"]) if process not in commands(found["shells"]))
+    for process in found.values():
+        os.kill(process, signal.SIGSTOP)
+    run = subprocess.run(tool("mux", "kill", "-f", "other"), stderr=subprocess.PIPE, check=False)
+    check("mux kill ends what is stopped", (run.returncode, run.stderr) == (0, b""), run)
+    left = [role for role, process in found.items() if begun(process) is not None]
+    check("and leaves no process", left == [], left)
+    check("and no folder", not folder_of("other").exists(), folder_of("other"))
+
+
+@scene
 def silent(folder):
     """A server that doesn't answer is told of, the person can leave, and what was typed comes once it answers."""
     outer = Outer(tool("mux", "other"))
