@@ -6,6 +6,7 @@ import errno
 import select
 import time
 from collections.abc import Callable
+from functools import partial
 from operator import itemgetter
 
 TYPE_CHECKING = False
@@ -289,7 +290,7 @@ class Loop:
         fails = source.fails
         if not fails:
             self.rest(number, source)
-        elif not self.is_done(lambda: fails(fault)) and self.sources.get(number) is source:
+        elif not self.is_done(partial(fails, fault)) and self.sources.get(number) is source:
             self.remove(number)
 
     def pause(self, end: End) -> None:
