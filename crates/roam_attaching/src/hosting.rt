@@ -222,11 +222,11 @@ impl<R: Clock + Copy + Drop> Door<Opaque<Arrival<R>>> for Doorway<R> {
         }
         let begun = self.connection.moment();
         for _ in 0..FOR_GOOD {
+            let now = self.connection.now();
             if self.is_woken_by_terminal() {
                 self.wake();
                 return;
             }
-            let now = self.connection.now();
             let is_light = is_before(now, due);
             if !is_light && (self.is_woken_by_server() || self.connection.has_ended()) {
                 return;
