@@ -16,6 +16,9 @@ _roam_mux_words="attach new ls list list-windows new-window rename-window client
 
 _roam_commands="choose-buffer choose-tree choose-window command-prompt copy-mode detach detach-client display display-message display-panes displayp kill-pane kill-window killp killw last last-pane last-window lastp list-keys lsk new-window neww next next-layout next-window nextl paste-buffer pasteb prev previous-window refresh refresh-client rename-window renamew resize-pane resizep run run-shell select-layout select-pane select-window selectl selectp selectw send send-keys send-prefix set set-option set-window-option setw source source-file split-window splitw suspend-client suspendc synchronize-panes toggle-mouse toggle-status"
 
+# Keys by their names, of which C- and M- begin more.
+_roam_keys="Enter Escape Tab BTab Space BSpace Up Down Left Right Home End PPage NPage IC DC C-c C-d C-l C-u C-z $(printf 'F%s ' {1..12})"
+
 # The acts that a client types, a line each; a number, a size or a character is left to the person.
 _roam_acts() {
     printf '%s\n' 'char ' 'split right' 'split down' close next 'grow ' 'size ' 'view ' 'key return' 'key backspace'
@@ -45,12 +48,14 @@ _roam_mux() {
     local word=${COMP_WORDS[COMP_CWORD]} words= mux=("${COMP_WORDS[0]}") first=1
     [ "${COMP_WORDS[1]}" != mux ] || { mux+=(mux) first=2; }
     if [ "${COMP_WORDS[first]}" = send ] && [ "$COMP_CWORD" -gt "$((first + 1))" ]; then
-        # Behind -l stand a text and a session.
-        if [ "${COMP_WORDS[first + 1]}" != -l ]; then
-            _roam_act "$word"
-        elif [ "$COMP_CWORD" -eq "$((first + 3))" ]; then
-            mapfile -t COMPREPLY < <(compgen -W "$(_roam_mux_names "${mux[@]}")" -- "$word")
-        fi
+        # Behind -l or -a stands a session; words behind it are keys, and behind -a acts.
+        case ${COMP_WORDS[first + 1]}$COMP_CWORD in
+        -[la]$((first + 2))) words=$(_roam_mux_names "${mux[@]}") ;;
+        -l*) ;;
+        -a*) _roam_act "$word" && return ;;
+        *) words=$_roam_keys ;;
+        esac
+        mapfile -t COMPREPLY < <(compgen -W "$words" -- "$word")
         return
     fi
     # Behind cmd stand a session and a command.
@@ -72,7 +77,7 @@ _roam_mux() {
     new-window) words="-n --help $(_roam_mux_names "${mux[@]}")" ;;
     -n) words= ;;
     watch | env | cmd | list-windows | rename-window | clients) words="--help $(_roam_mux_names "${mux[@]}")" ;;
-    send) words="-l --help $(_roam_mux_names "${mux[@]}")" ;;
+    send) words="-l -a --help $(_roam_mux_names "${mux[@]}")" ;;
     paste) words="--raw --help $(_roam_mux_names "${mux[@]}")" ;;
     kill) words="-f --help $(_roam_mux_names "${mux[@]}")" ;;
     capture) words="--svg -S -E -e -J --help $(_roam_mux_names "${mux[@]}")" ;;

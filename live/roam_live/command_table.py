@@ -3,7 +3,7 @@ from __future__ import annotations
 
 from collections import namedtuple
 
-from roam_live.key_names import acts_named
+from roam_live.key_names import acts_of_word
 from roam_live.keys import Key, acts_of
 from roam_live.words import printable
 
@@ -120,9 +120,14 @@ def sized(flags: Flags) -> CommandWish:
 
 def keys_sent(flags: Flags) -> CommandWish:
     """Reads keys by their names, or texts, which are typed."""
-    words = flags.words[:MOST_WORDS]
-    is_named = not flags.has("l")
-    acts = [is_named and acts_named(word) or acts_of(Key("text", word[:LONGEST_TEXT])) for word in words]
+    if len(flags.words) > MOST_WORDS or any(len(word) > LONGEST_TEXT for word in flags.words):
+        raise BadCommand(f"it has {MOST_WORDS} words of {LONGEST_TEXT} characters at most")
+    try:
+        acts = [acts_of(Key("text", word)) if flags.has("l") else acts_of_word(word) for word in flags.words]
+    except ValueError as fault:
+        raise BadCommand(str(fault)) from None
+    if not any(acts):
+        raise BadCommand("it has keys or a text behind it")
     return CommandWish([act for some in acts for act in some], "", "")
 
 

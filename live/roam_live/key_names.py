@@ -4,6 +4,7 @@ from __future__ import annotations
 from collections import namedtuple
 
 from roam_live.keys import Key, acts_of
+from roam_live.words import printable
 
 # What is held with a key, and what each counts for in the parameter that xterm puts into a sequence (ctlseqs, PC-style function keys).
 HELD = {"S": 1, "M": 2, "C": 4}
@@ -102,6 +103,15 @@ def acts_named(word: str) -> list[str]:
         return [f"key {OWN[key.name]}"]
     text = text_of(key)
     return [] if text is None else acts_of(Key("text", text))
+
+
+def acts_of_word(word: str) -> list[str]:
+    """The acts that type a word: the key of that name, else the word's characters, of which a line feed is a return. ValueError tells of a
+    key that sends nothing."""
+    acts = acts_named(word)
+    if not acts and named_key(word):
+        raise ValueError(f"{printable(word)[:40]} names a key that sends nothing; -l types its characters")
+    return acts or acts_of(Key("text", word.replace("\r\n", "\r").replace("\n", "\r")))
 
 
 def named(key: NamedKey) -> str:

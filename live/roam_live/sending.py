@@ -6,7 +6,7 @@ import re
 import subprocess
 import time
 
-from roam_live.key_names import acts_named
+from roam_live.key_names import acts_named, acts_of_word
 from roam_live.links import MOST_ACTS, opened
 from roam_live.program import Fault, Home
 from roam_live.places import MOST_PANES, MOVES, Places
@@ -165,9 +165,20 @@ def type_lines(session: FolderSession, link: StartLink, lines: list[str]) -> Non
     raise Fault(f"session {session.name} takes no more acts; some may have been typed")
 
 
+def send_words(session: FolderSession, words: list[str], pane: int = 0) -> int:
+    """Types keys by tmux's names, and any other word's characters, into a session, as `send` types acts."""
+    try:
+        acts = [act for word in words for act in acts_of_word(os.fsencode(word).decode("utf-8", "replace"))]
+    except ValueError as fault:
+        raise Fault(f"{fault}. None was typed") from None
+    return send(session, acts, pane)
+
+
 def send(session: FolderSession, words: list[str], pane: int = 0) -> int:
     """Types acts, and keys by tmux's names, into a session, in a pane where one is named, and ends once it has taken all of them."""
     acts = [act for word in words for act in acts_named(word) or [word.replace("\n", "\\n")]]
+    if not acts:
+        raise Fault("there is nothing to be typed")
     focus = pane_places(session, pane).focus if pane else 0
     demand_acts(session, acts)
     demand_doable(session, [f"focus {pane}", *acts] if pane else acts)

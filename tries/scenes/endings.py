@@ -337,7 +337,7 @@ def earlier(folder):
     shown.ends()
     session.note.write_text(json.dumps({role: state[role] for role in ("server", "shells", "command")}), encoding="utf-8")
     for word in (["capture"], ["send"]):
-        told = said(*word, "other", *(["char 61"] if word == ["send"] else []))
+        told = said(*word, "other", *(["a"] if word == ["send"] else []))
         check(f"mux {word[0]} tells of a session of an earlier roam", told[0] == 1 and "was begun by an earlier roam" in told[2], told)
     outer = Outer(tool("mux", "other"))
     check("so does mux", outer.shows("was begun by an earlier roam") and outer.ends(), outer.rows)
@@ -376,7 +376,7 @@ def earlier_start(folder):
         (served / "state.json").write_text(json.dumps(state), encoding="utf-8")
         return process
 
-    for does in (["send", "other", "char 65"], ["capture", "other"]):
+    for does in (["send", "other", "e"], ["capture", "other"]):
         process = comes_earlier()
         told = said(*does)
         check(f"mux {does[0]} launches another", told[0] == 0 and noted("other")["terminals"][0] != process.pid, told)

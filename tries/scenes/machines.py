@@ -172,7 +172,7 @@ def far_windows(folder):
     """`mux ssh` shows the windows of a session of another machine, over one relay: a window is named, opened, gone to and shut there."""
     far = folder / "far"
     words, there = ssh_words(folder, far, folder / "asked"), {**os.environ, "XDG_RUNTIME_DIR": str(far)}
-    for more in (("new", "-d", "other"), ("new-window", "other"), ("new-window", "other"), ("send", "-l", "echo sec''ond\r", "other:2")):
+    for more in (("new", "-d", "other"), ("new-window", "other"), ("new-window", "other"), ("send", "other:2", "echo sec''ond", "Enter")):
         subprocess.run(tool("mux", *more), env=there, stdout=subprocess.DEVNULL, check=True)
     outer = Outer([*words[:-1], "other:2"])
     check("mux ssh shows the window that is named", outer.shows("second"), outer.rows)

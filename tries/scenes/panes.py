@@ -415,7 +415,7 @@ def full(folder):
     late = Outer(tool("mux", "other"))
     full = "no more terminals are taken: 16 are there"
     check("a seventeenth is told so", late.shows(f"{full}; tried anew in 1 s; C-c or q leaves"), late.rows)
-    check("so is a send", said("send", "other", "char 61") == (1, "", f"mux: {full}\n"), said("send", "other", "char 61"))
+    check("so is a send", said("send", "other", "a") == (1, "", f"mux: {full}\n"), said("send", "other", "a"))
     check("and a capture", said("capture", "other") == (1, "", f"mux: {full}\n"), said("capture", "other"))
     links[0].close()
     check("it comes in once one has left", late.shows("$ ") and late.status("[1]"), late.rows)

@@ -268,9 +268,9 @@ def paste_words(folder):
     for words, path, wanted in ways:
         told = fed(["paste", *words], text)
         check(f"mux paste {' '.join(words)}", told == (0, "") and has(path, pasted(wanted)), told)
-    check("mux send -l TEXT NAME.1", said("send", "-l", "t\u00e9xt", "other.1") == (0, "", ""), said("ls"))
+    check("mux send -l NAME.1 TEXT", said("send", "-l", "other.1", "t\u00e9", "xt") == (0, "", ""), said("ls"))
     check("has no brackets", comes(lambda: paths[0].read_bytes().endswith(CLOSES + "t\u00e9xt".encode())), paths[0].read_bytes)
-    check("mux send NAME.1 ACT", said("send", "other.1", "char 41", "key up") == (0, "", ""), said("ls"))
+    check("mux send -a NAME.1 ACT", said("send", "-a", "other.1", "char 41", "key up") == (0, "", ""), said("ls"))
     check("types there", comes(lambda: paths[0].read_bytes().endswith(b"A\x1b[A")), paths[0].read_bytes)
     check("and the focus is where it was", outer.status(" 1 [2]"), outer.rows)
     told = said("capture", "other.1")

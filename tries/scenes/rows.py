@@ -201,9 +201,9 @@ def nine_kept(folder):
         subprocess.run([*tool("mux", "new", "-d", name), "sh"], check=True)
         acts = ["size 60 200", *(f"split {way}" for way in ("right", "down", "right", "down")), "focus 1", "split down", "split right",
                 "focus 2", "split right", "focus 1", "split right"]
-        subprocess.run(tool("mux", "send", name, *acts), check=True)
+        subprocess.run(tool("mux", "send", "-a", name, *acts), check=True)
         for pane in range(1, 10):
-            subprocess.run(tool("mux", "send", "-l", f"seq {pane}001 {pane}200\r", f"{name}.{pane}"), check=True)
+            subprocess.run(tool("mux", "send", f"{name}.{pane}", f"seq {pane}001 {pane}200", "Enter"), check=True)
     for name in names:
         found = [pane for pane in range(1, 10) if not comes(lambda: in_order(kept(name, pane), f"{pane}100", f"{pane}150"), 20)]
         check(f"each of nine panes of {name} has its rows", not found, found)
@@ -216,12 +216,12 @@ def nine_kept(folder):
 def small_rows(folder):
     """A pane of two rows and four columns."""
     subprocess.run([*tool("mux", "new", "-d", SESSION), "sh"], check=True)
-    subprocess.run(tool("mux", "send", SESSION, "size 6 9", "split right", "split down"), check=True)
+    subprocess.run(tool("mux", "send", "-a", SESSION, "size 6 9", "split right", "split down"), check=True)
     places = FolderSession(window_of(SESSION)).places()
     sizes = {pane: (rect.rows, rect.cols) for pane, rect in places.rects.items()}
     pane = min(sizes, key=lambda number: sizes[number])
     check(f"a pane has {sizes[pane][0]} rows and {sizes[pane][1]} columns", sizes[pane] <= (2, 4), sizes)
-    subprocess.run(tool("mux", "send", "-l", "clear; seq 1 9999\r", f"{SESSION}.{pane}"), check=True)
+    subprocess.run(tool("mux", "send", f"{SESSION}.{pane}", "clear; seq 1 9999", "Enter"), check=True)
     check("its rows are kept", comes(lambda: in_order(kept(SESSION, pane), "9996", "9997")), lambda: kept(SESSION, pane)[-9:])
     numbers = [row for row in kept(SESSION, pane) if row.isdigit()][-9000:]
     check("whole and in order", numbers == [str(number) for number in range(int(numbers[0]), int(numbers[0]) + len(numbers))], numbers[:9])

@@ -29,8 +29,7 @@ def wakeups(processes):
 
 def type_line(session, line):
     """Type a line into a session's shell."""
-    said("send", "-l", line, session)
-    said("send", session, "Enter")
+    said("send", session, line, "Enter")
 
 
 @scene

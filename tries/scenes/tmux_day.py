@@ -109,7 +109,7 @@ def copied(day):
 
 def outside(day):
     """Acts from outside."""
-    day.runs([27], "send", SESSION, "C-u", *"echo", "Space", *"sent", "Enter")
+    day.runs([27], "send", SESSION, "C-u", "echo sent", "Enter")
     day.does([27], "is typed", day.outer.shows("sent"))
     day.runs([28], "capture", "-S", "-100", SESSION, shows="300")
     day.runs([30], "clients", SESSION, shows="24 by 80")

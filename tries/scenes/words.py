@@ -20,14 +20,14 @@ def words(folder):
     check("each word of mux has a help", not odd, odd)
     check("detach tells what leaves", said("detach", "other")[0] == 1 and "C-b d" in said("detach")[2], said("detach"))
     for word in ("attach", "send", "paste", "capture", "env", "watch"):
-        told = said(word, "other", *(["char 61"] if word == "send" else []))
+        told = said(word, "other", *(["a"] if word == "send" else []))
         check(f"mux {word} refuses a session that isn't there", told == (1, "", "mux: no session other is running\n"), told)
     check("mux new refuses what is no command", said("new", "-d", "other", "/no/command")[0] == 1, said("ls"))
     told = said("new", "-d", "other", "/bin/sh", "-c", "echo st''arted; exec cat")
     check("mux new -d launches a session", told == (0, "", ""), told)
     check("and refuses one that is there", said("new", "-d", "other")[0] == 1, said("ls"))
     check("mux list is ls", said("list") == said("ls") and "other" in said("ls")[1], said("list"))
-    check("mux send ends once all acts were taken", said("send", "other", "char 65", "char e9", "split right") == (0, "", ""), listed())
+    check("mux send ends once all acts were taken", said("send", "-a", "other", "char 65", "char e9", "split right") == (0, "", ""), listed())
     rows = []
     is_shown = comes(lambda: rows.append(said("capture", "other")[1].split("\n")) or "\u2502started" in rows[-1][0], 2)
     check("mux capture shows the rows", is_shown and rows[-1][0].startswith("started ") and rows[-1][1].startswith("e\u00e9 "), rows[-1:])
@@ -35,14 +35,16 @@ def words(folder):
     told = said("capture", "--svg", "other")
     check("mux capture --svg draws them", told[0] == 0 and "started" in told[1] and xml.etree.ElementTree.fromstring(told[1]), told)
     for act, why in (("size 1 1", "a session has 4 to 200 rows and 8 to 500 columns"), ("focus 7", "there is no pane 7")):
-        told = said("send", "other", "char 61", act)
-        check(f"mux send refuses {act}", told == (1, "", f"mux: {act!r} can't be done: {why}. None was typed\n"), told)
-    is_known = said("send", "other", "split down") == said("send", "other", "focus 3", "close") == (0, "", "")
+        told = said("send", "-a", "other", "char 61", act)
+        check(f"mux send -a refuses {act}", told == (1, "", f"mux: {act!r} can't be done: {why}. None was typed\n"), told)
+    is_known = said("send", "-a", "other", "split down") == said("send", "-a", "other", "focus 3", "close") == (0, "", "")
     check("what was asked for just before is known", is_known, listed())
     slips()
-    told = said("send", "other", "char 61", "split up")
-    check("mux send refuses what is no act", told[0] == 1 and told[2].startswith("mux: 'split up' is no act"), told)
+    told = said("send", "-a", "other", "char 61", "split up")
+    check("mux send -a refuses what is no act", told[0] == 1 and told[2].startswith("mux: 'split up' is no act"), told)
     check("and types none of the others", "a" not in said("capture", "other")[1].replace("started", ""), said("ls"))
+    is_typed = said("send", "other", "C-u", "close next", "Enter") == (0, "", "")
+    check("mux send types what is no key", is_typed and comes(lambda: "close next" in said("capture", "other")[1], 2), said("capture", "other"))
     all_starts()
     subprocess.run(tool("mux", "kill", "-f", "other"), check=True)
 
@@ -67,9 +69,9 @@ def all_starts():
         words = [PROGRAM, "attach", "--dir", served, "--turns", "3"]
         subprocess.run(words, stdout=subprocess.DEVNULL, stderr=subprocess.DEVNULL, check=False)
     check("ls tells how many starts there were, where they are many", comes(lambda: "64 of 64 starts" in " ".join(listed())), listed())
-    check("the start that is there goes on", said("send", "other", "char 61") == (0, "", ""), said("ls"))
+    check("the start that is there goes on", said("send", "other", "a") == (0, "", ""), said("ls"))
     os.kill(noted("other")["terminals"][0], signal.SIGKILL)
-    for word in (["capture", "other"], ["send", "other", "char 61"]):
+    for word in (["capture", "other"], ["send", "other", "a"]):
         told = said(*word)
         check(f"mux {word[0]} tells that the session hears no more starts", told[0] == 1 and "has had the 64" in told[2], told)
 

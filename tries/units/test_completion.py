@@ -29,20 +29,23 @@ class Completion(unittest.TestCase):
     """The words of each tool."""
 
     def test_acts(self):
-        self.assertEqual(completed("_roam_mux", "mux", "send", "work", "key re"), ["key return", "key remove"])
-        self.assertEqual(completed("_roam_mux", "mux", "send", "work", "char 61", "'split"), ["split right", "split down"])
-        self.assertEqual(completed("_roam_mux", "mux", "send", "work", "key\\ up"), ["key up"])
-        self.assertEqual(completed("_roam_mux", "mux", "send", "work", "focus 7"), ["focus 7"])
-        self.assertIn("close", completed("_roam", "roam", "mux", "send", "work", ""))
+        self.assertEqual(completed("_roam_mux", "mux", "send", "-a", "work", "key re"), ["key return", "key remove"])
+        self.assertEqual(completed("_roam_mux", "mux", "send", "-a", "work", "char 61", "'split"), ["split right", "split down"])
+        self.assertEqual(completed("_roam_mux", "mux", "send", "-a", "work", "key\\ up"), ["key up"])
+        self.assertEqual(completed("_roam_mux", "mux", "send", "-a", "work", "focus 7"), ["focus 7"])
+        self.assertIn("close", completed("_roam", "roam", "mux", "send", "-a", "work", ""))
         self.assertEqual(completed("_roam_mux", "mux", "send", "w"), ["work"])
-        self.assertEqual(completed("_roam_mux", "mux", "send", "-"), ["-l", "--help"])
+        self.assertEqual(completed("_roam_mux", "mux", "send", "-"), ["-l", "-a", "--help"])
+        self.assertEqual(completed("_roam_mux", "mux", "send", "-a", "w"), ["work"])
+        self.assertEqual(completed("_roam_mux", "mux", "send", "work", "Ent"), ["Enter"])
+        self.assertEqual(completed("_roam_mux", "mux", "send", "work", "make test", "PP"), ["PPage"])
 
     def test_paste(self):
         self.assertEqual(completed("_roam_mux", "mux", "pas"), ["paste"])
         self.assertEqual(completed("_roam_mux", "mux", "paste", "--r"), ["--raw"])
         self.assertEqual(completed("_roam_mux", "mux", "paste", "--raw", "m"), ["main"])
-        self.assertEqual(completed("_roam_mux", "mux", "send", "-l", ""), [])
-        self.assertEqual(completed("_roam_mux", "mux", "send", "-l", "text", "m"), ["main"])
+        self.assertEqual(completed("_roam_mux", "mux", "send", "-l", "m"), ["main"])
+        self.assertEqual(completed("_roam_mux", "mux", "send", "-l", "main", ""), [])
 
     def test_rows(self):
         """The words for rows and buffers."""
@@ -71,7 +74,7 @@ class Completion(unittest.TestCase):
         page = pathlib.Path(TOOLS.parent, "docs/man/roam.1").read_text(encoding="utf-8")
         begin = page.index(".SH ACTS")
         named = page[begin : page.index(".SH TERMINALS")].replace("\\fR", "").replace('"', "")
-        offered = completed("_roam_mux", "mux", "send", "work", "")
+        offered = completed("_roam_mux", "mux", "send", "-a", "work", "")
         for act in offered:
             self.assertIn(act.split()[0], named)
         keys = "up pf4 find insert remove select prev next f6 f20 pad0 pad9 padminus padcomma padperiod padenter return backspace"

@@ -111,7 +111,7 @@ class Attaches(Mux):
         self.assertTrue(self.follows.call_args[0][1])
 
     def test_none(self):
-        for words in (("attach", "none"), ("watch", "none"), ("kill", "none"), ("send", "none", "key up"), ("capture", "none")):
+        for words in (("attach", "none"), ("watch", "none"), ("kill", "none"), ("send", "none", "Up"), ("capture", "none")):
             self.refuses("no session none is running", *words)
 
     def test_terminal(self):
@@ -252,7 +252,7 @@ class Starts(Mux):
         """What types and what looks needs a client start alone."""
         self.runs.add("main")
         with mock.patch.object(sending, "send", return_value=3) as sends, mock.patch.object(captures, "capture", return_value=4) as takes:
-            self.assertEqual(self.mux("send", "main", "char 61", "key up"), 3)
+            self.assertEqual(self.mux("send", "-a", "main", "char 61", "key up"), 3)
             self.assertEqual(sends.call_args[0][1], ["char 61", "key up"])
             self.assertEqual(self.mux("capture", "main"), 4)
             self.assertFalse(takes.call_args[0][1])
@@ -292,24 +292,54 @@ class Starts(Mux):
                 self.mux("buffer", *words)
 
     def test_texts(self):
-        """A text is sent by -l, and standard input pasted, in one piece; acts and a text aren't sent at once."""
+        """Words are sent as characters by -l, and standard input pasted, in one piece."""
         self.runs.add("main")
         with mock.patch.object(giving, "type_text", return_value=3) as types, \
                 mock.patch.object(giving, "read_text", lambda is_raw: f"raw {is_raw}"):
-            self.assertEqual(self.mux("send", "-l", "a\nb\x1b", "main.2"), 3)
-            self.assertEqual((types.call_args[0][1:], types.call_args[1]), (("a\rb", 2), {"is_plain": True}))
+            self.assertEqual(self.mux("send", "-l", "main.2", "a\nb\x1b", "Up"), 3)
+            self.assertEqual((types.call_args[0][1:], types.call_args[1]), (("a\rbUp", 2), {"is_plain": True}))
             self.assertEqual(self.mux("paste", "main"), 3)
             self.assertEqual((types.call_args[0][1:], types.call_args[1]), (("raw False", 0), {"is_plain": False}))
             self.mux("paste", "--raw", "main.9")
             self.assertEqual(types.call_args[0][1:], ("raw True", 9))
-        for words in (("-l", "a", "main", "char 61"), ("main",)):
-            self.refuses("acts are sent, or a text by -l, and not both", "send", *words)
+
+    def test_sent(self):
+        """What each way of `send` types: keys by their names, texts, both, characters alone by -l, and acts by -a alone."""
+        self.runs.add("main")
+        letters = {letter: f"char {ord(letter):x}" for letter in "abcdefghijklmnopqrstuvwxyz-: \u00e9"}
+        spelled = lambda text: [letters[letter] for letter in text]  # noqa: E731
+        for words, acts in (
+            (("main", "Enter"), ["key return"]), (("main", "C-c", "Up", "x"), ["char 3", "key up", "char 78"]),
+            (("main", "make test"), spelled("make test")), (("main", "make test", "Enter"), [*spelled("make test"), "key return"]),
+            (("main", "close"), spelled("close")), (("main", "next"), spelled("next")), (("main", "split right"), spelled("split right")),
+            (("main", "key up"), spelled("key up")), (("main", "ls", "-la"), spelled("ls-la")), (("main", "--", "-l"), spelled("-l")),
+            (("main", "a\nb"), ["char 61", "key return", "char 62"]), (("main", "\u00e9t"), spelled("\u00e9t")),
+            (("-a", "main", "close", "key up", "Enter"), ["close", "key up", "key return"]), (("main", "-a", "next"), ["next"]),
+            (("-a", "main", "split right", "C-l"), ["split right", "char c"]),
+        ):
+            with mock.patch.object(sending, "demand_acts"), mock.patch.object(sending, "demand_doable"), \
+                    mock.patch.object(sending, "opened"), mock.patch.object(sending, "type_lines") as types:
+                self.assertEqual(self.mux("send", *words), 0)
+            self.assertEqual(types.call_args[0][2], [" ; ".join(acts)], words)
+        for words, text in ((("-l", "main", "Enter", "C-c"), "EnterC-c"), (("main", "-l", "close"), "close"),
+                            (("-l", "main", "--", "-a"), "-a")):
+            with mock.patch.object(giving, "type_text", return_value=0) as types:
+                self.assertEqual(self.mux("send", *words), 0)
+            self.assertEqual(types.call_args[0][1], text, words)
+        for words, told in (
+            (("main",), "what is typed stands behind the session, as in `mux send work 'make test' Enter`"),
+            (("-l", "-a", "main", "a"), "characters are sent by -l, or acts by -a, and not both"),
+            (("-a", "main", "-l", "a"), "characters are sent by -l, or acts by -a, and not both"),
+            (("main", "a", "C-;"), "C-; names a key that sends nothing; -l types its characters. None was typed"),
+            (("main", ""), "there is nothing to be typed"), (("-l", "ls", "main"), "no session ls is running"),
+        ):
+            self.refuses(told, "send", *words)
 
     def test_panes(self):
         """NAME.P is a pane: what is sent and captured there, and closed, where something else than a shell runs once that is confirmed."""
         self.runs.add("main")
         with mock.patch.object(sending, "send", return_value=3) as sends, mock.patch.object(captures, "capture", return_value=4) as takes:
-            self.assertEqual((self.mux("send", "main.3", "char 61"), sends.call_args[0][1:]), (3, (["char 61"], 3)))
+            self.assertEqual((self.mux("send", "-a", "main.3", "char 61"), sends.call_args[0][1:]), (3, (["char 61"], 3)))
             self.assertEqual((self.mux("capture", "main.3"), takes.call_args[0][1:]), (4, (False, 3)))
         places = Places({1: Rect(1, 1, 5, 5), 2: Rect(1, 7, 5, 5)}, 1)
         with mock.patch.object(FolderSession, "places", lambda session: places), mock.patch.object(targets, "close_pane") as closes:
@@ -560,4 +590,4 @@ class Words(Mux):
         asked = mux.asked_by("ssh", ["-p", "22", "--far", "f", "there"])
         self.assertEqual((asked.options, asked.far, asked.ssh), (["-p", "22"], "f", "ssh"))
         self.assertEqual((asked.host, asked.name, asked.guess), ("there", "main", None))
-        self.assertEqual(mux.asked_by("send", ["x", "a", "b"]).acts, ["a", "b"])
+        self.assertEqual(mux.asked_by("send", ["x", "a", "b"]).words, ["a", "b"])
