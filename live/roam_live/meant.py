@@ -1,21 +1,109 @@
 """Which word is meant by one that is none."""
 from __future__ import annotations
 
-# What tmux calls what `mux` has by another name.
-TMUX_WORDS = {
-    "a": "attach", "at": "attach", "att": "attach", "attach-session": "attach", "capture-pane": "capture", "capturep": "capture",
-    "det": "detach", "detach-client": "detach", "has-session": "ls", "kill-server": "kill", "kill-session": "kill",
-    "list-buffers": "buffer",
-    "kill-pane": "kill", "kill-window": "kill", "killp": "kill", "killw": "kill", "list-clients": "clients", "list-commands": "help",
-    "list-keys": "help", "list-sessions": "ls", "lsb": "buffer", "lsc": "clients", "lscm": "help", "lsk": "help", "lsw": "list-windows",
-    "neww": "new-window", "renamew": "rename-window", "select-window": "attach", "selectw": "attach", "new-session": "new",
-    "paste-buffer": "buffer", "pasteb": "buffer", "pipe-pane": "log", "pipep": "log",
-    "send-keys": "send", "set-buffer": "buffer", "setb": "buffer", "show-buffer": "buffer", "show-environment": "env",
-    "showb": "buffer", "showenv": "env", "start-server": "new",
-}
+# The commands of tmux 3.3a with their other names, and what does the same here: a word of mux, or a key; nothing where nothing does.
+TMUX_TABLE = """
+attach-session attach at att a: mux attach NAME
+bind-key bind: bind in roam.conf
+break-pane breakp:
+capture-pane capturep: mux capture NAME
+choose-buffer: C-b =
+choose-client: mux clients NAME
+choose-tree choose-window: C-b w
+clear-history clearhist:
+clear-prompt-history clearphist:
+clock-mode:
+command-prompt: C-b :
+confirm-before confirm:
+copy-mode: C-b [
+customize-mode:
+delete-buffer deleteb:
+detach-client detach det: C-b d
+display-menu menu:
+display-message display: C-b : display-message
+display-popup popup:
+display-panes displayp: C-b q
+find-window findw:
+has-session has: mux ls
+if-shell if:
+join-pane joinp:
+kill-pane killp: mux kill NAME.P
+kill-server: mux kill NAME
+kill-session: mux kill NAME
+kill-window killw: mux kill NAME:K
+last-pane lastp: C-b ;
+last-window last: C-b l
+link-window linkw:
+list-buffers lsb: mux buffer list NAME
+list-clients lsc: mux clients NAME
+list-commands lscm: mux help
+list-keys lsk: C-b ?
+list-panes lsp:
+list-sessions ls choose-session: mux ls
+list-windows lsw: mux list-windows NAME
+load-buffer loadb: mux buffer set NAME < FILE
+lock-client lockc:
+lock-server lock:
+lock-session locks:
+move-pane movep:
+move-window movew:
+new-session new: mux new NAME
+new-window neww: mux new-window NAME
+next-layout nextl: C-b Space
+next-window next: C-b n
+paste-buffer pasteb: mux buffer paste NAME
+pipe-pane pipep: mux log NAME
+previous-layout prevl:
+previous-window prev: C-b p
+refresh-client refresh: C-b r
+rename-session rename:
+rename-window renamew: mux rename-window NAME:K TITLE
+resize-pane resizep: C-b C-Up
+resize-window resizew: mux send -a NAME 'size ROWS COLS'
+respawn-pane respawnp:
+respawn-window respawnw:
+rotate-window rotatew:
+run-shell run: C-b : run-shell
+save-buffer saveb: mux buffer show NAME > FILE
+select-layout selectl: C-b Space
+select-pane selectp: mux cmd NAME select-pane
+select-window selectw: mux attach NAME:K
+send-keys send: mux send NAME WORD
+send-prefix: C-b C-b
+server-access:
+set-buffer setb: mux buffer set NAME TEXT
+set-environment setenv:
+set-hook:
+set-option set: set in roam.conf
+set-window-option setw: set in roam.conf
+show-buffer showb: mux buffer show NAME
+show-environment showenv: mux env NAME
+show-hooks:
+show-messages showmsgs info server-info:
+show-options show:
+show-prompt-history showphist:
+show-window-options showw:
+source-file source: C-b R
+split-window splitw split-pane splitp: mux cmd NAME split-window
+start-server start: mux new NAME
+suspend-client suspendc: C-b C-z
+swap-pane swapp:
+swap-window swapw:
+switch-client switchc:
+unbind-key unbind: unbind in roam.conf
+unlink-window unlinkw:
+wait-for wait:
+"""
 
-# A slip may be of two letters in a word that has so many, and of one in a shorter one.
-LONG = 5
+
+def words_of(table: str) -> dict[str, str]:
+    """What does each word of a table here."""
+    lines = (line.partition(":") for line in table.strip().split("\n"))
+    return {name: here.strip() for names, _, here in lines for name in names.split()}
+
+
+TMUX_WORDS = words_of(TMUX_TABLE)
+
 
 # In a word of fewer letters another letter makes another name: `net` is no slip of `new`. One too many or too few, or two turned round do.
 SHORT = 4
@@ -37,12 +125,21 @@ def slips(word: str, name: str) -> int:
     return row[-1]
 
 
+def told_of_tmux(name: str, called: str) -> str:
+    """What is told of a word of tmux, where mux is called so; nothing of another."""
+    if name not in TMUX_WORDS:
+        return ""
+    here = TMUX_WORDS[name]
+    if not here:
+        return f"{name}: tmux has this, roam hasn't"
+    return f"{name} is a word of tmux; roam has {here.replace('mux ', f'{called} ', 1) if here.startswith('mux ') else here}"
+
+
 def meant(name: str, words: list[str]) -> str:
-    """The word that is meant by a name: one that tmux calls so, else one of these that differs by a slip; none where it is a name."""
-    if name in TMUX_WORDS:
-        return TMUX_WORDS[name]
+    """The one of some words that is meant by a name, which differs by a slip; none where it is a name."""
     if len(name) < 2:
         return ""
-    found = [(slips(word, name), place, word) for place, word in enumerate(words)]
-    near = [one for one in found if one[0] <= (2 if len(one[2]) >= LONG else 1)]
+    # Of two letters there are many names: only those of a word of two are one.
+    found = [(slips(word, name), place, word) for place, word in enumerate(words) if len(name) > 2 or len(word) == 2]
+    near = [one for one in found if one[0] <= 1]
     return min(near)[2] if near else ""

@@ -27,7 +27,8 @@ def words(folder):
     check("mux new -d launches a session", told == (0, "", ""), told)
     check("and refuses one that is there", said("new", "-d", "other")[0] == 1, said("ls"))
     check("mux list is ls", said("list") == said("ls") and "other" in said("ls")[1], said("list"))
-    check("mux send ends once all acts were taken", said("send", "-a", "other", "char 65", "char e9", "split right") == (0, "", ""), listed())
+    told = said("send", "-a", "other", "char 65", "char e9", "split right")
+    check("mux send ends once all acts were taken", told == (0, "", ""), told)
     rows = []
     is_shown = comes(lambda: rows.append(said("capture", "other")[1].split("\n")) or "\u2502started" in rows[-1][0], 2)
     check("mux capture shows the rows", is_shown and rows[-1][0].startswith("started ") and rows[-1][1].startswith("e\u00e9 "), rows[-1:])
@@ -44,16 +45,20 @@ def words(folder):
     check("mux send -a refuses what is no act", told[0] == 1 and told[2].startswith("mux: 'split up' is no act"), told)
     check("and types none of the others", "a" not in said("capture", "other")[1].replace("started", ""), said("ls"))
     is_typed = said("send", "other", "C-u", "close next", "Enter") == (0, "", "")
-    check("mux send types what is no key", is_typed and comes(lambda: "close next" in said("capture", "other")[1], 2), said("capture", "other"))
+    is_shown = is_typed and comes(lambda: "close next" in said("capture", "other")[1], 2)
+    check("mux send types what is no key", is_shown, said("capture", "other"))
     all_starts()
     subprocess.run(tool("mux", "kill", "-f", "other"), check=True)
 
 
 def slips():
     """What is nearly a word of mux starts no session, and what is quit behind a pipe says nothing."""
-    for name, word in (("lst", "ls"), ("a", "attach"), ("list-sessions", "ls"), ("new-session", "new"), ("kill-session", "kill")):
-        wanted = f"mux: {name!r} is no word of mux; {word} is, and `mux -- {name}` takes it as a session's name\n"
-        check(f"mux {name} is refused with the word that is meant", said(name) == (2, "", wanted), said(name))
+    for name, told in (("lst", "'lst' is no word of mux; did you mean ls?"), ("a", "a is a word of tmux; roam has mux attach NAME"),
+                       ("list-sessions", "list-sessions is a word of tmux; roam has mux ls"),
+                       ("next-window", "next-window is a word of tmux; roam has C-b n"),
+                       ("swap-pane", "swap-pane: tmux has this, roam hasn't")):
+        wanted = f"mux: {told} (`mux new {name}` begins a session of that name)\n"
+        check(f"mux {name} is refused, and what there is told", said(name) == (2, "", wanted), said(name))
     check("and starts nothing", "lst" not in listed() and "a" not in listed(), listed())
     run = subprocess.run(f"{TOOLS / 'mux'} help | head -1", shell=True, stdout=subprocess.PIPE, stderr=subprocess.PIPE, check=False)
     check("mux help | head -1 is a line", run.stdout.count(b"\n") == 1 and run.stderr == b"" and run.stdout.startswith(b"mux "), run)

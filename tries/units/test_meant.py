@@ -1,7 +1,7 @@
 """Which word of mux is meant by one that is none, and which names are names."""
 import unittest
 
-from roam_live.meant import TMUX_WORDS, meant, slips
+from roam_live.meant import TMUX_WORDS, meant, slips, told_of_tmux
 
 WORDS = ["attach", "new", "detach", "ls", "list", "watch", "kill", "send", "capture", "env", "ssh", "far", "help"]
 
@@ -13,10 +13,28 @@ SLIPS = {
     "hel": "help", "nwe": "new", "shs": "ssh", "sssh": "ssh",
 }
 
+# The commands of tmux 3.3a and their other names, as its list-commands has them.
+OF_TMUX = """
+    attach-session attach bind-key bind break-pane breakp capture-pane capturep choose-buffer choose-client choose-tree
+    clear-history clearhist clear-prompt-history clearphist clock-mode command-prompt confirm-before confirm copy-mode
+    customize-mode delete-buffer deleteb detach-client detach display-menu menu display-message display display-popup popup
+    display-panes displayp find-window findw has-session has if-shell if join-pane joinp kill-pane killp kill-server kill-session
+    kill-window killw last-pane lastp last-window last link-window linkw list-buffers lsb list-clients lsc list-commands lscm
+    list-keys lsk list-panes lsp list-sessions ls list-windows lsw load-buffer loadb lock-client lockc lock-server lock
+    lock-session locks move-pane movep move-window movew new-session new new-window neww next-layout nextl next-window next
+    paste-buffer pasteb pipe-pane pipep previous-layout prevl previous-window prev refresh-client refresh rename-session rename
+    rename-window renamew resize-pane resizep resize-window resizew respawn-pane respawnp respawn-window respawnw rotate-window
+    rotatew run-shell run save-buffer saveb select-layout selectl select-pane selectp select-window selectw send-keys send
+    send-prefix server-access set-buffer setb set-environment setenv set-hook set-option set set-window-option setw show-buffer
+    showb show-environment showenv show-hooks show-messages showmsgs show-options show show-prompt-history showphist
+    show-window-options showw source-file source split-window splitw start-server start suspend-client suspendc swap-pane swapp
+    swap-window swapw switch-client switchc unbind-key unbind unlink-window unlinkw wait-for wait
+""".split()
+
 # What nobody takes for a slip.
 NAMES = (
     "main", "w", "l", "s", "log", "logs", "web", "net", "dev", "work", "api", "db", "now", "car", "bar", "build", "mail", "test",
-    "notes", "server", "ps", "top", "x1", "emacs", "irc", "prod", "python",
+    "notes", "server", "cm", "en", "lo", "atac", "wotsh", "capt", "ps", "top", "x1", "emacs", "irc", "prod", "python",
 )
 
 
@@ -28,11 +46,14 @@ class Meant(unittest.TestCase):
             self.assertEqual(meant(name, WORDS), word, name)
 
     def test_words_of_tmux(self):
-        for name in ("list-sessions", "a", "new-session", "kill-session", "attach-session", "detach-client", "showenv"):
-            self.assertIn(TMUX_WORDS[name], WORDS)
-        self.assertEqual(meant("a", WORDS), "attach")
-        self.assertEqual(meant("list-sessions", WORDS), "ls")
-        self.assertEqual([meant(name, WORDS) for name in ("paste-buffer", "lsb", "pipe-pane")], ["buffer", "buffer", "log"])
+        """Each word of tmux is known, and what does the same here is told, or that nothing does."""
+        self.assertEqual([word for word in OF_TMUX if word not in TMUX_WORDS], [])
+        for name, told in (("a", "a is a word of tmux; roam has roam mux attach NAME"), ("lsk", "lsk is a word of tmux; roam has C-b ?"),
+                           ("kill-server", "kill-server is a word of tmux; roam has roam mux kill NAME"),
+                           ("splitw", "splitw is a word of tmux; roam has roam mux cmd NAME split-window"),
+                           ("swap-pane", "swap-pane: tmux has this, roam hasn't"), ("info", "info: tmux has this, roam hasn't"),
+                           ("work", "")):
+            self.assertEqual(told_of_tmux(name, "roam mux"), told)
 
     def test_names(self):
         for name in NAMES:

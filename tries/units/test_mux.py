@@ -12,6 +12,7 @@ from roam_live import (asked_command, asked_rows, asked_windows, brought, captur
 from roam_live.own_settings import OWN, settings_path
 from roam_live.places import Places, Rect
 from roam_live.program import Fault
+from roam_live.meant import TMUX_WORDS
 from roam_live.relayed import greeting
 from roam_live.sessions import FolderSession, NearSession, WindowedSession
 
@@ -539,8 +540,8 @@ class Words(Mux):
 
     def test_refused(self):
         """Words that name no session: a slip is told of, the rest gets the usage; all with status 2."""
-        hint = "mux: 'atach' is no word of mux; attach is, and `mux -- atach` takes it as a session's name\n"
-        for words, told in ((("atach",), hint), (("atach", "x"), "mux: 'atach' is no word of mux; attach is\n")):
+        hint = "mux: 'atach' is no word of mux; did you mean attach?"
+        for words, told in ((("atach",), f"{hint} (`mux new atach` begins a session of that name)\n"), (("atach", "x"), f"{hint}\n")):
             self.assertEqual(self.mux(*words), 2)
             self.assertTrue(self.said.getvalue().endswith(told))
         for words in (("-x",), ("zebra", "b"), ("--", "zebra", "b"), ("--x", "a")):
@@ -551,6 +552,29 @@ class Words(Mux):
         self.assertEqual(self.mux("atach"), 7)
         self.assertEqual(self.mux("--"), 7)
 
+    def test_words_of_tmux(self):
+        """No word of tmux launches a session of that name: what roam has is told, which is a word of mux, or that it has nothing. One that
+        runs is attached to, and `new` takes any."""
+        for word, here in TMUX_WORDS.items():
+            if here.startswith("mux "):
+                self.assertIn(here.split()[1], mux.WORDS, word)
+            for more in () if word in mux.WORDS else ((), ("-h",), ("x", "y")):
+                before = len(self.said.getvalue())
+                self.assertEqual(self.mux(word, *more), 2, word)
+                told = f"{word} is a word of tmux; roam has {here}" if here else f"{word}: tmux has this, roam hasn't"
+                own = "" if more else f" (`mux new {word}` begins a session of that name)"
+                self.assertEqual(self.said.getvalue()[before:], f"mux: {told}{own}\n")
+        self.assertNotIn("launch", [one[0] for one in self.done])
+        self.assertEqual(self.mux("new", "swap-pane"), 7)
+        self.assertIn(("launch", "swap-pane", ()), self.done)
+        self.runs.add("split-window")
+        self.assertEqual(self.mux("split-window"), 7)
+
+    def test_none_listed(self):
+        """Where no session runs `ls` says so, and ends well."""
+        self.assertEqual(self.mux("ls"), 0)
+        self.assertEqual((self.text.getvalue(), self.said.getvalue()[-22:]), ("", "no session is running\n"))
+
     def test_help(self):
         """`help` explains all words, or one; --help behind one does too."""
         for words in (("help",), ("-h",), ("--help",)):
@@ -559,7 +583,8 @@ class Words(Mux):
             self.assertTrue(self.text.getvalue()[before:].startswith("mux [NAME] | WORD ..: sessions by name."))
         self.assertEqual(self.mux("help", "ls"), 0)
         self.assertIn("usage: mux ls", self.text.getvalue())
-        self.refuses("'lst' is no word of mux, ls is; `mux help` lists them", "help", "lst")
+        self.refuses("'lst' is no word of mux; did you mean ls? `mux help` lists them", "help", "lst")
+        self.refuses("split-window is a word of tmux; roam has mux cmd NAME split-window; `mux help` lists them", "help", "split-window")
         self.refuses("'zebra' is no word of mux; `mux help` lists them", "help", "zebra")
         with self.assertRaises(SystemExit):
             self.mux("kill", "--help")
