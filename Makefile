@@ -55,6 +55,7 @@ completions = $(installed)/share/bash-completion/completions
 install: all
 	install -d $(installed)/bin $(installed)/lib/roam/roam_live $(installed)/share/man/man1 $(installed)/share/man/man5 $(completions)
 	install crates/roam/out/roam live/attach live/mux live/pane_shells live/picture live/relay $(installed)/lib/roam
+	install -m 644 live/first_word $(installed)/lib/roam
 	install -m 644 $(wildcard live/roam_live/*.py) $(installed)/lib/roam/roam_live
 	cd $(installed)/lib/roam && python3 -m compileall -q -f -d $(PREFIX)/lib/roam/roam_live roam_live
 	install live/installed $(installed)/bin/roam
