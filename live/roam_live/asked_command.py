@@ -1,11 +1,15 @@
 """`mux cmd`: a command of the table, done in a session from outside, as far as it isn't a terminal's own."""
 from __future__ import annotations
 
+import os
+
 from roam_live.command_table import BadCommand, CommandWish, asked_by
+from roam_live.handed import DONE, RAN
 from roam_live.program import Fault
 
 TYPE_CHECKING = False
 if TYPE_CHECKING:
+    from roam_live.handed import Begins
     from roam_live.sessions import FolderSession
 
 # The acts of wishes that are done by acts alone.
@@ -20,6 +24,8 @@ def run(window: FolderSession, pane: int, words: list[str]) -> int:
         asked = asked_by(words)
     except BadCommand as fault:
         raise Fault(str(fault)) from None
+    if asked.begins and asked.wish in ACTS:
+        return split(window, pane, asked.wish, placed(asked.begins))
     acts = [ACTS[asked.wish]] if asked.wish in ACTS else asked.acts
     if acts:
         from roam_live import sending
@@ -28,12 +34,36 @@ def run(window: FolderSession, pane: int, words: list[str]) -> int:
     return changed(window, asked, words[0])
 
 
+def placed(begins: Begins) -> Begins:
+    """What a new pane begins with, its folder as this process has it."""
+    is_own = begins.folder and not begins.folder.startswith("~")
+    return begins._replace(folder=os.path.abspath(begins.folder)) if is_own else begins
+
+
+def split(window: FolderSession, pane: int, act: str, begins: Begins) -> int:
+    """Splits a pane, or that in focus, with a command in the new one, and ends once it has begun there."""
+    from roam_live import sending
+    from roam_live.asked_windows import WindowsAsked
+    from roam_live.handed import WAITS
+    from roam_live.targets import making_of, pane_places
+
+    number, life = making_of(window, pane)
+    back = [f"focus {pane_places(window, number).focus}"] if begins.is_aside else []
+    asked = WindowsAsked(window)
+    asked.hand(f"{number} {life}", begins)
+    status = sending.send(window, [act, *back], number)
+    if asked.until(RAN, seconds=2 * WAITS)[2:] != [DONE]:
+        raise Fault(f"session {window.name}: no pane came in its place, and the command wasn't run")
+    return status
+
+
 def changed(window: FolderSession, asked: CommandWish, name: str) -> int:
     """Does what is asked of a session's windows or terminals."""
     from roam_live import asked_windows
 
     if asked.wish == "window new":
-        return asked_windows.new_window(window, "")
+        begins = placed(asked.begins) if asked.begins else None
+        return asked_windows.new_window(window, "", begins) if begins else asked_windows.new_window(window, "")
     if asked.wish == "window name" and asked.text:
         return asked_windows.rename(window, asked.text)
     if asked.wish == "window shut":

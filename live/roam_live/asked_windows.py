@@ -4,9 +4,11 @@ from __future__ import annotations
 import os
 import time
 
+from roam_live.handed import RAN, READY
 from roam_live.loops import comes
 from roam_live.presence import CLIENT, CLIENTS, MOST_ATTENDED, number_in, presence_in
 from roam_live.program import Fault, Lines, connected_in, read, reason
+from roam_live.texts import random_name
 from roam_live.window_lines import GONE, LONGEST_BYTES, LONGEST_NAME, MOST_WINDOWS, OPENED, WINDOW, WINDOWS, name_in, name_word
 from roam_live.words import printable
 
@@ -14,6 +16,7 @@ TYPE_CHECKING = False
 if TYPE_CHECKING:
     import socket
 
+    from roam_live.handed import Begins
     from roam_live.sessions import FolderSession
 
 # So many seconds the keeper has for taking a connection, and for what it is asked: a window has to be opened, or to end, in that time.
@@ -41,10 +44,10 @@ class WindowsAsked:
         except OSError as fault:
             raise Fault(f"session {session.name}: nobody keeps its shells: {reason(fault)}") from fault
 
-    def say(self, line: str) -> None:
-        """Says a line."""
+    def say(self, line: str, data: bytes = b"") -> None:
+        """Says a line, and bytes behind it."""
         try:
-            self.peer.sendall(f"{line}\n".encode())
+            self.peer.sendall(f"{line}\n".encode() + data)
         except OSError as fault:
             raise Fault(f"session {self.session.name}: what keeps its shells has ended") from fault
 
@@ -65,6 +68,16 @@ class WindowsAsked:
             if piece == b"":
                 raise Fault(f"session {self.session.name}: what keeps its shells has ended")
             self.told += self.lines.fed(piece or b"")
+
+    def hand(self, beside: str, begins: Begins) -> str:
+        """Hands over what a new pane or window begins with, beside that making of a pane or as a window, and tells its name; Fault where it
+        isn't taken."""
+        name, data = random_name(), begins.packed()
+        self.say(f"{RAN} {name} {beside} {len(data)}", data)
+        words = self.until(RAN)
+        if words[1:] != [name, READY]:
+            raise Fault(f"session {self.session.name}: not run: {printable(' '.join(words[3:]))}")
+        return name
 
     def rename(self, number: int, name: str) -> None:
         """Gives a window a name, or none where that is empty; it has been asked for windows."""
@@ -128,12 +141,13 @@ def list_windows(session: FolderSession) -> int:
     return 0
 
 
-def new_window(session: FolderSession, name: str) -> int:
-    """Opens a window of a session, of the size of that at which this is asked, and prints its number."""
+def new_window(session: FolderSession, name: str, begins: Begins | None = None) -> int:
+    """Opens a window of a session, of the size of that at which this is asked, that begins as is asked, and prints its number."""
     check_title(name)
     places = session.places()
     asked = WindowsAsked(session)
-    asked.say("open {} {}".format(*(places.size() if places else (24, 80))))
+    handed = f" {asked.hand('window', begins)}" if begins else ""
+    asked.say("open {} {}".format(*(places.size() if places else (24, 80))) + handed)
     words = asked.until(OPENED)
     number = number_in(words[1], MOST_WINDOWS) if len(words) == 2 else 0
     if not number:

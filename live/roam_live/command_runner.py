@@ -125,8 +125,14 @@ class CommandRunner:
     def run_all(self, commands: list[list[str]]) -> None:
         """Does commands one after the other, up to one that can't be done, which is told."""
         try:
-            for words in commands:
-                self.do(asked_by(words))
+            for place, words in enumerate(commands):
+                asked = asked_by(words)
+                if asked.begins:
+                    # What follows is for the pane that is there then.
+                    rest = commands[place + 1 :]
+                    self.front.commands.handing.begin(asked.wish, asked.begins, lambda: self.run_all(rest))
+                    return
+                self.do(asked)
         except BadCommand as fault:
             self.tell(str(fault))
 

@@ -3,8 +3,10 @@ from __future__ import annotations
 
 from collections import namedtuple
 
+from roam_live.handed import MOST_BYTES, TOO_LONG, Begins
 from roam_live.key_names import acts_of_word
 from roam_live.keys import Key, acts_of
+from roam_live.window_lines import LONGEST_BYTES, LONGEST_NAME
 from roam_live.words import printable
 
 TYPE_CHECKING = False
@@ -17,19 +19,22 @@ MOST_WORDS, LONGEST_TEXT = 100, 1000
 
 # Where a new pane or window begins in any case.
 HERE = "#{pane_current_path}"
+NOTHING = Begins([], "", "", False)
 
 
 class BadCommand(Exception):
     """What a command says can't be done; why, in words."""
 
 
-class CommandWish(namedtuple("CommandWish", "acts wish text words", defaults=((),))):
-    """What a command asks for: acts that are typed, or a wish of the front end's, and a text that belongs to it; and its words."""
+class CommandWish(namedtuple("CommandWish", "acts wish text words begins", defaults=((), None))):
+    """What a command asks for: acts that are typed, or a wish of the front end's, and a text that belongs to it; its words; and what a new
+    pane or window begins with, where that isn't as always."""
 
     acts: list[str]
     wish: str
     text: str
     words: list[str]
+    begins: Begins | None
 
 
 class Flags:
@@ -48,8 +53,11 @@ class Flags:
                 if flag in valued:
                     break
         self.words = rest[1:] if rest[:1] == ["--"] else rest
-        if self.found.get("c", HERE) != HERE:
-            raise BadCommand(f"-c has {HERE} alone here")
+
+    def demand_words(self, most: int = 0) -> None:
+        """Refuses more words than so many: none that isn't done is passed over."""
+        if len(self.words) > most:
+            raise BadCommand(f"it has no word {printable(self.words[most])[:40]}")
 
     def has(self, flag: str) -> bool:
         """Whether a flag stands there."""
@@ -76,8 +84,7 @@ class NamedCommand(namedtuple("NamedCommand", "names flags reads help")):
 def wish(word: str) -> Callable[[Flags], CommandWish]:
     """Reads a command that is one wish, without words."""
     def read(flags: Flags) -> CommandWish:
-        if flags.words:
-            raise BadCommand(f"it has no word {printable(flags.words[0])[:40]}")
+        flags.demand_words()
         return CommandWish([], word, "")
     return read
 
@@ -85,12 +92,37 @@ def wish(word: str) -> Callable[[Flags], CommandWish]:
 def by_flag(wishes: dict[str, str], default: str) -> Callable[[Flags], CommandWish]:
     """Reads a command whose flag says which wish it is."""
     def read(flags: Flags) -> CommandWish:
+        flags.demand_words()
         return CommandWish([], next((word for flag, word in wishes.items() if flags.has(flag)), default), "")
     return read
 
 
+def begun(wishes: dict[str, str], default: str) -> Callable[[Flags], CommandWish]:
+    """Reads a command that makes a pane or a window, as its flag says, with what that begins with."""
+    def read(flags: Flags) -> CommandWish:
+        word = next((word for flag, word in wishes.items() if flags.has(flag)), default)
+        begins = Begins(flags.words, folder_of(flags.found.get("c", HERE)), flags.found.get("n", ""), flags.has("d"))
+        if len(begins.packed()) > MOST_BYTES:
+            raise BadCommand(TOO_LONG)
+        if any("\0" in part for part in (*begins.words, begins.folder)) or begins.words[:1] == [""]:
+            raise BadCommand("it has no such command")
+        title = begins.title
+        if not title.isprintable() or len(title) > LONGEST_NAME or len(title.encode("utf-8", "replace")) > LONGEST_BYTES:
+            raise BadCommand(f"a name has {LONGEST_NAME} printable characters at most")
+        return CommandWish([], word, "", begins=begins if begins != NOTHING else None)
+    return read
+
+
+def folder_of(text: str) -> str:
+    """The folder that -c names; nothing where that is the one in which it begins anyway."""
+    if text != HERE and "#{" in text:
+        raise BadCommand(f"-c has a folder or {HERE} here")
+    return "" if text == HERE else text
+
+
 def window_of(flags: Flags) -> CommandWish:
     """Reads which window is gone to: of a number, or another in order."""
+    flags.demand_words(0 if "t" in flags.found else 1)
     target = flags.found.get("t", flags.words[0] if flags.words else "").lstrip(":=")
     ways = {"+": "go next", "-": "go previous", "!": "go last"}
     if flags.has("n") or flags.has("p") or flags.has("l"):
@@ -100,6 +132,7 @@ def window_of(flags: Flags) -> CommandWish:
 
 def pane_of(flags: Flags) -> CommandWish:
     """Reads which pane gets the focus: one of a number, the next, the last, or one beside."""
+    flags.demand_words()
     target = flags.found.get("t", "").rpartition(".")[2].lstrip(":")
     if target == "+":
         return CommandWish(["next"], "", "")
@@ -110,12 +143,19 @@ def pane_of(flags: Flags) -> CommandWish:
 
 def sized(flags: Flags) -> CommandWish:
     """Reads how a pane is sized: zoomed, or by one of its borders, so many times."""
+    flags.demand_words(0 if flags.has("Z") else 1)
     if flags.has("Z"):
         return CommandWish([], "zoom", "")
     side = next((side for flag, side in (("L", "left"), ("R", "right"), ("U", "up"), ("D", "down")) if flags.has(flag)), "")
     if not side:
         raise BadCommand("it has -L, -R, -U, -D or -Z")
     return CommandWish([], f"border {side}", str(flags.number(flags.words[0] if flags.words else "", 1, 99)))
+
+
+def shares_of(flags: Flags) -> CommandWish:
+    """Reads how the panes share the window: evenly, in the layout that is there."""
+    flags.demand_words(1 if flags.words[:1] in (["even-horizontal"], ["even-vertical"]) else 0)
+    return CommandWish([], "even", "")
 
 
 def keys_sent(flags: Flags) -> CommandWish:
@@ -134,7 +174,9 @@ def keys_sent(flags: Flags) -> CommandWish:
 def texted(word: str, is_needed: bool = True) -> Callable[[Flags], CommandWish]:
     """Reads a command that has a text."""
     def read(flags: Flags) -> CommandWish:
-        text = " ".join(flags.words)[:LONGEST_TEXT]
+        text = " ".join(flags.words)
+        if len(text) > LONGEST_TEXT:
+            raise BadCommand(f"it has {LONGEST_TEXT} characters at most")
         if is_needed and not text:
             raise BadCommand("it has a text behind it")
         return CommandWish([], word, text)
@@ -143,7 +185,8 @@ def texted(word: str, is_needed: bool = True) -> Callable[[Flags], CommandWish]:
 
 # All of them. A flag that asks for what is so in roam anyway is passed over, and any other is refused: another pane would be meant.
 TABLE = (
-    NamedCommand(("new-window", "neww"), "c:", wish("window new"), "opens a window"),
+    NamedCommand(("new-window", "neww"), "c:dn:", begun({}, "window new"),
+                 "opens a window, with a command, a folder and a name where they stand there"),
     NamedCommand(("kill-window", "killw"), "", wish("window shut"), "shuts the window"),
     NamedCommand(("rename-window", "renamew"), "", texted("window name", is_needed=False), "names the window"),
     NamedCommand(("next-window", "next"), "", wish("go next"), "goes to the next window"),
@@ -151,13 +194,14 @@ TABLE = (
     NamedCommand(("last-window", "last"), "", wish("go last"), "goes to the window where one was before"),
     NamedCommand(("select-window", "selectw"), "t:npl", window_of, "goes to a window, by its number"),
     NamedCommand(("choose-window", "choose-tree"), "swZG", wish("window list"), "chooses a window from a list"),
-    NamedCommand(("split-window", "splitw"), "hvc:", by_flag({"h": "split right", "v": "split down"}, "split down"), "splits the pane"),
+    NamedCommand(("split-window", "splitw"), "hvc:d", begun({"h": "split right", "v": "split down"}, "split down"),
+                 "splits the pane, with a command and a folder where they stand there"),
     NamedCommand(("kill-pane", "killp"), "", wish("close"), "closes the pane"),
     NamedCommand(("select-pane", "selectp"), "LRUDlt:", pane_of, "puts another pane in focus"),
     NamedCommand(("last-pane", "lastp"), "", wish("last"), "puts the pane in focus that was before"),
     NamedCommand(("display-panes", "displayp"), "b", wish("panes"), "has a digit be a pane's"),
     NamedCommand(("resize-pane", "resizep"), "LRUDZ", sized, "zooms the pane, or moves one of its borders"),
-    NamedCommand(("select-layout", "selectl", "next-layout", "nextl"), "Enop", by_flag({}, "even"), "gives even shares"),
+    NamedCommand(("select-layout", "selectl", "next-layout", "nextl"), "Enop", shares_of, "gives even shares"),
     NamedCommand(("copy-mode",), "ues", by_flag({"u": "copy page", "s": "copy search"}, "copy"),
                  "enters copy mode, a page back, or with a search"),
     NamedCommand(("paste-buffer", "pasteb"), "p", wish("paste"), "pastes what was copied last"),

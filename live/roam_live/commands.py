@@ -14,6 +14,7 @@ from roam_live.choosing import Choosing, ChoosingWindow
 from roam_live.copying import INTERRUPT, Copying, CopyEvent
 from roam_live.display import NO_SIZE, Display
 from roam_live.foci import Foci
+from roam_live.handing import Handing
 from roam_live.extended_keys import ANSWERED, form_for
 from roam_live.key_names import spelled
 from roam_live.keys import TYPES, Key, Keys, acts_of
@@ -110,6 +111,7 @@ class Commands:
         self.left_size = NO_SIZE
         self.copying, self.choosing = Copying(self, loop), Choosing(self)
         self.zooming, self.border_keys, self.foci = Zooming(self, loop), BorderKeys(self, loop), Foci(panes)
+        self.handing = Handing(self)
         display.moved = self.fit_drawn
         # The windows of the session, and a list of them, where it may have several.
         self.windows: WindowWishes | None = None

@@ -112,8 +112,9 @@ class PaneCommand:
         self.asked, self.loop, self.number, self.life, self.size, self.is_again = asked, loop, number, life, size, is_again
         self.path = f"{asked.dir}/p{number}"
         self.named = asked.named(number)
-        # Where its command begins.
+        # Where its command begins; and its own one, where it isn't that of all panes.
         self.folder = folder
+        self.command: list[str] = []
         self.peer: socket.socket | None = None
         self.process: int | None = None
         self.terminal: int | None = None
@@ -192,7 +193,7 @@ class PaneCommand:
         if self.process == 0:
             try:
                 environment = {**surroundings(self.asked, self.number, self.brought), **entered(self.folder)}
-                terminal.become(self.asked.command, environment, self.asked.instead)
+                terminal.become(self.command or self.asked.command, environment, None if self.command else self.asked.instead)
             finally:
                 os._exit(127)
         os.set_inheritable(self.terminal, False)

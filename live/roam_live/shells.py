@@ -11,6 +11,7 @@ from roam_live.brought import BROUGHT, Brought
 from roam_live.buffers import NOTHING, UNKNOWN, WATCHES, Buffers
 from roam_live.colours import Colours
 from roam_live.given import KEPT, LOST, GivenText, GivenTexts
+from roam_live.handed import RAN, REFUSED, RUN, HandedCommands
 from roam_live.listeners import Listener
 from roam_live.loops import Loop
 from roam_live.presence import CLIENTS, LEAVE, LEAVE_OTHERS, WHO, Attended, Presence, presence_said
@@ -189,6 +190,8 @@ class ShellsSocket:
         self.common.sockets.append(self)
         self.rows, self.texts, self.buffers = self.common.rows, self.common.texts, self.common.buffers
         self.peers: list[ShellsPeer] = []
+        # Commands for new panes.
+        self.handed = HandedCommands(loop, lambda peer, line: self.send(peer, [line]))
         # What is noted of a zoom of this window.
         self.zoom = NotedZoom()
         self.listener: Listener | None = None
@@ -261,7 +264,7 @@ class ShellsSocket:
             self.send(peer, [f"{self.texts.state(asks[1])} {asks[1]}"])
         elif line == BROUGHT:
             self.send(peer, self.common.brought.lines())
-        elif self.take_buffer_line(peer, line) or self.take_client_line(peer, line):
+        elif self.take_buffer_line(peer, line) or self.take_client_line(peer, line) or self.take_run_line(peer, line):
             pass
         elif peer.asker and peer.asker.take(line):
             self.common.see_to_rows()
@@ -341,6 +344,23 @@ class ShellsSocket:
         peer.giving = Giving("", length, False, not refusal, refusal, is_buffer=True)
         self.buffers.coming += 0 if refusal else length
 
+    def take_run_line(self, peer: ShellsPeer, line: str) -> bool:
+        """Takes a command for a new pane, whose bytes follow, of who doesn't only watch; tells whether the line is one."""
+        runs = RUN.fullmatch(line)
+        if not runs or peer.watches():
+            return False
+        refusal = self.handed.refusal(int(runs[4]))
+        peer.giving = Giving(runs[1], int(runs[4]), False, not refusal, refusal)
+        peer.giving.beside = int(runs[2] or 0), int(runs[3] or 0)
+        return True
+
+    def take_run(self, peer: ShellsPeer, given: Giving, beside: tuple[int, int]) -> None:
+        """Has a command wait for its pane whose bytes are all there."""
+        if given.refusal:
+            self.send(peer, [f"{RAN} {given.name} {REFUSED} {given.refusal}"])
+        else:
+            self.handed.take(peer, given.name, beside, bytes(given.data))
+
     def give_buffer(self, peer: ShellsPeer, name: str, data: bytes | None) -> None:
         """Takes a buffer for a text, as if its characters were given."""
         text = cleaned((data or b"").decode("utf-8", "replace")).encode()
@@ -359,6 +379,9 @@ class ShellsSocket:
     def take_given(self, peer: ShellsPeer, given: Giving) -> None:
         """Has a text wait whose bytes are all there, and answers."""
         self.end_giving(peer)
+        if given.beside is not None:
+            self.take_run(peer, given, given.beside)
+            return
         if given.is_buffer:
             told = f"none {given.refusal}" if given.refusal else f"{self.buffers.add(bytes(given.data))} {given.length}"
             self.send(peer, [f"buffer add {told}"])
@@ -370,9 +393,10 @@ class ShellsSocket:
     def end_giving(self, peer: ShellsPeer) -> None:
         """Waits for no more of a text."""
         given = peer.giving
-        if given and given.is_kept and given.is_buffer:
+        is_counted = given and given.is_kept and given.beside is None
+        if given and is_counted and given.is_buffer:
             self.buffers.coming -= given.length
-        elif given and given.is_kept:
+        elif given and is_counted:
             self.texts.coming -= given.length
         peer.giving = None
         self.loop.drop(f"given by {peer.number}")
@@ -464,6 +488,7 @@ class ShellsSocket:
             self.loop.remove(peer.end)
             peer.end.close()
             self.peers.remove(peer)
+            self.handed.drop(peer)
             if peer.presence:
                 self.common.attended.leaves(peer.presence.name, self.loop.clock())
             is_zoomer = self.zoom.leave(peer.number)

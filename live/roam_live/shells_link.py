@@ -8,6 +8,7 @@ from collections.abc import Callable
 from roam_live.colours import COLOUR, Colours, told_in
 from roam_live.following import LET_GO, Following
 from roam_live.given import FULL
+from roam_live.handed import RAN
 from roam_live.kept_rows import BUFFER, AnswerReader, BadAnswer, RowsLink
 from roam_live.loops import Loop
 from roam_live.presence import HERE, LEAVE, WHO, Presence, ToldOthers, terminal_name
@@ -75,6 +76,8 @@ class ShellsLink(Following):
         # Whether its window was left, of which what was typed goes on.
         self.is_parting = False
         self.others_left: Callable[[str], object] = lambda count: None
+        # What is called with what becomes of a command that was handed over.
+        self.ran: Callable[[str], object] = lambda told: None
         # The lines by which this terminal brings what new panes have, once to each keeper: behind a cut another may have brought since.
         self.brings: list[str] = []
         # The colours of this terminal, as far as it told them, and what of that the keeper wasn't told: each is told them once.
@@ -177,6 +180,8 @@ class ShellsLink(Following):
                 self.leave_now()
             elif word == LEFT:
                 self.others_left(rest)
+            elif word == RAN:
+                self.ran(rest)
             elif word == ZOOMED:
                 self.zoomed = zoomed_in(rest.split(" ")) or self.zoomed
             else:

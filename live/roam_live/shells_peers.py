@@ -25,6 +25,8 @@ class Giving:
     def __init__(self, name: str, length: int, is_plain: bool, is_kept: bool, refusal: str, is_buffer: bool = False) -> None:
         self.name, self.length, self.is_plain, self.is_kept, self.refusal = name, length, is_plain, is_kept, refusal
         self.is_buffer = is_buffer
+        # Beside which making of a pane, or pane 0 for a window, it is to be run, where it is a command.
+        self.beside: tuple[int, int] | None = None
         self.left = length
         self.data = bytearray()
 

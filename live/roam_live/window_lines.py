@@ -10,6 +10,7 @@ if TYPE_CHECKING:
     from collections.abc import Callable
     from typing import Protocol
 
+    from roam_live.handed import Begins
     from roam_live.shells import ShellsSocket
     from roam_live.shells_peers import ShellsPeer
     from roam_live.terminal import Size
@@ -20,8 +21,9 @@ if TYPE_CHECKING:
         def named(self) -> dict[int, str]:
             """The windows that are there, and their names."""
 
-        def open(self, size: Size, beside: int, told: Callable[[int, str], object]) -> None:
-            """Opens a window of a size, asked for at another; told with its number, or with 0 and why there is none."""
+        def open(self, size: Size, beside: int, told: Callable[[int, str], object], begins: Begins | None = None) -> None:
+            """Opens a window of a size, asked for at another, that begins as is asked; told with its number, or with 0 and why there is
+            none."""
 
         def rename(self, number: int, name: str) -> bool:
             """Gives a window a name; whether it is there."""
@@ -38,8 +40,9 @@ if TYPE_CHECKING:
 # The words of lines that are said, and of those that are told.
 WINDOWS, WINDOW, GONE, OPENED, BELL, ACTIVITY, RUNS = "windows", "window", "gone", "opened", "bell", "activity", "runs"
 
-# How one asks for a window to be opened, named and shut. A size is cut to the largest that a session may have.
-OPEN = re.compile(r"open ([1-9]\d{0,4}) ([1-9]\d{0,4})", re.ASCII)
+# How one asks for a window to be opened, by a command that was handed over where its name stands there, named and shut. A size is cut to
+# the largest that a session may have.
+OPEN = re.compile(r"open ([1-9]\d{0,4}) ([1-9]\d{0,4})(?: ([0-9a-f]{16}))?", re.ASCII)
 NAME = re.compile(r"name ([1-9]\d?) (-|(?:[0-9a-f]{2}){1,119})", re.ASCII)
 SHUT = re.compile(r"shut ([1-9]\d?)", re.ASCII)
 
@@ -59,6 +62,7 @@ ASKED_AGAIN = 5.0
 
 WATCHES = "a terminal that only watches opens none"
 TOO_MANY = f"{MOST_OPENING} are being opened"
+NOT_HANDED = "its command isn't there"
 
 
 def name_in(word: str) -> str | None:
@@ -106,7 +110,7 @@ class WindowLines:
             runs = [f"{RUNS} {number} {name}" for number, name in self.table.in_front().items()]
             socket.send(peer, [*told, f"{WINDOWS} {len(told)}", *runs])
         elif opens:
-            self.open(socket, peer, largest((int(opens[1]), int(opens[2]))))
+            self.open(socket, peer, largest((int(opens[1]), int(opens[2]))), opens[3] or "")
         elif peer.watches():
             return False
         elif names and name_in(names[2]) is not None:
@@ -126,9 +130,9 @@ class WindowLines:
         if not is_there:
             socket.send(peer, [f"{GONE} {number}"])
 
-    def open(self, socket: ShellsSocket, peer: ShellsPeer, size: Size) -> None:
-        """Has a window opened, and answers once it is there, or can't be. A front end whose connection was cut asks again, and is told of
-        the same."""
+    def open(self, socket: ShellsSocket, peer: ShellsPeer, size: Size, name: str = "") -> None:
+        """Has a window opened, by a command of this name where there is one, and answers once it is there, or can't be. A front end whose
+        connection was cut asks again, and is told of the same."""
         refusal = WATCHES if peer.watches() else TOO_MANY if peer.opening >= MOST_OPENING else ""
         if refusal:
             socket.send(peer, [f"{OPENED} none {refusal}"])
@@ -140,10 +144,19 @@ class WindowLines:
             if left.number:
                 self.opened(left, left.number)
             return
+        begins = self.handed(name) if name else None
+        if name and not begins:
+            peer.opening -= 1
+            socket.send(peer, [f"{OPENED} none {NOT_HANDED}"])
+            return
         asked = AskedWindow(socket, peer, size)
         if peer.asks_windows:
             self.asked.append(asked)
-        self.table.open(size, socket.window, lambda number, why: self.opened(asked, number, why))
+        self.table.open(size, socket.window, lambda number, why: self.opened(asked, number, why), begins)
+
+    def handed(self, name: str) -> Begins | None:
+        """What was handed over under this name, at any window: who asks may be connected at another than he is."""
+        return next((found for found in (one.handed.for_window(name) for one in self.sockets) if found), None)
 
     def left(self, socket: ShellsSocket, size: Size) -> AskedWindow | None:
         """A window of this size that was asked for here by one who has left; None where there is none."""

@@ -28,6 +28,7 @@ from roam_live.typed import TypedQueue
 
 TYPE_CHECKING = False
 if TYPE_CHECKING:
+    from roam_live.handed import Begins
     from roam_live.terminal import Size
 
 # So many seconds a close may take before it is asked for anew.
@@ -192,7 +193,7 @@ class Shells:
     """The panes of a window with their commands."""
 
     def __init__(self, asked: Options, common: Common, peer: socket.socket | None = None, size: Size | None = None,
-                 folder: str = "") -> None:
+                 folder: str = "", first: Begins | None = None) -> None:
         self.asked, self.common, self.loop, self.rows = asked, common, common.loop, common.rows
         self.lasting = Lasting(asked.dir)
         self.panes: dict[int, PaneCommand] = {}
@@ -217,6 +218,8 @@ class Shells:
         self.awaited = size
         # Where that one's command begins, where another window tells it.
         self.folder = folder
+        # What its first pane begins with, where somebody asked for that.
+        self.first = first
         # True once it was reported that its sockets can't be restored.
         self.has_missed = False
         common.see_to(self.last)
@@ -227,6 +230,7 @@ class Shells:
         self.bells = BellSource(asked.dir, self.loop)
         common.shells.unmet.folder = asked.common
         self.socket = ShellsSocket(asked.dir, self.loop, self.look_at_fronts, common.shells, asked.window)
+        self.socket.handed.rect_of, self.socket.handed.folder_beside = self.rect_of, self.folder_beside
         # What runs in front in panes, as far as that was looked up.
         self.in_front: dict[int, str] = {}
         self.fronts = Fronts(self.loop, self.tell_front, f"window {asked.window} " if asked.window else "")
@@ -288,13 +292,16 @@ class Shells:
         pane, size = self.panes.get(number), self.awaited_size((rect.rows, rect.cols))
         self.untold.discard(number)
         if pane and pane.life == life:
+            self.socket.handed.moved(number, rect)
             pane.resize(size)
             self.rows.resize(self.key(number), size)
         else:
-            folder = self.folder_of_new()
+            folder, begins = self.folder_of_new(), self.handed_to(rect)
             self.drop(number)
             typed = TypedQueue(self.common.shells.texts, lambda: self.aside.has_set(number, BRACKETED))
-            self.panes[number] = PaneCommand(self.asked, self.loop, number, life, size, self.is_again, folder, typed)
+            self.panes[number] = PaneCommand(self.asked, self.loop, number, life, size, self.is_again,
+                                              begins and begins.folder or folder, typed)
+            self.panes[number].command = begins.command() if begins else []
             self.panes[number].follows, self.panes[number].brought = self.follow_now, self.common.shells.brought
             self.panes[number].gives_up = functools.partial(self.give_up, self.panes[number])
             self.panes[number].touches = functools.partial(self.note, self.panes[number])
@@ -323,10 +330,24 @@ class Shells:
 
     def folder_of_new(self) -> str:
         """Where a new pane's command starts: where the program in front in the pane in focus is, else where the server is."""
-        pane = self.panes.get(self.focus)
-        if self.folder and not self.panes:
-            return self.folder
+        return self.folder if self.folder and not self.panes else self.folder_beside(0)
+
+    def folder_beside(self, number: int) -> str:
+        """Where the program in front in a pane works, or in that in focus for 0."""
+        pane = self.panes.get(number or self.focus)
         return working_folder([*(pane.in_front() if pane else []), self.asked.server])
+
+    def rect_of(self, number: int, life: int) -> Rect | None:
+        """Where that making of a pane is; None where it isn't there."""
+        pane = self.panes.get(number)
+        return self.aside.rects.get(number) if pane and pane.life == life else None
+
+    def handed_to(self, rect: Rect) -> Begins | None:
+        """What a new pane begins with, where that was handed over for it."""
+        if self.panes or not self.first:
+            return self.socket.handed.for_pane(rect)
+        first, self.first = self.first, None
+        return first
 
     def begin(self, pane: PaneCommand) -> None:
         """Connects to a pane and runs its command there; the spare descriptor is for the pane to say what is refused."""

@@ -109,6 +109,8 @@ class WindowWishes:
         # What opens one, while it isn't answered; and where it wasn't said yet, since the keeper isn't connected: it may be soon, as where
         # it was launched just before.
         self.opens = self.unsaid = ""
+        # Whether the person stays where he is once a window is opened.
+        self.stays = False
         self.link = WindowsLink(self.path, loop, self.take, self.told.begin, self.lose)
 
     def path(self) -> str:
@@ -302,15 +304,16 @@ class WindowWishes:
 
     # ---- a window more
 
-    def open(self) -> None:
-        """Has a window be opened, of the size that this terminal shows all of."""
-        size, self.is_opening = self.front.display.room(), True
+    def open(self, handed: str = "", stays: bool = False) -> None:
+        """Has a window be opened, of the size that this terminal shows all of, by a command that was handed over where it is named; the
+        person goes there, or stays."""
+        size, self.is_opening, self.stays = self.front.display.room(), True, stays
         why = SMALL if not is_large_enough(size) else MANY if len(self.numbers()) >= MOST_WINDOWS else ""
         if why:
             # What stands behind in the same read was for it too.
             self.loop.later("window opens", 0.0, lambda: self.end_opening(why))
             return
-        self.opens = "open {} {}".format(*largest(size))
+        self.opens = "open {} {}".format(*largest(size)) + (f" {handed}" if handed else "")
         if self.link.peer:
             self.link.ask(self.opens)
         else:
@@ -340,8 +343,11 @@ class WindowWishes:
             return
         held, self.held = self.held, []
         self.end_opening("")
-        self.go_to(number)
-        if self.here() == number:
+        if self.stays:
+            self.front.display.tell(f"window {number} is there now", SAID)
+        else:
+            self.go_to(number)
+        if self.stays or self.here() == number:
             self.front.commands.typed(held)
         elif held:
             self.front.display.tell(f"window {number} can't be shown{DROPPED}", SAID)

@@ -22,6 +22,7 @@ from roam_live.window_shells import Common, Shells
 
 TYPE_CHECKING = False
 if TYPE_CHECKING:
+    from roam_live.handed import Begins
     from roam_live.loops import Loop
     from roam_live.terminal import Size
 
@@ -62,6 +63,8 @@ class KeptWindow:
         # Where its first pane's command begins, whether another keeper had it before, and whether it has a start here from the beginning:
         # of a session's first window who launches it sees to that, or a terminal of another machine has one there.
         self.begins_in, self.is_again, self.has_start = "", False, True
+        # What somebody asked for it to begin with.
+        self.begins: Begins | None = None
         # Whether its server is spawned by somebody else, and isn't known yet.
         self.is_given = False
         # Until when it has to be there, or gone.
@@ -110,8 +113,9 @@ class Windows:
         """The windows that are there, and their names."""
         return {number: one.name for number, one in self.windows.items() if one.state == THERE}
 
-    def open(self, size: Size | None, beside: int, told: Callable[[int, str], object]) -> None:
-        """Opens a window, of a size where one is named, asked for at another; told with its number, or with 0 and why there is none."""
+    def open(self, size: Size | None, beside: int, told: Callable[[int, str], object], begins: Begins | None = None) -> None:
+        """Opens a window, of a size where one is named, asked for at another, that begins as is asked; told with its number, or with 0 and
+        why there is none."""
         number = self.free_number()
         if not number or self.common.is_over:
             told(0, OVER if number else FULL)
@@ -120,7 +124,7 @@ class Windows:
         window = KeptWindow(number, processes, told)
         window.has_start = size is not None
         window.size = (max(size[0], LEAST[0]), max(size[1], LEAST[1])) if size else None
-        window.begins_in = self.folder_beside(beside)
+        window.begins, window.begins_in = begins, begins and begins.folder or self.folder_beside(beside)
         self.windows[number] = window
         self.begin(window)
 
@@ -310,7 +314,7 @@ class Windows:
                 self.common.hung.append(processes.spawn_start())
             asked = self.asked.of_window(window.number, processes.folder, processes.server(), window.is_again)
             size = (window.size[0] - 1, window.size[1]) if window.size else None
-            window.shells = Shells(asked, self.common, peer, size, window.begins_in)
+            window.shells = Shells(asked, self.common, peer, size, window.begins_in, window.begins)
             window.shells.tended = functools.partial(self.tell_news, window)
         except BaseException:
             peer.close()
@@ -344,7 +348,10 @@ class Windows:
             self.loop.later(f"window {window.number} has its size", OPENS, window.shells.await_no_more)
         if window.shells:
             self.loop.soon(window.shells.tend)
-        self.lines.tell_window(window.number)
+        if window.begins and window.begins.title:
+            self.rename(window.number, window.begins.title)
+        else:
+            self.lines.tell_window(window.number)
         window.told(window.number, "")
         self.await_spare()
 

@@ -215,3 +215,33 @@ def differs(seen, wanted):
     """Where one text is another."""
     place = next((at for at, (one, other) in enumerate(zip(seen, wanted)) if one != other), min(len(seen), len(wanted)))
     return f"at {place} of {len(wanted)}, {seen[place - 20 : place + 40]!r} for {wanted[place - 20 : place + 40]!r}"
+
+
+@scene
+def begun_with(folder):
+    """A command in a new pane or window, by C-b :, by a key of roam.conf and from outside; what isn't done of it is refused."""
+    path = folder / "config/roam/roam.conf"
+    path.parent.mkdir(parents=True)
+    path.write_text("bind H split-window -h 'echo by-a-key; cat'\nbind e new-window -n ed sh\n", encoding="utf-8")
+    outer = Outer(tool("mux", SESSION), environment={"XDG_CONFIG_HOME": str(folder / "config")})
+    outer.shows("$ ")
+    outer.type(b"\x02H")
+    check("a key of roam.conf runs a command in a new pane", outer.shows("by-a-key") and outer.status(" 1 [2]"), outer.rows)
+    outer.type(b"\x02z")
+    check("a pane is zoomed", comes(lambda: not any("\u2502" in row for row in outer.rows())), outer.rows)
+    outer.type(b"\x02:split-window -d -c /usr cat -; send-keys behind\r")
+    check("C-b : does, beside the pane that stays in focus", outer.status(" 1 [2] 3") and outer.shows("behind"), outer.rows)
+    told = said("cmd", SESSION, "split-window", "-c", "/etc", "pwd; exec cat")
+    check("so does mux cmd, in a folder", told == (0, "", "") and outer.shows("/etc"), told)
+    told = said("cmd", SESSION, "split-window", "-c", "/no/folder", "cat")
+    check("a folder that isn't there is told, and nothing split", told[0] == 1 and "the folder isn't there" in told[2], told)
+    told = said("cmd", SESSION, "split-window", "-l", "5", "cat")
+    check("so is a flag that isn't done", told == (1, "", "mux: split-window: it has no -l here\n"), told)
+    check("and no pane came", "4 panes" in said("list-windows", SESSION)[1], said("list-windows", SESSION))
+    outer.type(b"\x02e")
+    check("a key opens a window with a name", outer.shows("2:ed*"), outer.rows)
+    outer.type(b"\x02:neww -d -n logs -c /usr 'pwd; exec cat'\r")
+    check("-d opens one and stays", outer.shows("window 3 is there now"), outer.rows)
+    is_there = comes(lambda: "/usr" in said("capture", f"{SESSION}:3")[1] and "logs" in said("list-windows", SESSION)[1])
+    check("whose command runs in its folder, under its name", is_there, said("list-windows", SESSION))
+    subprocess.run(tool("mux", "kill", "-f", SESSION), check=True)

@@ -113,6 +113,7 @@ KNOWN = {
     ("roam_live/terminal.py", "LEFT", "ESC"): WRITES,
     ("roam_live/terminal.py", "RESET", "ESC"): BEGIN,
     ("roam_live/terminal.py", "unwrapped", "ESC"): WRITES,
+    ("roam_live/handed.py", "RUN", "re"): LINES,
     ("roam_live/shells.py", "ASK", "re"): LINES,
     ("roam_live/row_keeping.py", "SHOWS_OTHER", "ESC"): "is handed to the filter of rows, and reads nothing",
     ("roam_live/row_pieces.py", "characters", "ESC"): ROWS,

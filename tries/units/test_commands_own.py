@@ -30,10 +30,20 @@ ASKED = (
     ("rename-window my own", [], "window name", "my own"), ("send-prefix", [], "prefix", ""),
 )
 WRONG = (("kill-pane -t 3", "kill-pane: it has no -t here"), ("killw -a", "killw: it has no -a here"),
-         ("neww -c /tmp", "neww: -c has #{pane_current_path} alone here"), ("nosuch", "nosuch is no command of roam"),
+         ("neww -c #{pane_id}", "neww: -c has a folder or #{pane_current_path} here"), ("nosuch", "nosuch is no command of roam"),
          ("splitw -Q", "splitw: it has no -Q here"), ("selectw -t 100", "selectw: 100 is no number from 1 to 99"),
          ("selectp -t 0", "selectp: 0 is no number from 1 to 9"), ("resizep", "resizep: it has -L, -R, -U, -D or -Z"),
-         ("killp x", "killp: it has no word x"),
+         ("killp x", "killp: it has no word x"), ("selectl tiled", "selectl: it has no word tiled"),
+         ("selectl even-vertical x", "selectl: it has no word x"), ("copy-mode x", "copy-mode: it has no word x"),
+         ("selectw -t 1 2", "selectw: it has no word 2"), ("selectw 1 2", "selectw: it has no word 2"),
+         ("selectp 2", "selectp: it has no word 2"),
+         ("resizep -Z 1", "resizep: it has no word 1"), ("resizep -L 1 2", "resizep: it has no word 2"),
+         ("splitw -l 5 htop", "splitw: it has no -l here"), ("splitw -n name", "splitw: it has no -n here"),
+         (f"neww -n {'n' * 65}", "neww: a name has 64 printable characters at most"),
+         ("send-keys", "send-keys: it has keys or a text behind it"),
+         ("send-keys C-;", "send-keys: C-; names a key that sends nothing; -l types its characters"),
+         (f"display {'x' * 1001}", "display: it has 1000 characters at most"),
+         (f"send-keys {'x' * 1001}", "send-keys: it has 100 words of 1000 characters at most"),
          ("display", "display: it has a text behind it"), ("\x1b[2J", "?[2J is no command of roam"))
 
 
@@ -49,6 +59,21 @@ class Table(unittest.TestCase):
     def test_asked(self):
         for words, acts, wish, text in ASKED:
             self.assertEqual(tuple(asked_by(words.split(" ")))[:3], (acts, wish, text), words)
+
+    def test_begins(self):
+        """What a new pane or window begins with: the words of a command, a folder, a name, and whether one stays."""
+        for words, wish, begins in (
+            ("splitw htop", "split down", (["htop"], "", "", False)),
+            ("splitw -h htop -d 5", "split right", (["htop", "-d", "5"], "", "", False)),
+            ("splitw -d -- -x", "split down", (["-x"], "", "", True)), ("splitw -c /tmp", "split down", ([], "/tmp", "", False)),
+            ("splitw -h -c #{pane_current_path} vi", "split right", (["vi"], "", "", False)),
+            ("neww -n logs -c ~ tail -f x", "window new", (["tail", "-f", "x"], "~", "logs", False)),
+            ("neww -d", "window new", ([], "", "", True)),
+        ):
+            asked = asked_by(words.split(" "))
+            self.assertEqual((asked.wish, tuple(asked.begins)), (wish, begins), words)
+        for words in ("splitw", "splitw -h", "neww", "neww -c #{pane_current_path}"):
+            self.assertIsNone(asked_by(words.split(" ")).begins, words)
 
     def test_wrong(self):
         for words, why in WRONG:

@@ -208,7 +208,7 @@ class Sizes(Case):
     def test_open(self):
         """A size is cut to the largest that a session may have; what isn't a size is a bad line."""
         asked = []
-        table = mock.Mock(open=lambda size, beside, told: asked.append(size))
+        table = mock.Mock(open=lambda size, beside, told, begins: asked.append(size))
         lines = window_lines.WindowLines(table, [])
         peer = mock.Mock(watches=lambda: False, opening=0, asks_windows=False)
         one = mock.Mock(window=1)

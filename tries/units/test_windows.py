@@ -9,6 +9,8 @@ from unittest import mock
 
 from aids import Case, StillLoop, read_now
 from roam_live import mending, pane_commands, program, window_processes, window_shells, windows
+from roam_live.handed import Begins
+from roam_live.places import Rect
 from roam_live.program import Fault, begun
 from roam_live.window_lines import ASKED_AGAIN, MOST_WINDOWS, name_in, name_word
 from roam_live.window_notes import note_ends, numbers_in, stands_ready
@@ -379,6 +381,28 @@ class Told(Played):
         self.turns(2)
         self.comes_up(3)
         self.assertIn(3, self.windows.named())
+
+    def test_begins(self):
+        """A window begins with what was handed over for it, by its name: a command in its first pane alone, a folder and a name; of a name
+        by which nothing was it isn't opened."""
+        self.opened()
+        name, data = "0123456789abcdef", Begins(["htop", "-d"], "/", "logs").packed()
+        one = self.asker(1, f"windows\nrun {name} window {len(data)}\n".encode() + data + f"open 30 90 {name}\n".encode())
+        self.assertIn(f"run {name} ready\nrun {name} done\n".encode(), read_now(one))
+        self.comes_up(2)
+        self.assertIn(b"window 2 " + b"logs".hex().encode() + b"\nopened 2\n", read_now(one).replace(b"activity 2\n", b""))
+        panes = self.windows.windows[2].shells.panes
+        self.assertEqual([(pane.command, pane.folder) for pane in panes.values()], [(["htop", "-d"], "/")])
+        self.assertEqual(self.windows.windows[2].shells.handed_to(Rect(1, 1, 9, 9)), None)
+        # It may be handed over at another window's socket.
+        self.asker(2, f"run {'a' * 16} window {len(data)}\n".encode() + data)
+        one.send(f"open 30 90 {'a' * 16}\n".encode())
+        self.turns(3)
+        self.comes_up(3)
+        self.assertEqual([pane.command for pane in self.windows.windows[3].shells.panes.values()], [["htop", "-d"]])
+        read_now(one)
+        self.assertEqual(self.said_by(one, f"open 30 90 {name}\n".encode()).replace(b"activity 2\n", b""),
+                         b"opened none its command isn't there\n")
 
     def asks_again(self, size):
         """What a front end is told that asks for a window of a size as its connection before was cut, and how many servers were spawned."""
