@@ -15,6 +15,7 @@ from roam_live.copying import INTERRUPT, Copying, CopyEvent
 from roam_live.display import NO_SIZE, Display
 from roam_live.foci import Foci
 from roam_live.handing import Handing
+from roam_live.helping import Helping
 from roam_live.extended_keys import ANSWERED, form_for
 from roam_live.key_names import spelled
 from roam_live.keys import TYPES, Key, Keys, acts_of
@@ -111,7 +112,7 @@ class Commands:
         self.left_size = NO_SIZE
         self.copying, self.choosing = Copying(self, loop), Choosing(self)
         self.zooming, self.border_keys, self.foci = Zooming(self, loop), BorderKeys(self, loop), Foci(panes)
-        self.handing = Handing(self)
+        self.handing, self.helping = Handing(self), Helping(self)
         display.moved = self.fit_drawn
         # The windows of the session, and a list of them, where it may have several.
         self.windows: WindowWishes | None = None
@@ -164,6 +165,8 @@ class Commands:
             self.reported(key)
             return
         is_help = self.display.cover == self.help
+        if is_help and self.helping.takes(key):
+            return
         if is_help:
             self.display.uncover()
         # A key that ends the help means nothing else, unless it begins something.
@@ -428,7 +431,7 @@ class Commands:
             self.ask_size()
             self.display.resettle()
         elif wish == "help":
-            self.display.show(self.help)
+            self.helping.show()
         elif wish.startswith("copy"):
             self.copy(wish)
         elif wish == "row":

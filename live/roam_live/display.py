@@ -10,7 +10,7 @@ from collections.abc import Callable
 from roam_live import terminal
 from roam_live.asides import GivenAside, GivenClip
 from roam_live.colours import ASKED
-from roam_live.last_row import ALL_PANES, BETWEEN, SYNCHRONIZED, ZOOMED, clipped, columns, fitted, label_at, row_text, said, tail
+from roam_live.last_row import ALL_PANES, BETWEEN, SYNCHRONIZED, ZOOMED, clipped, columns, cut, fitted, label_at, row_text, said, tail
 from roam_live.status_styles import ROW_STYLE, Styled
 from roam_live.loops import WRITE, Loop, ready
 from roam_live.places import Rect
@@ -201,6 +201,8 @@ class Display:
         # What stands in place of the session; what is told in the last row; for how many seconds nothing was heard of the server; and the
         # panes.
         self.cover = self.told = ""
+        # From which row on a cover is shown, the last such row, and what its last row tells of that.
+        self.cover_first, self.cover_most, self.cover_foot = 0, 0, ""
         self.silent = 0
         self.labels = ""
         # What a person is asked, above all that is told, and whether that is a line that is typed.
@@ -493,13 +495,19 @@ class Display:
 
     # ---- lines in place of the session
 
-    def show(self, text: str) -> None:
-        """Shows lines in place of the session."""
-        self.cover, self.is_stale, self.line_put = text, True, None
+    def show(self, text: str, first: int = 0, foot: str = "") -> None:
+        """Shows lines in place of the session; where they have no room, and a last row is to tell that, from one on."""
+        self.cover, self.is_stale, self.line_put, self.cover_foot = text, True, None, foot
         self.end_entering()
         self.forget_drawn()
         rows, cols = self.outer.size()
-        lines = [part for line in text.split("\n") for part in wrapped(printable(line), max(1, cols - 1))][: max(1, rows)]
+        lines = [part for line in text.split("\n") for part in wrapped(printable(line), max(1, cols - 1))]
+        self.cover_most = len(lines) - rows + 1 if foot and rows > 1 and len(lines) > rows else 0
+        self.cover_first = min(first, self.cover_most)
+        if self.cover_most:
+            shown = lines[self.cover_first : self.cover_first + rows - 1]
+            lines = [*shown, cut(foot.format(self.cover_first + 1, self.cover_first + len(shown), len(lines)), cols - 1)]
+        lines = lines[: max(1, rows)]
         self.outer.waiting += terminal.CLEARED + terminal.unwrapped("\r\n".join(lines))
 
     def uncover(self) -> None:
@@ -524,7 +532,7 @@ class Display:
         many sizes come where it is drawn by hand."""
         self.line_put = None
         if self.cover:
-            self.show(self.cover)
+            self.show(self.cover, self.cover_first, self.cover_foot)
         self.is_stale = self.is_stale or not self.fits()
         if "paint" not in self.loop.due:
             self.loop.later("paint", DRAWN, lambda: self.choose(is_painted=True))

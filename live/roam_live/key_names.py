@@ -153,9 +153,14 @@ SPELLED = {"pageup": "PageUp", "pagedown": "PageDown", "bspace": "BSpace", "kpen
 
 def spelled(key: Key) -> str:
     """Return the name of a key as a person reads it, such as `M-Left`, `C-a` or `F5`; `this key` if it has none."""
-    name = next(iter(names_of_key(key)), "this key")
+    name = next(iter(names_of_key(key)), "")
+    return spelled_name(name) if name else "this key"
+
+
+def spelled_name(name: str) -> str:
+    """Return a key's name as a person reads it."""
     held, last = (name[:-1], name[-1]) if name.endswith("-") else (name[: name.rfind("-") + 1], name[name.rfind("-") + 1 :])
-    if name == "this key" or len(last) == 1:
+    if len(last) == 1:
         return name
     return held + (SPELLED.get(last) or (last.upper() if last.startswith("kp") else last.capitalize()))
 

@@ -65,3 +65,20 @@ def settings_changed(folder):
     check("it is there again", other.shows("[2]"), other.rows())
     other.type(b"\x18d")
     check("the environment's prefix goes before the file's", other.ends(), other.rows())
+
+
+@scene
+def keys_shown(folder):
+    """C-b ? shows the keys as the file has them, which it names, and scrolls on a small terminal."""
+    os.environ["XDG_CONFIG_HOME"] = str(folder / "config")
+    written("bind | split-window -h\nunbind x\nbind -n F5 new-window\n")
+    outer = Outer(tool("mux", SESSION), (12, 60))
+    outer.shows("[1]")
+    outer.type(b"\x02?")
+    check("what the file binds is shown first", outer.shows("C-b and then, by roam.conf:") and outer.shows("split-window -h"), outer.rows())
+    check("and what it unbinds", outer.shows("  x          nothing"), outer.rows())
+    check("the last row tells that there is more", outer.shows("1 to 11 of"), outer.rows())
+    outer.type(b"G")
+    check("it scrolls to the end", outer.shows("C-b itself") and not outer.shows("by roam.conf", 0.3), outer.rows())
+    outer.type(b"q")
+    check("another key leaves", outer.status("[1]"), outer.rows())
