@@ -18,8 +18,8 @@ NOTHING = "nothing of that buffer can be typed"
 
 
 def sample(data: bytes) -> str:
-    """The first printable characters of a text."""
-    text = data[: 4 * SAMPLE].decode("utf-8", "replace")
+    """The first printable characters of a text, in which a line's end is `\\n`, as in tmux."""
+    text = data[: 4 * SAMPLE].decode("utf-8", "replace").replace("\r\n", "\n").replace("\r", "\n").replace("\n", "\\n")
     return "".join(letter for letter in text if letter.isprintable())[:SAMPLE]
 
 

@@ -200,7 +200,7 @@ class Choosing(ChoiceList):
     def text(self, place: int) -> str:
         """A buffer's number, how long it is and how it begins."""
         note = self.notes[place]
-        return f"{note.number}: {note.length} bytes: {as_ascii(note.sample)}"
+        return f"{note.number}: {note.length} bytes: {printable(note.sample)}"
 
     def told(self) -> str:
         """Which buffer is chosen."""
@@ -272,8 +272,3 @@ class ChoosingWindow(ChoiceList):
             self.go(int(key.name) or 10)
             return True
         return super().takes(key)
-
-
-def as_ascii(text: str) -> str:
-    """A text of which each character takes a column: others than those of ASCII are a `?`."""
-    return printable(text).encode("ascii", "replace").decode()

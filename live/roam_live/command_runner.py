@@ -12,6 +12,7 @@ from roam_live.choices import BY_FILE, choose_by_file
 from roam_live.command_table import CommandWish, BadCommand, asked_by, completed
 from roam_live.keys import Key, acts_of
 from roam_live.loops import Loop
+from roam_live.own_settings import OWN
 from roam_live.program import read, reason
 from roam_live.synchronizing import OPTION
 from roam_live.window_lines import name_word
@@ -39,6 +40,9 @@ if TYPE_CHECKING:
 
         def go_by_settings(self, otherwise: str = "") -> None:
             """Goes by the settings as they are now."""
+
+        def filled(self, text: str) -> str:
+            """What a format says now. ValueError tells what of it isn't there in roam."""
 
 # So many seconds a line stands that a command tells; so many lines that were typed are kept, each so long; and so many programs run at
 # once, of which so much is heard.
@@ -147,6 +151,8 @@ class CommandRunner:
             commands.synchronizing.settle()
         elif asked.wish == "set":
             self.set_option(asked.words)
+        elif asked.wish == "bind":
+            self.bind(asked.words)
         elif asked.wish in does:
             does[asked.wish](asked.text)
         elif asked.wish == "panes":
@@ -181,8 +187,11 @@ class CommandRunner:
     # ---- what has a text
 
     def tell_text(self, text: str) -> None:
-        """Tells a text."""
-        self.tell(printable(text))
+        """Tells a text, in which formats stand."""
+        try:
+            self.tell(printable(self.front.filled(text)))
+        except ValueError as fault:
+            raise BadCommand(str(fault)) from None
 
     def type_prefix(self, text: str) -> None:
         """Types the prefix."""
@@ -223,6 +232,16 @@ class CommandRunner:
             self.front.go_by_settings()
         else:
             self.front.commands.grant("synchronize", Key("", ""))
+
+    def bind(self, words: list[str]) -> None:
+        """Binds a key, or unbinds one, at this terminal and until the settings are read anew."""
+        from roam_live.settings_words import BadWord
+
+        try:
+            OWN.bind(words)
+        except BadWord as fault:
+            raise BadCommand(str(fault)) from None
+        self.front.go_by_settings()
 
     def run_shell(self, text: str) -> None:
         """Runs a command of the shell beside."""

@@ -171,6 +171,13 @@ def keys_sent(flags: Flags) -> CommandWish:
     return CommandWish([act for some in acts for act in some], "", "")
 
 
+def bound(flags: Flags) -> CommandWish:
+    """Reads what binds a key or unbinds one: the settings have the rest of that."""
+    if not flags.words and not flags.has("a"):
+        raise BadCommand("it has a key")
+    return CommandWish([], "bind", "")
+
+
 def texted(word: str, is_needed: bool = True) -> Callable[[Flags], CommandWish]:
     """Reads a command that has a text."""
     def read(flags: Flags) -> CommandWish:
@@ -215,7 +222,9 @@ TABLE = (
     NamedCommand(("command-prompt",), "", wish("command line"), "asks for a command"),
     NamedCommand(("source-file", "source"), "q", texted("settings", is_needed=False), "reads the settings file anew"),
     NamedCommand(("set-option", "set", "set-window-option", "setw"), "agowqsu", texted("set"), "sets an option at this terminal"),
-    NamedCommand(("display-message", "display"), "p", texted("tell"), "tells a text in the last row"),
+    NamedCommand(("bind-key", "bind"), "nrT:N:", bound, "binds a key at this terminal, until the file is read anew"),
+    NamedCommand(("unbind-key", "unbind"), "anqT:", bound, "unbinds a key there, or all with -a"),
+    NamedCommand(("display-message", "display"), "p", texted("tell"), "tells a text in the last row, with the formats of status-left"),
     NamedCommand(("run-shell", "run"), "b", texted("run"), "runs a command of the shell"),
     NamedCommand(("toggle-mouse",), "", wish("mouse"), "has roam have the mouse, or not"),
     NamedCommand(("toggle-status",), "", wish("row"), "hides the last row, or shows it"),

@@ -196,6 +196,10 @@ class FrontEnd:
         if binding:
             self.runner.run_all(binding.commands)
 
+    def filled(self, text: str) -> str:
+        """What a format says now. ValueError tells what of it isn't there in roam."""
+        return self.status_row.filled(text)
+
     def run_file(self) -> None:
         """Runs what the settings file has the shell run."""
         self.runner.run_all([["run-shell", command] for command in OWN.found.runs] if OWN.found else [])

@@ -4,6 +4,7 @@ from __future__ import annotations
 from roam_live.bindings import help_with
 from roam_live.command_table import BY_NAME, DEFAULT_KEYS, NamedCommand
 from roam_live.key_names import named, named_key, spelled_name
+from roam_live.own_settings import OWN
 
 TYPE_CHECKING = False
 if TYPE_CHECKING:
@@ -26,11 +27,12 @@ PAGES = {"prev": -1, "next": 1, " ": 1}
 COLUMNS, MOST = 10, 48
 
 
-def help_of(prefix: str, own: Own) -> str:
-    """The keys, where a person has bound these."""
+def help_of(prefix: str, own: Own, is_typed: bool = False) -> str:
+    """The keys, where a person has bound these, by the file alone or also by a command that was typed."""
     if not own:
         return help_with(prefix)
-    lines = section(f"{prefix} and then, by roam.conf:", own, "prefix") + section("without it, by roam.conf:", own, "root")
+    by = f"roam.conf or {prefix} :bind" if is_typed else "roam.conf"
+    lines = section(f"{prefix} and then, by {by}:", own, "prefix") + section(f"without it, by {by}:", own, "root")
     if ("prefix", ALL) not in own:
         lines += [f"{prefix} and then, as roam has it:", *default_lines(own), f"  {prefix:{COLUMNS}} {prefix} itself"]
     return "\n".join(lines)
@@ -77,7 +79,7 @@ class Helping:
     def show(self) -> None:
         """Shows them."""
         commands = self.commands
-        commands.help = help_of(commands.prefix, commands.typing.own)
+        commands.help = help_of(commands.prefix, commands.typing.own, OWN.is_typed)
         commands.display.show(commands.help, foot=FOOT)
 
     def takes(self, key: Key) -> bool:

@@ -63,10 +63,12 @@ class OwnSettings:
 
     def __init__(self) -> None:
         self.found: FileSettings | None = None
+        # Whether a key is bound, or unbound, by a command that was typed.
+        self.is_typed = False
 
     def read(self) -> None:
         """Reads it, and goes by it."""
-        self.found = read_settings()
+        self.found, self.is_typed = read_settings(), False
 
     def add(self, path: str) -> None:
         """Reads another file, and goes by it too."""
@@ -78,6 +80,27 @@ class OwnSettings:
         found.bindings.update(self.found.bindings if self.found else {})
         take(found, os.path.expanduser(path))
         self.found = found
+
+    def bind(self, words: list[str]) -> None:
+        """Binds a key, or unbinds one, by the words of a command, until the file is read anew. BadWord tells why that can't be."""
+        from roam_live.command_table import BY_NAME
+        from roam_live.settings import FileSettings
+        from roam_live.settings_words import BadWord
+
+        found = FileSettings(commands=BY_NAME)
+        found.bindings.update(self.found.bindings if self.found else {})
+        before = dict(found.bindings)
+        does = found.unbind if words[0].startswith("unbind") else found.bind
+        does([*words[1:]])
+        for place, binding in found.bindings.items():
+            why = next(filter(None, map(refused, binding.commands)), "") if binding and before.get(place) != binding else ""
+            if why:
+                raise BadWord(f"{place[1]} isn't bound: {why}")
+        if self.found:
+            self.found.bindings = found.bindings
+        else:
+            self.found = found
+        self.is_typed = True
 
     def line(self) -> str:
         """What is told of it at a terminal."""

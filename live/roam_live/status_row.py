@@ -62,6 +62,15 @@ class StatusRow:
         left, right = (filled(read, values, now) for read in self.formats)
         return left, right
 
+    def filled(self, text: str) -> str:
+        """What a format says now, without its styles. ValueError tells what of it isn't there in roam."""
+        from roam_live.status_formats import filled, read_format
+
+        read = read_format(text)
+        if read.wrong:
+            raise ValueError(f"{read.wrong[0][:40]} isn't there in roam")
+        return "".join(one.text for one in filled(read, self.values(), time.time()))
+
     def values(self) -> dict[str, str]:
         """What the words of formats stand for."""
         front, told = self.front, self.front.windows.told

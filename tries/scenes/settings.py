@@ -82,3 +82,23 @@ def keys_shown(folder):
     check("it scrolls to the end", outer.shows("C-b itself") and not outer.shows("by roam.conf", 0.3), outer.rows())
     outer.type(b"q")
     check("another key leaves", outer.status("[1]"), outer.rows())
+
+
+@scene
+def at_prompt(folder):
+    """C-b : binds and unbinds keys at this terminal, and tells formats; buffers are listed with all characters and line ends."""
+    os.environ["XDG_CONFIG_HOME"] = str(folder / "config")
+    outer = Outer(tool("mux", SESSION))
+    outer.shows("$ ")
+    outer.type(b"\x02:bind v split-window -h\r\x02v")
+    check("a key is bound", outer.status(" 1 [2]"), outer.rows())
+    outer.type(b"\x02:unbind v\r\x02v")
+    check("and unbound", outer.shows("C-b v is not bound"), outer.rows())
+    outer.type(b"\x02:display '#S has pane #P'\r")
+    check("a format is told", outer.shows(f"{SESSION} has pane 2"), outer.rows())
+    outer.type(b"\x02:display '#{pane_pid}'\r")
+    check("and one that roam hasn't", outer.shows("#{pane_pid} isn't there in roam"), outer.rows())
+    said("buffer", "set", SESSION, "\u6f22\u00e9\nnext")
+    outer.type(b"\x02=")
+    check("a buffer is listed with all characters", outer.shows("10 bytes: \u6f22\u00e9\\nnext"), outer.rows())
+    outer.type(b"q")

@@ -158,7 +158,7 @@ class Buffered(Asked):
         self.assertEqual(self.printed_by(asked_rows.set_buffer, "one\x1b[2J"), "")
         with mock.patch.object(sys, "stdin", types.SimpleNamespace(buffer=io.BytesIO(b"two\n\tb\xff\n"))):
             self.assertEqual(self.printed_by(asked_rows.set_buffer, None), "")
-        self.assertEqual(self.printed_by(asked_rows.list_buffers), "2: 8 bytes: twob\ufffd\n1: 7 bytes: one[2J\n")
+        self.assertEqual(self.printed_by(asked_rows.list_buffers), "2: 8 bytes: two\\nb\ufffd\\n\n1: 7 bytes: one[2J\n")
         self.patch_of(asked_rows.os, "isatty", lambda end: False)
         self.assertEqual(self.printed_by(asked_rows.show_buffer, "1"), "one\x1b[2J")
         self.patch_of(asked_rows.os, "isatty", lambda end: True)

@@ -9,11 +9,12 @@ from aids import Case
 from roam_live import choices
 from roam_live.bindings import BINDINGS, BORDERS, HELP, WISHES, Typing
 from roam_live.command_runner import CommandLine, CommandRunner
-from roam_live.command_table import DEFAULT_KEYS, BadCommand, asked_by, completed
+from roam_live.command_table import BY_NAME, DEFAULT_KEYS, BadCommand, asked_by, completed
 from roam_live.key_names import name_of_key
 from roam_live.keys import Keys
 from roam_live.loops import Loop
-from roam_live.settings import Binding
+from roam_live.own_settings import OWN
+from roam_live.settings import Binding, FileSettings
 
 TOP = pathlib.Path(__file__).resolve().parents[2]
 
@@ -190,6 +191,35 @@ class Line(Case):
         self.commands.display.tell.assert_called_once_with("two?[2J", 4.0)
         self.runner.runs[0].process.wait()
         self.assertTrue(self.runner.runs[0].has_ended())
+
+    def test_told(self):
+        """A text is told with its formats filled; one of which roam hasn't all is refused."""
+        self.runner.front.filled.side_effect = lambda text: text.replace("#S", "main")
+        self.runner.typed("display '#S is it'")
+        self.commands.display.tell.assert_called_once_with("main is it", 4.0)
+        self.runner.front.filled.side_effect = ValueError("#{pid} isn't there in roam")
+        self.runner.typed("display '#{pid}'")
+        self.commands.display.tell.assert_called_with("#{pid} isn't there in roam", 4.0)
+
+    def test_bound(self):
+        """Keys are bound and unbound at this terminal, beside those of the file; what can't be is told, and changes nothing."""
+        self.addCleanup(OWN.__init__)
+        OWN.found = FileSettings(commands=BY_NAME)
+        OWN.found.bindings["prefix", "r"] = Binding([["kill-pane"]], False)
+        self.runner.typed("bind v split-window -h; bind -n F5 next-window; unbind r")
+        found = {("prefix", "r"): None, ("prefix", "v"): Binding([["split-window", "-h"]], False),
+                 ("root", "f5"): Binding([["next-window"]], False)}
+        self.assertEqual((OWN.found.bindings, OWN.is_typed), (found, True))
+        self.assertEqual(self.runner.front.go_by_settings.call_count, 3)
+        for line, why in (("bind v nosuch", "nosuch is no command of roam, so v isn't bound"),
+                          ("bind w swapp", "swapp is no command of roam, so w isn't bound"),
+                          ("bind v split-window -Q", "v isn't bound: split-window: it has no -Q here"),
+                          ("bind", "bind: it has a key"), ("unbind nokey", "nokey is no key that is known here"), ("bind v", "bind v has no command")):
+            self.runner.typed(line)
+            self.assertEqual(self.commands.display.tell.call_args.args[0], why)
+            self.assertEqual(OWN.found.bindings, found)
+        self.runner.typed("unbind -a")
+        self.assertEqual(OWN.found.bindings, {("prefix", "all"): None, ("root", "f5"): found["root", "f5"]})
 
     def test_set(self):
         """An option is set at this terminal; one that can't be is told."""

@@ -820,7 +820,7 @@ class Chosen(Copied):
         self.kept.texts = [b"first", "\u6f22 \x1b[31m".encode(), b"third"]
         person.types(b"\x02=")
         self.settle(person)
-        self.assertEqual(person.shown()[:4], ["2: 5 bytes: third", "1: 9 bytes: ? ?[31m", "0: 5 bytes: first", ""])
+        self.assertEqual(person.shown()[:4], ["2: 5 bytes: third", "1: 9 bytes: \u6f22 ?[31m", "0: 5 bytes: first", ""])
         self.assertEqual(person.shown()[23], "buffer 2 of 3: Return pastes it, up and down choose, q leaves")
         for keys, number in ((b"j", 1), (b"k", 2), (b"k", 2), (b"\x1b[B", 1), (b"\x1b[A", 2), (b"G", 0), (b"j", 0), (b"g", 2), (b"j", 1)):
             self.assertEqual(person.types(keys), [])

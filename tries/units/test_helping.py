@@ -51,6 +51,10 @@ class Texts(unittest.TestCase):
             self.assertTrue(key in ("x", "r", ":") or key in keys, key)
         self.assertIn("  :          command-prompt: asks for a command\n", others)
 
+    def test_typed(self):
+        """Where a key is bound by a command that was typed that is told too."""
+        self.assertIn("C-b and then, by roam.conf or C-b :bind:\n", help_of("C-b", OWN, True))
+
     def test_all(self):
         """Where all keys are unbound there are no others."""
         text = help_of("C-b", {("prefix", "all"): None, ("prefix", "c"): Binding([["new-window"]], False)})

@@ -145,6 +145,13 @@ class Row(Case):
         self.assertEqual((self.display.status, self.display.line()), (None, "[1]" + " " * 37))
         self.assertEqual(self.display.parts[0] + [Styled("", "")], [Styled("", "")])
 
+    def test_filled(self):
+        """A format alone is filled by the same values, without styles; what of it isn't there is told."""
+        self.assertEqual(self.row.filled("#[fg=red]#S #I, #{window_name} 50% \x1b"), "main 2, vim 50% ?")
+        with self.assertRaises(ValueError) as raised:
+            self.row.filled("#S #{pane_pid}")
+        self.assertEqual(str(raised.exception), "#{pane_pid} isn't there in roam")
+
     def test_clock(self):
         """A clock of minutes is looked at once a minute, and none where there is none."""
         with mock.patch("time.time", return_value=30.0):

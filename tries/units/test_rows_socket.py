@@ -75,7 +75,7 @@ class Asked(Rows):
             self.say(one, text[cut:])
             self.loop.turns(2)
             self.assertEqual(read_now(one), b"count 1 5 0 3\nrows 1 5 0 2 11\n Alpha\n+be\nbuffer add 1 3\nfound 1 5 1\n"
-                             b"buffers 1\n1 3 ab\n")
+                             b"buffers 1\n1 3 a\\nb\n")
             one.close()
             self.loop.turns(2)
 
@@ -293,7 +293,7 @@ class Buffered(Rows):
             self.assertEqual(self.asked(one, f"buffer add {number}\n" + "x" * (number - 1)), f"buffer add {number} {number}\n".encode())
         self.assertEqual(self.asked(one, "buffer show 2", "buffer show 3"), b"buffer show 2 none\nbuffer show 3 3\nxx\n")
         told = self.asked(one, "buffer list").decode().split("\n")
-        self.assertEqual((told[0], told[1], told[-2]), ("buffers 20", f"22 22 {'x' * 21}", "3 3 xx"))
+        self.assertEqual((told[0], told[1], told[-2]), ("buffers 20", f"22 22 {'x' * 21}\\n", "3 3 xx\\n"))
 
     def test_refused(self):
         """One that is too long, one of those that come at once, one of who watches, and an empty one; the bytes are passed over."""
@@ -332,6 +332,7 @@ class Buffered(Rows):
         self.assertEqual(self.asked(one, f"ask {NAME}", f"ask {NAME[::-1]}"), f"held {NAME}\nlost {NAME[::-1]}\n".encode())
 
     def test_sample(self):
-        """The first printable characters."""
+        """The first printable characters, and what stands for a line's end."""
         self.assertEqual((sample(b"a\nb\x1b[2J\xff" + b"c" * 50), sample("\u4e00".encode() * 50), sample(b"\n")),
-                         ("ab[2J\ufffd" + "c" * 34, "\u4e00" * 40, ""))
+                         ("a\\nb[2J\ufffd" + "c" * 32, "\u4e00" * 40, "\\n"))
+        self.assertEqual((sample(b"a\r\nb\rc"), sample(b"\n" * 50)), ("a\\nb\\nc", "\\n" * 20))
