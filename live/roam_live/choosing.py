@@ -1,5 +1,5 @@
 """Lists from which a person chooses, each drawn over the pane in focus: the buffers of the keeper of shells, of which the newest is pasted
-or the chosen one, and the windows of a session."""
+or the chosen one, and the windows of a session; and lines that are only read."""
 from __future__ import annotations
 
 from roam_live.drawings import Drawing
@@ -28,6 +28,7 @@ UNTOLD = "nothing is pasted: what keeps the buffers isn't connected"
 # it may be there soon.
 AGAIN = 0.05
 LINE = "buffer {} of {}: Return pastes it, up and down choose, q leaves"
+LISTED = "line {} of {}: up, down, PgUp and PgDn scroll, q leaves"
 WINDOWS_LINE = "window {}, of {}: Return and a digit go there, up and down choose, q leaves"
 
 
@@ -211,6 +212,43 @@ class Choosing(ChoiceList):
         number = self.notes[self.chosen].number
         self.close()
         self.commands.pastes.paste_buffer(number)
+
+
+class Listing(ChoiceList):
+    """Lines that a person reads, as what a command of the shell said: nothing is done with one."""
+
+    def __init__(self, commands: Commands) -> None:
+        super().__init__(commands)
+        self.read: list[str] = []
+
+    def begin(self, lines: list[str]) -> bool:
+        """Shows lines, and tells whether that can be: a question, a line that is typed and copy mode go before them."""
+        commands = self.commands
+        if commands.typing.mode != commands.typing.plain or commands.paused:
+            return False
+        commands.close_lists()
+        self.read, self.chosen = lines, 0
+        return self.open()
+
+    def forget(self) -> None:
+        """Has no lines any more."""
+        self.read = []
+
+    def count(self) -> int:
+        """How many lines there are."""
+        return len(self.read)
+
+    def text(self, place: int) -> str:
+        """A line."""
+        return self.read[place]
+
+    def told(self) -> str:
+        """Where one reads."""
+        return LISTED.format(self.chosen + 1, len(self.read))
+
+    def choose(self) -> None:
+        """Leaves them."""
+        self.close()
 
 
 class ChoosingWindow(ChoiceList):

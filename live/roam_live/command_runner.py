@@ -84,10 +84,10 @@ class CommandLine(AskedLine):
 
 
 class ShellRun:
-    """A command of the shell that runs beside, of which the last line is told."""
+    """A command of the shell that runs beside: what it says is shown, and where it runs in the background the last line is told."""
 
-    def __init__(self, runner: CommandRunner, command: str) -> None:
-        self.runner, self.command = runner, command
+    def __init__(self, runner: CommandRunner, command: str, is_behind: bool) -> None:
+        self.runner, self.command, self.is_behind = runner, command, is_behind
         self.heard = b""
         self.process = subprocess.Popen(["/bin/sh", "-c", command], stdin=subprocess.DEVNULL, stdout=subprocess.PIPE,
                                         stderr=subprocess.STDOUT, start_new_session=True)
@@ -105,8 +105,8 @@ class ShellRun:
             self.runner.loop.remove(self.end)
             if self.process.stdout:
                 self.process.stdout.close()
-            lines = self.heard.decode("utf-8", "replace").strip().splitlines()
-            self.runner.tell(printable(lines[-1]) if lines else "")
+            lines = self.heard.decode("utf-8", "replace").rstrip().splitlines()
+            self.runner.show([printable(line.expandtabs()) for line in lines], self.is_behind)
 
     def has_ended(self) -> bool:
         """Whether its shell has ended."""
@@ -126,6 +126,11 @@ class CommandRunner:
         if text:
             self.front.commands.display.tell(text, SAID)
 
+    def show(self, lines: list[str], is_behind: bool) -> None:
+        """Shows lines in a list, where there are several; of one, or where a list can't be, the last is told."""
+        if is_behind or len(lines) < 2 or not self.front.commands.listing.begin(lines):
+            self.tell(lines[-1].strip() if lines else "")
+
     def run_all(self, commands: list[list[str]]) -> None:
         """Does commands one after the other, up to one that can't be done, which is told."""
         try:
@@ -144,7 +149,7 @@ class CommandRunner:
         """Does what a command asks for."""
         commands = self.front.commands
         does: dict[str, Callable[[str], object]] = {
-            "tell": self.tell_text, "run": self.run_shell, "window name": self.name_window, "command line": self.ask,
+            "tell": self.tell_text, "window name": self.name_window, "command line": self.ask,
             "prefix": self.type_prefix, "settings": self.read_settings}
         if asked.acts:
             commands.type_key(asked.acts)
@@ -153,6 +158,8 @@ class CommandRunner:
             self.set_option(asked.words)
         elif asked.wish == "bind":
             self.bind(asked.words)
+        elif asked.wish == "run":
+            self.run_shell(asked.text, asked.words[1:2] == ["-b"])
         elif asked.wish in does:
             does[asked.wish](asked.text)
         elif asked.wish == "panes":
@@ -243,12 +250,12 @@ class CommandRunner:
             raise BadCommand(str(fault)) from None
         self.front.go_by_settings()
 
-    def run_shell(self, text: str) -> None:
-        """Runs a command of the shell beside."""
+    def run_shell(self, text: str, is_behind: bool) -> None:
+        """Runs a command of the shell beside, or in the background."""
         self.runs = [run for run in self.runs if not run.has_ended()]
         if len(self.runs) >= MOST_RUNS:
             raise BadCommand(f"{MOST_RUNS} commands of the shell run, and no more")
         try:
-            self.runs.append(ShellRun(self, text))
+            self.runs.append(ShellRun(self, text, is_behind))
         except (OSError, ValueError) as fault:
             raise BadCommand(f"no shell can be run: {reason(fault) if isinstance(fault, OSError) else fault}") from None

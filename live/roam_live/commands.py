@@ -10,7 +10,7 @@ from roam_live import terminal
 from roam_live.bindings import NEWEST, OWN, PICKS, Typing, help_with
 from roam_live.border_keys import BorderKeys
 from roam_live.choices import ESCAPE_TIME, follows_latest, number_of
-from roam_live.choosing import Choosing, ChoosingWindow
+from roam_live.choosing import Choosing, ChoosingWindow, Listing
 from roam_live.copying import INTERRUPT, Copying, CopyEvent
 from roam_live.display import NO_SIZE, Display
 from roam_live.foci import Foci
@@ -112,7 +112,7 @@ class Commands:
         self.left_size = NO_SIZE
         self.copying, self.choosing = Copying(self, loop), Choosing(self)
         self.zooming, self.border_keys, self.foci = Zooming(self, loop), BorderKeys(self, loop), Foci(panes)
-        self.handing, self.helping = Handing(self), Helping(self)
+        self.handing, self.helping, self.listing = Handing(self), Helping(self), Listing(self)
         display.moved = self.fit_drawn
         # The windows of the session, and a list of them, where it may have several.
         self.windows: WindowWishes | None = None
@@ -194,7 +194,9 @@ class Commands:
         """Takes a key. Under a cover nothing is typed; the prefix means there what it always does."""
         if self.typing.ends_picking(key, time.monotonic()):
             self.display.end_told()
-        if self.copying.takes(key) or self.choosing.takes(key) or self.choosing_window and self.choosing_window.takes(key):
+        if self.copying.takes(key) or self.choosing.takes(key) or self.listing.takes(key):
+            return
+        if self.choosing_window and self.choosing_window.takes(key):
             return
         before = self.typing.mode
         acts, wish = self.typing.asked(key, time.monotonic(), self.display.outer.size()[0])
@@ -520,12 +522,14 @@ class Commands:
             return
         self.copying.fit()
         self.choosing.fit()
+        self.listing.fit()
         if self.choosing_window:
             self.choosing_window.fit()
 
     def close_lists(self) -> None:
         """Closes what may be chosen from."""
         self.choosing.close()
+        self.listing.close()
         if self.choosing_window:
             self.choosing_window.close()
 

@@ -202,7 +202,7 @@ class FrontEnd:
 
     def run_file(self) -> None:
         """Runs what the settings file has the shell run."""
-        self.runner.run_all([["run-shell", command] for command in OWN.found.runs] if OWN.found else [])
+        self.runner.run_all([["run-shell", "-b", command] for command in OWN.found.runs] if OWN.found else [])
 
     def go_by_settings(self, otherwise: str = "") -> None:
         """Goes by the settings as they are now."""

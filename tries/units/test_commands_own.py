@@ -184,13 +184,30 @@ class Line(Case):
         self.assertEqual(len(self.commands.grant.call_args_list), 1)
 
     def test_shell(self):
-        """The last line of what a shell says is told, printable; nothing waits for it."""
-        self.runner.typed("run 'echo one; printf \"two\\033[2J\"'")
+        """The last line of what a shell says in the background is told, printable; nothing waits for it."""
+        self.runner.typed("run -b 'echo one; printf \"two\\033[2J\"'")
         while not self.commands.display.tell.called:
             self.loop.turn()
         self.commands.display.tell.assert_called_once_with("two?[2J", 4.0)
         self.runner.runs[0].process.wait()
         self.assertTrue(self.runner.runs[0].has_ended())
+
+    def test_listed(self):
+        """All that a shell says is shown in a list; a single line, and where no list can be the last, is told."""
+        self.commands.listing.begin.return_value = True
+        self.runner.typed("run 'echo \" one\"; printf \"two\\033\\tx\\n\\n\"'")
+        while not self.commands.listing.begin.called:
+            self.loop.turn()
+        self.commands.listing.begin.assert_called_once_with([" one", "two?    x"])
+        self.assertFalse(self.commands.display.tell.called)
+        self.commands.listing.begin.return_value = False
+        for line in ("run 'echo only'", "run 'echo one; echo two'"):
+            self.commands.display.tell.reset_mock()
+            self.runner.typed(line)
+            while not self.commands.display.tell.called:
+                self.loop.turn()
+        self.commands.display.tell.assert_called_once_with("two", 4.0)
+        self.assertEqual(self.commands.listing.begin.call_count, 2)
 
     def test_told(self):
         """A text is told with its formats filled; one of which roam hasn't all is refused."""

@@ -814,6 +814,24 @@ class Chosen(Copied):
         person.types(b"\x02]\x02=")
         self.assertEqual((self.shells.gave, person.commands.choosing.is_on()), ([], False))
 
+    def test_read(self):
+        """Lines that are only read scroll, until q, Return or the prefix; in the midst of something else they aren't shown."""
+        person, lines = self.person(opens=False), [f"row {number}" for number in range(60)]
+        for ends, acts in ((b"q", []), (b"\r", []), (b"\x1b", []), (b"\x02o", ["next"])):
+            self.assertTrue(person.commands.listing.begin(lines))
+            self.settle(person)
+            self.assertEqual((person.shown()[:2], person.shown()[23]),
+                             (["row 0", "row 1"], "line 1 of 60: up, down, PgUp and PgDn scroll, q leaves"))
+            self.assertEqual(person.types(b"G"), [])
+            self.assertEqual((person.shown()[22], person.shown()[23][:13]), ("row 59", "line 60 of 60"))
+            self.assertEqual(person.types(b"\x1b[5~"), [])
+            self.assertEqual(person.shown()[23][:13], "line 50 of 60")
+            self.assertEqual((person.types(ends), person.commands.typed(person.commands.keys.ended())), (acts, None))
+            self.settle(person)
+            self.assertFalse(person.commands.listing.is_on())
+        person.types(b"\x02")
+        self.assertFalse(person.commands.listing.begin(lines))
+
     def test_list(self):
         """C-b = lists the buffers over the pane, the newest first; the one that is chosen is pasted."""
         person = self.person(opens=False)
