@@ -164,6 +164,8 @@ class BorderDrag:
         # The pane that grows, by how much, and the places before that; whether it is undone by that; and whether it is let go.
         self.grown: tuple[int, int, Places] | None = None
         self.is_undone = self.is_over = False
+        # True if this person moved the focus to a pane that isn't known yet: a growth would put it back.
+        self.awaits_focus = False
 
     def to(self, row: int, col: int) -> None:
         """Drags it to a place of the session."""
@@ -181,7 +183,10 @@ class BorderDrag:
         if self.grown:
             return
         at = self.border.at(places.rects) if places else 0
-        if not places or not places.focus or not at or not self.aim or self.aim == at:
+        self.awaits_focus = bool(places and not places.focus and at and self.aim and self.aim != at)
+        if self.awaits_focus:
+            self.loop.later(self.moment, SETTLES, self.settle)
+        elif not places or not at or not self.aim or self.aim == at:
             self.end_over()
         elif not self.leaves:
             self.commands.display.tell(NO_PANE)
@@ -199,6 +204,9 @@ class BorderDrag:
     def told(self) -> None:
         """Takes note of what is told of the panes: of what comes of a growth where the pane has another size."""
         places = self.commands.panes.places
+        if self.awaits_focus and self.commands.moved_to is None:
+            self.loop.drop(self.moment)
+            self.pull()
         if not self.grown or not places:
             return
         pane, by, before = self.grown
@@ -220,7 +228,7 @@ class BorderDrag:
         if self.commands.link.untaken():
             self.loop.later(self.moment, SETTLES, self.settle)
             return
-        self.grown, self.is_undone, self.aim = None, False, 0
+        self.grown, self.is_undone, self.awaits_focus, self.aim = None, False, False, 0
         self.end_over()
 
     def end_over(self) -> None:

@@ -314,7 +314,11 @@ class Commands:
         that: it may come of what was typed before."""
         if now.focus == self.moved_to or now.focus != before.focus:
             return True
-        return set(now.rects) != set(before.rects) if self.moved_to else now.rects != before.rects
+        return set(now.rects) != set(before.rects) if self.moved_to or self.borders_move() else now.rects != before.rects
+
+    def borders_move(self) -> bool:
+        """Return True if a border that this person moves is on its way: it changes the sizes of panes, and no focus."""
+        return any(drag is not None and drag.grown for drag in (self.border_keys.drag, self.pointing.border))
 
     def told(self) -> None:
         """Takes note that something is told of the panes: where the focus is now, if that or a pane is new."""

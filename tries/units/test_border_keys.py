@@ -62,6 +62,24 @@ class Moves(Attached):
             session.do(act)
         self.assertEqual(self.each(session, (24, 80)), (8, 8))
 
+    def test_next_behind(self):
+        """What comes of a border's first step doesn't tell where C-b o put the focus: its second step leaves the focus there."""
+        session = Lived()
+        for act in ("split right", "split down", "focus 2"):
+            session.do(act)
+        self.attach(session)
+        before = self.ends(2)["down"]
+        self.person.commands.fed(b"\x02\x1b[1;5A\x1b[1;5A\x02o")
+        typed = [act for line in self.person.said() for act in line.split(" ; ")]
+        for act in typed[:-1]:
+            session.do(act)
+        self.person.tell(session.places())
+        self.assertEqual(typed[-1], "next")
+        session.do("next")
+        self.person.tell(session.places())
+        self.take()
+        self.assertEqual((self.ends(2)["down"], session.focus), (before - 2, 3))
+
     def test_stuck_at_limit(self):
         """Where no pane's own split has a border that is told also of one that is as far as it can be."""
         session = Lived()
