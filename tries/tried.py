@@ -159,6 +159,8 @@ class Outer:
         self.moments = []
         ends = {"stdin": self.slave, "stdout": self.slave, "stderr": self.slave}
         known = {"TERM": "xterm-256color", **os.environ, **(environment or {})}
+        if os.environ.get("TERM") == "dumb" and "TERM" not in (environment or {}):
+            known["TERM"] = "xterm-256color"
         self.process = subprocess.Popen(words, **ends, env=known, start_new_session=True, preexec_fn=own_terminal)
         threading.Thread(target=self.read, daemon=True).start()
 

@@ -9,7 +9,7 @@ from roam_live.loops import comes
 from roam_live.presence import CLIENT, CLIENTS, MOST_ATTENDED, number_in, presence_in
 from roam_live.program import Fault, Lines, connected_in, read, reason
 from roam_live.texts import random_name
-from roam_live.window_lines import GONE, LONGEST_BYTES, LONGEST_NAME, MOST_WINDOWS, OPENED, WINDOW, WINDOWS, name_in, name_word
+from roam_live.window_lines import GONE, LONGEST_BYTES, LONGEST_NAME, MOST_WINDOWS, OPENED, RUNS, WINDOW, WINDOWS, name_in, name_word
 from roam_live.words import printable
 
 TYPE_CHECKING = False
@@ -22,6 +22,9 @@ if TYPE_CHECKING:
 # So many seconds the keeper has for taking a connection, and for what it is asked: a window has to be opened, or to end, in that time.
 CONNECTS = 1.0
 ANSWERS = 12.0
+
+# So many seconds what runs in windows is waited for: it is looked up once somebody asks.
+RUNS_TOLD = 0.5
 
 # So many seconds terminals that are told to leave have for that.
 LEAVES = 5.0
@@ -108,8 +111,9 @@ def tells_terminal(words: list[str]) -> bool:
     return is_numbered and presence_in([*words[2:5], words[7]]) is not None
 
 
-def windows_of(session: FolderSession) -> list[tuple[int, str]]:
-    """The windows of a session by their numbers, with the names that they have; an earlier roam's has one."""
+def windows_of(session: FolderSession, has_programs: bool = False) -> list[tuple[int, str]]:
+    """The windows of a session by their numbers, with the names that they have, or what runs there where that is asked; an earlier roam's
+    has one."""
     asked = WindowsAsked(session)
     found: dict[int, str] = {}
     asked.say(WINDOWS)
@@ -117,6 +121,8 @@ def windows_of(session: FolderSession) -> list[tuple[int, str]]:
         while True:
             words = asked.until(WINDOW, WINDOWS)
             if words[0] == WINDOWS:
+                if has_programs:
+                    with_programs(asked, found)
                 return list(found.items())
             number = number_in(words[1], MOST_WINDOWS) if len(words) == 3 else 0
             if number:
@@ -127,11 +133,24 @@ def windows_of(session: FolderSession) -> list[tuple[int, str]]:
         return [(1, "")]
 
 
+def with_programs(asked: WindowsAsked, found: dict[int, str]) -> None:
+    """Names the windows that have no name by what runs in front in them, as the last row does, as far as that is soon told."""
+    end = time.monotonic() + RUNS_TOLD
+    while "" in found.values() and time.monotonic() < end:
+        try:
+            words = asked.until(RUNS, seconds=end - time.monotonic())
+        except Fault:
+            return
+        number = number_in(words[1], MOST_WINDOWS) if len(words) > 2 else 0
+        if number and not found.get(number, "-"):
+            found[number] = printable(" ".join(words[2:]))[:LONGEST_NAME]
+
+
 def list_windows(session: FolderSession) -> int:
     """Prints a line for each window of a session: its number, its name or what runs in front in it, its size, and its panes."""
     from roam_live.programs import told
 
-    for number, name in windows_of(session):
+    for number, name in windows_of(session, has_programs=True):
         window = session.window(number)
         places, busy = window.places(), window.busy()
         size = "{} by {}".format(*places.size()) if places else "-"

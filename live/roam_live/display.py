@@ -51,6 +51,7 @@ class OuterTerminal:
     def __init__(self) -> None:
         if not (os.isatty(0) and os.isatty(1)):
             raise Fault("standard input and output have to be a terminal")
+        terminal.demand_able()
         self.waiting = bytearray()
         # Whether its keypad sends the codes of applications.
         self.is_application = False

@@ -811,10 +811,15 @@ class NearSession(FolderSession):
             time.sleep(0.01)
 
     def line(self) -> str:
-        """What `mux ls` says of it: the size and the panes are those of the relay's own window."""
-        windows = self.windows()
-        more = f", {len(windows)} windows: {' '.join(str(window.number) for window in windows)}" if len(windows) > 1 else ""
-        return super().line() + more
+        """What `mux ls` says of it: the size of the relay's own window, and the panes of all."""
+        windows, own = self.windows(), self.places()
+        if len(windows) < 2:
+            return super().line()
+        found = [window.places() for window in windows]
+        panes = None if None in found else sum(len(one.rects) for one in found if one)
+        size = "{} by {}".format(*own.size()) if own else "-"
+        named = " ".join(str(window.number) for window in windows)
+        return f"{listed(self.name, size, panes, count_front_ends(self.common))}{many_starts([own])}, {len(windows)} windows: {named}"
 
     def end_all(self) -> None:
         """Ends the relay, and the client starts of all windows."""

@@ -9,6 +9,7 @@ import signal
 import struct
 import termios
 
+from roam_live.program import Fault
 from roam_live.words import printable
 
 TYPE_CHECKING = False
@@ -52,8 +53,15 @@ KEYPAD = {True: b"\x1b=", False: b"\x1b>"}
 SIGNALS = (signal.SIGCHLD, signal.SIGTERM, signal.SIGHUP, signal.SIGINT, signal.SIGPIPE, signal.SIGXFSZ)
 
 # What a pane's terminal is called: its erased cells have the default style, so an entry with `bce` would show wrong colours.
+DUMB = "dumb"
 ENTRIES = ("tmux-256color", "screen-256color", "vt220")
 FOLDERS = ("/etc/terminfo", "/lib/terminfo", "/usr/lib/terminfo", "/usr/share/terminfo", "/usr/local/share/terminfo")
+
+
+def demand_able() -> None:
+    """Refuses a terminal that says it can't place its cursor, as tmux does."""
+    if os.environ.get("TERM") == DUMB:
+        raise Fault(f"TERM is {DUMB}: this terminal can't show a session")
 
 
 def has_entry(name: str) -> bool:

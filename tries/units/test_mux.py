@@ -29,7 +29,7 @@ class Mux(Case):
         for module in (sessions, remote):
             self.patch_of(module, "base", lambda: self.base)
         self.environment(ROAM_PREFIX=None, ROAM_GUESS=None, ROAM_MOUSE=None, ROAM_CLIPBOARD=None, ROAM_PANE=None, ROAM_HISTORY=None,
-                         SHELL="/bin/sh")
+                         SHELL="/bin/sh", TERM="xterm")
         self.said, self.text = self.heard(), self.printed()
         self.follows = self.patch_of(front_end, "follow", return_value=7)
         self.is_terminal = True
@@ -120,6 +120,13 @@ class Attaches(Mux):
         self.is_terminal = False
         for words in ((), ("new", "x"), ("ssh", "there")):
             self.refuses("standard input and output have to be a terminal", *words)
+        self.assertEqual((self.done, list(self.base.iterdir())), ([], []))
+
+    def test_dumb(self):
+        """Nor on one that can't place its cursor."""
+        self.environment(TERM="dumb")
+        for words in ((), ("new", "x"), ("ssh", "there")):
+            self.refuses("TERM is dumb: this terminal can't show a session", *words)
         self.assertEqual((self.done, list(self.base.iterdir())), ([], []))
 
     def test_each_end(self):

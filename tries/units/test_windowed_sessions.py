@@ -389,7 +389,9 @@ class Near(Sessions):
         with self.assertRaisesRegex(Fault, "^session ssh:h:n has no window 3$"):
             one.window(3)
         self.patch_of(FolderSession, "places", lambda session: PLACES)
-        self.assertTrue(session.line().endswith("1 pane   0 terminals, 2 windows: 2 5"), session.line())
+        self.assertTrue(session.line().endswith("2 panes  0 terminals, 2 windows: 2 5"), session.line())
+        self.patch_of(FolderSession, "places", lambda session: None if session.number == 2 else PLACES)
+        self.assertTrue(session.line().endswith("24 by 80     ? panes  0 terminals, 2 windows: 2 5"), session.line())
         session.clean()
         self.assertEqual(os.listdir(session.folder), [])
 
@@ -428,8 +430,18 @@ class Asked(Sessions):
         self.assertEqual(windows_of(self.window), [(1, ""), (2, "ab")])
         self.assertEqual(read_now(self.keeper), b"windows\n")
 
+    def test_programs(self):
+        """A window without a name is named by what runs in front in it, as in the last row, where that is told soon."""
+        self.patch_of(asked_windows, "RUNS_TOLD", 0.2)
+        self.answers = [b"window 1 -\nwindow 2 6162\nwindows 2\n", b"runs 2 vi\nruns 9 x\nruns x y\nruns 1 less a\n"]
+        self.assertEqual(windows_of(self.window, has_programs=True), [(1, "less a"), (2, "ab")])
+        self.answers, self.keeper = [b"window 1 -\nwindows 1\nwindow 1 -\n"], None
+        self.patch_of(asked_windows, "comes", lambda peer, seconds: self.comes(peer, seconds) if self.answers else False)
+        self.assertEqual(windows_of(self.window, has_programs=True), [(1, "")])
+
     def test_listed(self):
         """Each window has a line: its name, its size, its panes, and what runs there."""
+        self.patch_of(asked_windows, "RUNS_TOLD", 0.0)
         wide = Places({1: Rect(1, 1, 23, 39), 2: Rect(1, 41, 23, 40)}, 2)
         for number, places, busy, line in ((2, PLACES, {1: "vi"}, " 2 a?b              24 by 80     1 pane, vi in pane 1"),
                                            (7, wide, {}, " 7 -                24 by 80     2 panes"),
