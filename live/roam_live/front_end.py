@@ -402,6 +402,7 @@ class FrontEnd:
         if piece == b"":
             self.leave("", 1)
         self.commands.fed(piece or b"")
+        self.shells.typed()
 
     def hear(self) -> None:
         """Takes what the start told."""

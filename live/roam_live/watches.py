@@ -1,4 +1,4 @@
-"""Sees the end of what keeps a session's shells, and has it spawned anew."""
+"""Sees the end of what keeps a session's shells, and has it spawned anew; and tells whoever types where it is stopped."""
 from __future__ import annotations
 
 import os
@@ -6,7 +6,7 @@ import time
 from collections.abc import Callable
 
 from roam_live.loops import Loop
-from roam_live.program import Fault, opened_process, reason
+from roam_live.program import Fault, is_stopped, opened_process, reason
 
 TYPE_CHECKING = False
 if TYPE_CHECKING:
@@ -16,6 +16,12 @@ if TYPE_CHECKING:
 # lasted so long had no fault at its start.
 PAUSES = (0.3, 1, 2, 4, 8, 15)
 SOUND = 5.0
+
+# So many seconds after something was typed it is looked whether it is stopped, and again while it is: whoever types is to know why nothing
+# comes of that.
+LOOKS = 4.0
+LOOKED = "shells are stopped"
+STOPPED = "what keeps the shells is stopped; what is typed waits for it"
 
 
 class ShellsWatch:
@@ -45,8 +51,21 @@ class ShellsWatch:
         return pause
 
     def stop(self) -> None:
-        """Spawns nothing any more."""
+        """Spawns nothing any more, and looks at nothing."""
         self.loop.drop("shells")
+        self.loop.drop(LOOKED)
+
+    def typed(self) -> None:
+        """Takes note that something was typed."""
+        if LOOKED not in self.loop.due:
+            self.loop.later(LOOKED, LOOKS, self.look)
+
+    def look(self) -> None:
+        """Tells that it is stopped, where that is so, for as long as it is."""
+        process = self.session.process("shells")
+        if process and is_stopped(process):
+            self.tells(STOPPED)
+            self.loop.later(LOOKED, LOOKS, self.look)
 
     def revive(self) -> None:
         """Has the shells spawned anew."""

@@ -245,3 +245,17 @@ def begun_with(folder):
     is_there = comes(lambda: "/usr" in said("capture", f"{SESSION}:3")[1] and "logs" in said("list-windows", SESSION)[1])
     check("whose command runs in its folder, under its name", is_there, said("list-windows", SESSION))
     subprocess.run(tool("mux", "kill", "-f", SESSION), check=True)
+
+
+@scene
+def keeper_stopped(folder):
+    """Where what keeps the shells is stopped whoever types is told so, and all that was typed comes once it goes on."""
+    outer = Outer(tool("mux", SESSION))
+    outer.shows("$ ")
+    keeper = noted(SESSION)["shells"][0]
+    os.kill(keeper, signal.SIGSTOP)
+    outer.type(b"echo la''ter\r")
+    check("it is told within ten seconds", outer.shows("what keeps the shells is stopped", 10), outer.rows)
+    os.kill(keeper, signal.SIGCONT)
+    check("what was typed comes then", outer.shows("later"), outer.rows)
+    subprocess.run(tool("mux", "kill", "-f", SESSION), check=True)

@@ -5,7 +5,7 @@ from unittest import mock
 
 from aids import StillLoop
 from roam_live.program import Fault
-from roam_live.watches import PAUSES, SOUND, ShellsWatch
+from roam_live.watches import LOOKS, PAUSES, SOUND, STOPPED, ShellsWatch
 
 
 class AnySession:
@@ -66,6 +66,28 @@ class Watches(unittest.TestCase):
         self.now += wait
         self.loop.do_due()
         return round(wait, 3), self.told()
+
+    def test_stopped(self):
+        """Whoever types is told of one that is stopped, within five seconds and for as long as it is; without a key nothing is looked at."""
+        stopped = self.patch_of_stop(True)
+        self.now += 100
+        self.assertEqual((self.loop.wait_time(), self.told()), (None, ""))
+        self.watch.typed()
+        self.watch.typed()
+        self.assertEqual(self.pass_time(), (LOOKS, STOPPED))
+        self.assertEqual(self.pass_time(), (LOOKS, STOPPED))
+        stopped.return_value = False
+        self.assertEqual(self.pass_time(), (LOOKS, ""))
+        self.assertIsNone(self.loop.wait_time())
+        self.watch.typed()
+        self.watch.stop()
+        self.assertIsNone(self.loop.wait_time())
+
+    def patch_of_stop(self, is_stopped):
+        """Has the process be stopped or not."""
+        patched = mock.patch("roam_live.watches.is_stopped", return_value=is_stopped)
+        self.addCleanup(patched.stop)
+        return patched.start()
 
     def test_once(self):
         """The end of one that ran for long is made good soon, and told once it is."""
