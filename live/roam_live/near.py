@@ -59,6 +59,10 @@ BROKEN_PAUSE, MOST_PAUSE = 2.0, 60.0
 MOST_BROKEN = 10
 FORGIVEN = 600.0
 
+# What a shell's status tells of a command that it hasn't found, and what may be done then.
+NOT_FOUND = 127
+NOT_THERE = ": roam isn't installed there, or --far has to name its roam-mux"
+
 
 class Peers:
     """The addresses of clients and their numbers. A number isn't given again before all others were."""
@@ -323,6 +327,7 @@ class Near:
         self.drop(link)
         if is_first:
             line = f"{shlex.join(self.asked.command)} ended with status {link.status()}, and hadn't answered"
+            line += NOT_THERE if link.status() == NOT_FOUND else ""
             if self.asked.owner or self.asked.alone is not None:
                 raise Fault(line)
             say(line)

@@ -24,7 +24,7 @@ WORD = re.compile(r"(?P<name>ssh:[^:]+:[^:.]+(?::[0-9a-f]{8})?|[^:.]*)(?::(?P<wi
 # So many seconds a server has for closing a pane.
 CLOSES = 5.0
 
-NOWHERE = "this is no pane of a session, so one has to be named"
+NOWHERE = "no session is named, and this is no pane of one; `mux ls` lists them"
 
 
 class Target(namedtuple("Target", "name window pane")):

@@ -294,7 +294,7 @@ class Starts(Mux):
             self.assertEqual((self.mux("buffer", *words), does[place].call_args[0][1:]), (place, told))
         self.refuses("buffers are of a session, and of no pane", "buffer", "show", "main.2")
         self.refuses("all buffers are listed", "buffer", "list", "main", "3")
-        self.refuses("this is no pane of a session, so one has to be named", "buffer", "list")
+        self.refuses("no session is named, and this is no pane of one; `mux ls` lists them", "buffer", "list")
         for words in (("drop", "main"), ()):
             with self.assertRaises(SystemExit):
                 self.mux("buffer", *words)

@@ -463,6 +463,17 @@ class Nears(Ends):
                 self.assertIn(line, self.said.getvalue())
             self.close(self.near)
 
+    def test_not_there(self):
+        """Where nothing is installed there it is told what may be done."""
+        self.close(self.near)
+        self.near = self.near_end(alone=9.0)
+        self.turn()
+        self.links[-1].status = lambda: 127
+        os.close(self.links[-1].said)
+        told = "hadn't answered: roam isn't installed there, or --far has to name its roam-mux$"
+        with self.assertRaisesRegex(Fault, told):
+            self.turn()
+
     def test_not_started(self):
         """Where the system refuses a first command that is a fault; later it is told of, and tried again."""
         self.made.side_effect = FileNotFoundError(2, "No such file or directory")

@@ -345,7 +345,7 @@ class Named(Sessions):
     def test_own(self):
         """Without a name the session is that of the pane, and without a number the window too, of this session alone."""
         session = self.session()
-        with self.assertRaisesRegex(Fault, "^this is no pane of a session, so one has to be named$"):
+        with self.assertRaisesRegex(Fault, "^no session is named, and this is no pane of one; `mux ls` lists them$"):
             session_of(target_of(".1"))
         self.environment(ROAM_PANE=f"{self.base}/main/w/7:3")
         for word, number in (("", 7), (":", 7), (":2", 2), ("main", 7), ("main:2", 2)):
