@@ -132,7 +132,8 @@ def told_of_tmux(name: str, called: str) -> str:
     here = TMUX_WORDS[name]
     if not here:
         return f"{name}: tmux has this, roam hasn't"
-    return f"{name} is a word of tmux; roam has {here.replace('mux ', f'{called} ', 1) if here.startswith('mux ') else here}"
+    told = f"`{called}{here.removeprefix('mux')}`" if here.startswith("mux ") else here
+    return f"{name} is a word of tmux; roam has {told}"
 
 
 def meant(name: str, words: list[str]) -> str:

@@ -568,7 +568,8 @@ class Words(Mux):
             for more in () if word in mux.WORDS else ((), ("-h",), ("x", "y")):
                 before = len(self.said.getvalue())
                 self.assertEqual(self.mux(word, *more), 2, word)
-                told = f"{word} is a word of tmux; roam has {here}" if here else f"{word}: tmux has this, roam hasn't"
+                named = f"`{here}`" if here.startswith("mux ") else here
+                told = f"{word} is a word of tmux; roam has {named}" if here else f"{word}: tmux has this, roam hasn't"
                 own = "" if more else f" (`mux new {word}` begins a session of that name)"
                 self.assertEqual(self.said.getvalue()[before:], f"mux: {told}{own}\n")
         self.assertNotIn("launch", [one[0] for one in self.done])
@@ -591,7 +592,7 @@ class Words(Mux):
         self.assertEqual(self.mux("help", "ls"), 0)
         self.assertIn("usage: mux ls", self.text.getvalue())
         self.refuses("'lst' is no word of mux; did you mean ls? `mux help` lists them", "help", "lst")
-        self.refuses("split-window is a word of tmux; roam has mux cmd NAME split-window; `mux help` lists them", "help", "split-window")
+        self.refuses("split-window is a word of tmux; roam has `mux cmd NAME split-window`; `mux help` lists them", "help", "split-window")
         self.refuses("'zebra' is no word of mux; `mux help` lists them", "help", "zebra")
         with self.assertRaises(SystemExit):
             self.mux("kill", "--help")
