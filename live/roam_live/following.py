@@ -3,6 +3,7 @@ from __future__ import annotations
 
 import os
 import socket
+from collections import deque
 from collections.abc import Callable
 
 from roam_live.loops import Loop
@@ -32,6 +33,10 @@ CLIPS_AGAIN = 60.0
 # What a server is told by the keeper of shells, for which it has a place of its own; and what it answers to a line that it doesn't know.
 KEEPER = "keeper"
 BAD_LINE = "bad line"
+
+# A line that no server knows: the refusal shows that it lives. So many may be unanswered.
+PROBE = "alive"
+MOST_PROBES = 4
 
 # Where nobody tells where the panes are it isn't said before so many tries, since who tells it may come a moment later; and for so many
 # seconds a front end takes it that it will be told.
@@ -239,6 +244,8 @@ class PanesFollower:
         # What is called with a text for the clipboard that the program in focus set, and the making of its pane.
         self.clipped: Callable[[str, str], object] = lambda text, making: None
         self.has_said = self.was_told = self.has_no_place = False
+        # What is called at each answer to a probe that is still to come.
+        self.probes: deque[Callable[[], object]] = deque()
         self.awaited_until = loop.clock() + AWAITED if folder else 0.0
         path = os.path.join(folder, "panes") if folder else ""
         self.following = AsideFollowing(lambda: connected_now(path), loop, self.hear, self.lose)
@@ -280,10 +287,16 @@ class PanesFollower:
         """Whether the server is known to have had as many starts as it ever has."""
         return self.places is not None and self.places.is_full()
 
+    def probe(self, answered: Callable[[], object]) -> None:
+        """Ask the server for a sign of life; `answered` is called once it comes."""
+        if self.following.peer and len(self.probes) < MOST_PROBES:
+            self.probes.append(answered)
+            self.following.ask(PROBE)
+
     def hear(self, lines: list[str]) -> None:
         """Takes what was told."""
         for _ in range(lines.count(BAD_LINE)):
-            self.following.hear_refusal()
+            (self.probes.popleft() if self.probes else self.following.hear_refusal)()
         taken = [self.told.take(line) for line in lines if line != BAD_LINE]
         if taken and not any(taken) and not self.places:
             self.say(UNTOLD)
@@ -308,6 +321,7 @@ class PanesFollower:
     def lose(self) -> None:
         """Goes on without, until it is told anew; where it stays so from the beginning that is said."""
         following, was_told = self.following, self.places is not None
+        self.probes.clear()
         self.told, self.places, self.aside, self.focus_modes = ToldPanes(), None, ("", 0), []
         self.loop.drop("panes stand")
         if was_told:

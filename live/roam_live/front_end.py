@@ -78,7 +78,7 @@ class FrontEnd:
         self.display = Display(self.loop, self.say)
         self.parting = Parting(self.loop)
         self.preloading = Preloading(self.loop)
-        self.untaken = UntakenLines(lambda: self.link, self.display, self.loop)
+        self.untaken = UntakenLines(lambda: self.link, self.display, self.loop, self.ask_server)
         # The sizes of the windows of which all was shown as they were left, by their numbers.
         self.shown_whole: dict[int, Size] = {}
         # In which of them keys were switched to go to all panes, or not.
@@ -428,6 +428,11 @@ class FrontEnd:
         if not self.link.send():
             self.link.hear_last()
             self.lost()
+
+    def ask_server(self) -> None:
+        """Ask the server for a sign of life, if it runs on this machine: a relay would answer in its place."""
+        if self.session.served != "relay":
+            self.panes.probe(self.untaken.answered)
 
     def show(self) -> None:
         """Writes what the terminal takes; where it is gone this ends."""

@@ -14,8 +14,9 @@ if TYPE_CHECKING:
 MOMENT = "untaken"
 LOOKS = 1.0
 
-# No line was taken for so many seconds while something was painted, so the server is heard: it keeps acts for which it has no memory, and
-# all behind them. Where nothing is painted that isn't known before a silence of the server would have been told, after ten seconds.
+# No line was taken for so many seconds while the server was heard: it keeps acts for which it has no memory, and all behind them. It is
+# heard if something is painted, or if it answers a question, which is asked of a server on this machine. Otherwise that is known once a
+# silence of the server would have been told, after ten seconds.
 UNTAKEN = 2.0
 UNTAKEN_SILENTLY = 12.0
 
@@ -24,14 +25,19 @@ NOT_TAKEN = "no keys are taken: the server may be out of memory, or the client s
 
 
 class UntakenLines:
-    """Looks, while lines aren't taken, for how long none was. A call gives the link to the start of the window where the person is."""
+    """Looks, while lines aren't taken, for how long none was.
 
-    def __init__(self, link: Callable[[], StartLink], display: Display, loop: Loop) -> None:
-        self.link, self.display, self.loop = link, display, loop
-        # The link for which that is counted, how many of its lines were taken, since when no more were, and when something was painted.
+    `link` returns the link to the client process of the window where the person is. `asks` asks the server for a sign of life, which
+    `answered` takes.
+    """
+
+    def __init__(self, link: Callable[[], StartLink], display: Display, loop: Loop, asks: Callable[[], object] = lambda: None) -> None:
+        self.link, self.display, self.loop, self.asks = link, display, loop, asks
+        # The link for which that is counted, how many of its lines were taken, since when no more were, and when something was painted or
+        # answered.
         self.counted: StartLink | None = None
         self.taken = 0
-        self.since = self.painted = 0.0
+        self.since = self.painted = self.alive = 0.0
 
     def given(self) -> None:
         """A line is given."""
@@ -42,6 +48,10 @@ class UntakenLines:
     def heard(self) -> None:
         """Something is painted."""
         self.painted = self.loop.clock()
+
+    def answered(self) -> None:
+        """The server answered."""
+        self.alive = self.loop.clock()
 
     def count(self) -> None:
         """Count from now on."""
@@ -58,6 +68,7 @@ class UntakenLines:
         elif not why and self.display.told in (NO_KEYS, NOT_TAKEN):
             self.display.end_told()
         if link.peer and not link.is_done():
+            self.asks()
             self.loop.later(MOMENT, LOOKS, self.look)
 
     def why(self) -> str:
@@ -65,5 +76,7 @@ class UntakenLines:
         link, waits = self.link(), self.loop.clock() - self.since
         if not link.peer or link.is_done() or self.display.silent:
             return ""
-        is_heard = waits >= UNTAKEN and self.painted >= self.since + LOOKS
-        return NO_KEYS if is_heard else NOT_TAKEN if waits >= UNTAKEN_SILENTLY else ""
+        if waits >= UNTAKEN and self.painted >= self.since + LOOKS:
+            return NO_KEYS
+        is_alive = waits >= UNTAKEN and self.alive >= self.since + LOOKS
+        return NOT_TAKEN if is_alive or waits >= UNTAKEN_SILENTLY else ""

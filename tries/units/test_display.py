@@ -112,6 +112,9 @@ class PlayedPanes:
         self.place = place
         self.modes_of = {}
 
+    def probe(self, answered):
+        """Nobody answers."""
+
     @property
     def places(self):
         """Where they are."""

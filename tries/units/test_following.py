@@ -198,6 +198,21 @@ class FrontEnds(Played):
         self.loop.turns(2)
         return self.panes.places
 
+    def test_probed(self):
+        """A refused probe is an answer, and no refusal of another word; one that is lost with its connection has none."""
+        answers = []
+        self.told(b"1 1 23 80 1\nfocus 1\n")
+        self.panes.probe(lambda: answers.append(1))
+        self.loop.turns(2)
+        self.assertIn(b"alive\n", self.server.recv(256))
+        self.told(b"bad line\n")
+        self.assertEqual((answers, self.panes.following.has_asked), ([1], True))
+        self.told(b"bad line\n")
+        self.assertEqual((answers, self.panes.following.has_asked), ([1], False))
+        for _ in range(9):
+            self.panes.probe(lambda: answers.append(2))
+        self.assertEqual(len(self.panes.probes), 4)
+
     def lose_again(self, words=()):
         """The server ends the connection, by which so much was said, and it is had again."""
         self.server.close()

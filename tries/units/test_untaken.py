@@ -74,6 +74,18 @@ class Lines(Case):
         self.wait(1)
         self.assertEqual((self.display.told, UNTAKEN_SILENTLY), (NOT_TAKEN, 12.0))
 
+    def test_answered(self):
+        """A server that answers while no line is taken shows that soon; each look asks it again."""
+        asked = []
+        self.lines.asks = lambda: asked.append(self.now)
+        self.lines.given()
+        for _ in range(2):
+            self.assertEqual(self.display.told, "")
+            self.wait(1)
+            self.lines.answered()
+        self.wait(1)
+        self.assertEqual((self.display.told, len(asked)), (NOT_TAKEN, 3))
+
     def test_silent(self):
         """A silence of the server is told instead, and so is anything else."""
         self.lines.given()
