@@ -1,12 +1,12 @@
 //! Ports that know when something was heard last.
-ghost use Rattle.std.specs.Prelude.{◌≡◌, ◌≤◌, ◌∷◌, [], None, Some, IfSome, is_some, length, true, if◌then◌else◌};
+ghost use Rattle.std.specs.Prelude.{◌≡◌, ◌⊎◌, ◌≤◌, ◌∷◌, [], None, Some, IfSome, is_some, length, true};
 ghost use Rattle.roam_turns.specs.Calls.{Tells};
 ghost use Rattle.roam_turns.specs.Calls.DoorCall.{Came, HasEnded, Rested, Slept};
 ghost use Rattle.roam_turns.specs.Calls.PortCall.{Asked};
 
 use crate::running::Door;
 use roam_hub::Addr;
-use roam_outer_terminal::Silence;
+use roam_outer_terminal::{End, Silence};
 use roam_turns::Ports;
 
 /// The ports of a client start, which know the moment and when something was heard last. Each call goes to the ports beneath; nothing is
@@ -88,11 +88,11 @@ impl<P: Ports + Drop> Listening<P> {
     }
 }
 
-// Counts a silence from its moment on, if the start slept until then.
+// Counts a silence from its moment on, if the start slept until then, and heard something before.
 fn hear_after(silence: &mut Silence, has_slept: bool)
-    ensures heard { silence.new ≡ (if has_slept then record silence.old { heard = Some silence.old.moment } else silence.old) }
+    ensures heard { (silence.new ≡ silence.old) ⊎ (silence.new ≡ record silence.old { heard = Some silence.old.moment }) }
 {
-    if has_slept {
+    if has_slept && silence.end() != End::Unheard {
         silence.hear();
     }
 }
