@@ -41,6 +41,16 @@ is_echo None count room clock = false
 is_echo (Some at) None room clock = false
 is_echo (Some at) (Some n) room clock = nat_lt 0 n && (nat_lt n room && nat_le clock (at + echo_window))
 
+-- an echo has fewer full pieces than these: what a program writes in more is a repaint, which a number made early would cut
+abbrev pub most_pieces : ℕ
+most_pieces = 16
+
+-- these bytes of a pane that was typed in then fill the room, in time for an echo
+abbrev pub is_full : Option ℕ → Option ℕ → ℕ → ℕ → Bool
+is_full None count room clock = false
+is_full (Some at) None room clock = false
+is_full (Some at) (Some n) room clock = nat_le room n && nat_le clock (at + echo_window)
+
 -- so many milliseconds before a moment, if there is one
 abbrev pub before_by : ℕ → Option ℕ → Option ℕ
 before_by pace None = None

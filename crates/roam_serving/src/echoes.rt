@@ -1,13 +1,16 @@
 //! How far the moments of a server run ahead of its clock, so that the echo of a key doesn't wait for the next number.
-ghost use Rattle.std.specs.Prelude.{◌≡◌, ◌≤◌, ◌+◌, ◌||◌, ◌==◌, not, replicate, false, None, if◌then◌else◌};
+ghost use Rattle.std.specs.Prelude.{◌≡◌, ◌≤◌, ◌+◌, ◌-◌, ◌&&◌, ◌||◌, ◌==◌, nat_lt, not, replicate, false, None, if◌then◌else◌};
 ghost use Rattle.roam_hub.specs.Waits.{has_come};
-ghost use Rattle.roam_serving.specs.Echoes.{before_by, is_echo, leading, most_ahead, typed_after, typed_in, wish_outside};
+ghost use Rattle.roam_serving.specs.Echoes.{before_by, is_echo, is_full, leading, most_ahead, most_pieces, typed_after, typed_in, wish_outside};
 
 /// A moment is at most so many milliseconds ahead of the clock: as long as the least time from one number to the next.
 const MOST_AHEAD: u64 = 20;
 
 /// What a program writes within so many milliseconds after its pane was typed in counts as an echo.
 const ECHO_WINDOW: u64 = 20;
+
+/// An echo has fewer full pieces than these: what a program writes in more is a repaint, which a number made early would cut.
+const MOST_PIECES: u8 = 16;
 
 /// One more than the greatest number of a pane.
 const PANES: usize = 10;
@@ -19,6 +22,8 @@ pub(crate) struct Echoes {
     typed: [Option<u64>; PANES],
     // How many acts were taken of all client starts, modulo 2^64.
     acts: u64,
+    // How many more full pieces may come of what was typed in, since the last act was taken.
+    left: u8,
     // Whether an echo came since the last turn ended.
     echoed: bool,
     // The moment of the number that shows the last echo, until it has come.
@@ -54,6 +59,16 @@ fn is_echo(typed: Option<u64>, count: Option<usize>, room: usize, clock: u64) ->
     }
 }
 
+// Whether so many bytes of a pane that was typed in then fill the room, in time for an echo.
+fn is_full(typed: Option<u64>, count: Option<usize>, room: usize, clock: u64) -> bool
+    ensures full { result ≡ is_full typed count room clock }
+{
+    match (typed, count) {
+        (Some(at), Some(n)) => room <= n && clock <= at.saturating_add(ECHO_WINDOW),
+        _ => false,
+    }
+}
+
 // The moment that follows one before at a clock, if it may run ahead to that of a number.
 fn leading(wish: Option<u64>, before: u64, clock: u64) -> u64
     ensures leading { result ≡ leading wish before clock }
@@ -85,11 +100,12 @@ fn left_of(wish: Option<u64>, moment: u64) -> Option<u64>
 impl Echoes {
     /// Nothing was typed.
     pub(crate) fn new() -> Echoes
-        ensures none { result ≡ record { typed = replicate 10 None; acts = 0; echoed = false; wish = None } }
+        ensures none { result ≡ record { typed = replicate 10 None; acts = 0; left = 0; echoed = false; wish = None } }
     {
         Echoes {
             typed: [None; PANES],
             acts: 0,
+            left: 0,
             echoed: false,
             wish: None,
         }
@@ -97,19 +113,34 @@ impl Echoes {
 
     /// Notes at a clock how many acts were taken, and which pane is in focus.
     pub(crate) fn note_acts(&mut self, acts: u64, focus: u8, clock: u64)
-        ensures typed { self.new ≡ record self.old { acts = acts; typed = typed_after (not (acts == self.old.acts)) focus clock self.old.typed } }
+        ensures typed { self.new ≡ record self.old {
+          acts = acts;
+          left = if acts == self.old.acts then self.old.left else most_pieces;
+          typed = typed_after (not (acts == self.old.acts)) focus clock self.old.typed;
+        } }
     {
         let is_new = acts != self.acts;
         self.acts = acts;
+        self.left = if is_new { MOST_PIECES } else { self.left };
         note_typed(&mut self.typed, is_new, focus, clock);
     }
 
     /// Notes at a clock how many bytes of a pane's program came into a buffer of this room.
     pub(crate) fn hear(&mut self, pane: u8, count: Option<usize>, room: usize, clock: u64)
-        ensures echoed { self.new ≡ record self.old { echoed = self.old.echoed || is_echo (typed_in self.old.typed pane) count room clock } }
+        ensures echoed { self.new ≡ record self.old {
+          echoed = self.old.echoed || (is_echo (typed_in self.old.typed pane) count room clock && nat_lt 0 self.old.left);
+          left = if is_full (typed_in self.old.typed pane) count room clock then self.old.left - 1 else self.old.left;
+        } }
     {
         let typed = typed_in(&self.typed, pane);
-        self.echoed = self.echoed || is_echo(typed, count, room, clock);
+        let ends = is_echo(typed, count, room, clock) && 0 < self.left;
+        let is_full = is_full(typed, count, room, clock);
+        self.echoed = self.echoed || ends;
+        self.left = if is_full {
+            self.left.saturating_sub(1)
+        } else {
+            self.left
+        };
     }
 
     /// Aims at the moment of the next number, if an echo came.

@@ -1,5 +1,5 @@
 //! The ports of a server over sockets. What they carried isn't told.
-ghost use Rattle.std.specs.Prelude.{◌≡◌, ◌≢◌, ◌⊎◌, ◌<◌, ◌≤◌, ◌+◌, ◌-◌, ◌||◌, ◌==◌, if◌then◌else◌, [], ℕ, List, Option, slice_get, true, false, not, length, map, string_bytes, is_some, nat_lt, None, Some, IfOk, IfSome, IfErr};
+ghost use Rattle.std.specs.Prelude.{◌≡◌, ◌≢◌, ◌⊎◌, ◌<◌, ◌≤◌, ◌+◌, ◌-◌, ◌&&◌, ◌||◌, ◌==◌, if◌then◌else◌, [], ℕ, List, Option, slice_get, true, false, not, length, map, string_bytes, is_some, nat_lt, None, Some, IfOk, IfSome, IfErr};
 ghost use Rattle.std.specs.List.{All, AllZip};
 ghost use Rattle.std.specs.Option.{option_map};
 ghost use Rattle.roam_sockets.specs.Addresses.{number_of};
@@ -7,7 +7,7 @@ ghost use Rattle.roam_sockets.specs.Clients.{Accepts, IsOf, IsQueuedFor};
 ghost use Rattle.roam_sockets.specs.declared.udp.Udp.{Udp as UdpOf};
 ghost use Rattle.roam_sockets.specs.Waits.{wait_for};
 ghost use Rattle.roam_followers.specs.Asking.{HaveAsked, IsAsked, Settles};
-ghost use Rattle.roam_serving.specs.Echoes.{before_by, is_echo, leading, most_ahead, typed_after, typed_in, wish_outside};
+ghost use Rattle.roam_serving.specs.Echoes.{before_by, is_echo, is_full, leading, most_ahead, most_pieces, typed_after, typed_in, wish_outside};
 ghost use Rattle.roam_hub.specs.Waits.{has_come};
 ghost use Rattle.roam_serving.specs.Tellings.{count_asked, AreToldClips, AreToldBeside, AreToldAsks};
 ghost use Rattle.roam_pane_sockets.specs.Questions.{pane_asks};
@@ -375,6 +375,7 @@ impl<R: Clock + Drop> ServerPorts<R> {
     pub fn note_acts(&mut self, acts: u64, focus: u8)
         ensures typed { self.new.echoes ≡ record self.old.echoes {
           acts = acts;
+          left = if acts == self.old.echoes.acts then self.old.echoes.left else most_pieces;
           typed = typed_after (not (acts == self.old.echoes.acts)) focus self.old.clock self.old.echoes.typed;
         } }
         ensures others { self.new ≡ record self.old { echoes = self.new.echoes } }
@@ -628,7 +629,10 @@ impl<R: Clock + Drop> Ports for ServerPorts<R> {
             self.new.followers.all.items }
         // Only a pane that was typed in echoes.
         ensures echoed { self.new.echoes ≡ record self.old.echoes {
-          echoed = self.old.echoes.echoed || is_echo (typed_in self.old.echoes.typed pane) result (length buf.old) self.old.clock;
+          echoed = self.old.echoes.echoed || (is_echo (typed_in self.old.echoes.typed pane) result (length buf.old) self.old.clock
+              && nat_lt 0 self.old.echoes.left);
+          left = if is_full (typed_in self.old.echoes.typed pane) result (length buf.old) self.old.clock
+              then self.old.echoes.left - 1 else self.old.echoes.left;
         } }
     {
         let had_peer = self.panes.has_peer(pane);
