@@ -12,7 +12,7 @@ from collections.abc import Callable
 
 from roam_live.bells import BellSource
 from roam_live.faults import FaultLog
-from roam_live.following import KeeperFollowing
+from roam_live.following import PROBE, KeeperFollowing
 from roam_live.fronts import Fronts
 from roam_live.lasting import LOOKS, Lasting
 from roam_live.listeners import Listener
@@ -36,6 +36,10 @@ CLOSE_WAIT = 3.0
 
 # So many seconds later what the system refused is tried again.
 AGAIN = 0.25
+
+# The socket at which a server takes its clients: where its file was removed the server is had to take so many turns, so many seconds apart.
+CLIENTS = "clients"
+ROUSED, ROUSED_EACH = 2, 1.0
 
 # Messages after the host's sockets were removed.
 MENDED = "sockets of the session were removed, as by a cleaner of old files, and have been restored"
@@ -220,8 +224,8 @@ class Shells:
         self.folder = folder
         # What its first pane begins with, where somebody asked for that.
         self.first = first
-        # True once it was reported that its sockets can't be restored.
-        self.has_missed = False
+        # True once it was reported that its sockets can't be restored; and once the server's socket for clients was there.
+        self.has_missed = self.had_clients = False
         common.see_to(self.last)
         self.following = KeeperFollowing(f"{asked.dir}/panes", self.loop, self.hear, self.lost, self.tell, peer)
         # The process whose end is the window's: who listens there, where it isn't named.
@@ -477,6 +481,16 @@ class Shells:
         """Sees to what has to last of the folder."""
         self.lasting.due = 0.0
         self.lasting.turn()
+        is_there = not self.lasting.is_missing(CLIENTS)
+        if self.had_clients and not is_there:
+            self.rouse()
+        self.had_clients = self.had_clients or is_there
+
+    def rouse(self) -> None:
+        """Have the server take turns: it binds removed sockets anew in a turn, by the clock of the turn before, and takes none while all
+        its clients sleep."""
+        for again in range(ROUSED):
+            self.loop.later(f"rouse {again} {self.asked.dir}", again * ROUSED_EACH, lambda: self.following.ask(PROBE))
 
     def note(self, pane: PaneCommand) -> None:
         """Note that a pane has news; `tend` handles it before the next wait."""

@@ -758,6 +758,22 @@ class Mended(Played):
         self.assertEqual((self.folder.stat().st_mode & 0o777, self.windows.lasting.own is not None), (0o700, True))
         self.windows.windows[1].shells.lasting.demand()
 
+    def test_server(self):
+        """A server whose own socket was removed is had to take two turns each minute, in which it binds that anew; else it isn't asked."""
+        for number in (1, 2):
+            self.path(number, "clients").touch()
+        self.minutes()
+        self.path(2, "clients").unlink()
+        for number, asked in ((1, []), (2, ["alive", "alive"])):
+            read_now(self.servers[number])
+            self.minutes()
+            self.now += 1
+            self.turns(2)
+            self.assertEqual(read_now(self.servers[number]).decode().split(), asked)
+        self.servers[2].send(b"bad line\nbad line\n")
+        self.turns(3)
+        self.assertEqual((set(self.windows.windows), self.common.faults.count), ({1, 2}, 0))
+
     def test_locked(self):
         """While somebody launches something there nothing is done."""
         self.clean()
