@@ -14,7 +14,7 @@ built = $(patsubst %,crates/%/out/built,$(1))
 .PHONY: all show test bench try install clean
 
 all: program = roam
-show: program = show_program
+show: program = roam_show_bin
 
 # Each crate prints a line as it is proved; as many go side by side as there are processors. One build waits for another of the same tree.
 all show:

@@ -5,7 +5,7 @@
 . "$(dirname "$0")/common.sh"
 millions=${1:-50}
 rounds=${2:-3}
-speed=$(built speed)
+speed=$(built roam_bench)
 
 # shellcheck disable=SC2086
 each_round $speed grid "$millions" | awk "$best"'

@@ -8,7 +8,7 @@
 . "$(dirname "$0")/common.sh"
 times=${1:-500}
 rounds=${2:-5}
-speed=$(built speed)
+speed=$(built roam_bench)
 meter=$(compiled show_meter)
 
 printf '%-12s %8s %8s %8s %8s %8s %8s %8s %12s %8s\n' microseconds copy idle '64 idle' row scroll redraw key 'bytes a key' further

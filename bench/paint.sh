@@ -6,7 +6,7 @@
 . "$(dirname "$0")/common.sh"
 times=${1:-2000}
 rounds=${2:-5}
-speed="$(built speed) paint"
+speed="$(built roam_bench) paint"
 compare=$(compiled paint_compare)
 
 # A size in two words.

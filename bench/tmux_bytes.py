@@ -1,7 +1,7 @@
 #!/usr/bin/env python3
 """bench/tmux_bytes.py ROWS COLS: how many bytes tmux sends its client for an echoed key, a scrolled screen and a full one.
 
-The changes are those of `speed paint`: a screen full of letters, then one letter in its fifth row, then a line feed with another line at
+The changes are those of `roam_bench paint`: a screen full of letters, then one letter in its fifth row, then a line feed with another line at
 the bottom, then another letter in each place. The client is a pseudo-terminal of ROWS by COLS with TERM=xterm-256color, the status line
 is off, and the bytes are counted that come until nothing has come for half a second. It needs tmux and python3.
 """

@@ -8,7 +8,7 @@
 million=${1:-4}
 rounds=${2:-5}
 compare=$(compiled cells_compare)
-speed="$(built speed) update"
+speed="$(built roam_bench) update"
 
 # Rows, columns, how often.
 all() {

@@ -829,7 +829,7 @@ class Wishes(Case):
         person.place.told = places
         person.commands.told()
 
-    def test_moved(self):
+    def test_scroll_paint(self):
         """What is asked goes by where this person put the focus until that is told, however long it takes."""
         person = self.person()
         self.assertEqual(person.types(b"\x02\x1b[C\x02\x1b[B"), ["focus 2", "focus 3"])

@@ -65,7 +65,7 @@ class AtKeeper(Sockets):
             self.assertIsNone(self.socket.handed.for_pane(rect))
             os.rmdir(self.folder / "src")
 
-    def test_moved(self):
+    def test_scroll_paint(self):
         """So has one along a side that the pane has got since, as where a zoom ended."""
         self.hand("1 7", Begins(["htop"]))
         beside = Rect(1, 101, 40, 50)
@@ -147,7 +147,7 @@ class AtFrontEnd(Case):
         self.commands.shells.ran(f"{NAME} late")
         self.assertEqual(self.told(), ["not run: no pane came in its place"])
 
-    def test_moved(self):
+    def test_scroll_paint(self):
         """It is split where the person asked for that, and with -d the focus is there again."""
         self.runner.typed("splitw -d htop")
         self.commands.places.return_value = Places({1: FIRST, 2: RIGHT}, 2)

@@ -255,7 +255,7 @@ class Lives(Net):
         self.assertEqual(list(self.far.received()), [])
         self.assertEqual(self.far.place, ("::9", 9, 0, 0))
 
-    def test_hops(self):
+    def test_update_paint(self):
         """A near end that hears nothing for 10 s goes on from another port, each 10 s, where there is one."""
         ends = []
 

@@ -48,7 +48,7 @@ class Told(Case):
 
     SCREEN = "2 4 1 3 hidden\n\x1b[0;1ma\x1f\x1b[0;1;31m\u4e2d\x1f\x1f\x1b[0m \n \x1fe\u0301\x1f\x1b[0m\x1b[38;2;1;2;3mz\x1f\x1b[m \n"
 
-    def test_cells(self):
+    def test_decode(self):
         """Each has its style, which SGR before a cell changes from that of the one before, and the default is before the first."""
         shown = told_cells.cells_of(self.SCREEN.encode())
         bold, red, plain = Style(frozenset({"bold"})), Style(frozenset({"bold"}), 1), Style()
@@ -104,7 +104,7 @@ class Shown(Case):
         self.assertEqual(cells.cells[2, 1], ("c", Style(frozenset({"bold"}))))
         self.assertEqual(cells.cells[1, 2][0], "b")
 
-    def test_moved(self):
+    def test_scroll_paint(self):
         """Rows go up and down between margins, the rest of a row is erased, and CUP may lack its column."""
         cells = PaintedCells()
         cells.fed("\x1b[1Haa\x1b[2Hbb\x1b[3Hcc\x1b[4Hdd")

@@ -34,7 +34,7 @@ class Answered(Case):
 
     def test_version(self):
         """The version that is told is that of the program."""
-        source = (TOOLS.parent / "crates/roam_command/src/commands.rt").read_text(encoding="utf-8")
+        source = (TOOLS.parent / "crates/roam_cli/src/commands.rt").read_text(encoding="utf-8")
         self.assertIn(f'.version("{VERSION}")', source)
 
     def test_frames(self):

@@ -286,7 +286,7 @@ class Near(Both):
             self.near.take(0, SEALED_HEAD.pack(b"s", 1, self.port, KEY))
         self.assertEqual(self.near.ways.path.seal.cipher.key, bytes([49]) * 32)
 
-    def test_hops(self):
+    def test_update_paint(self):
         """A path that goes on from another port is heard there."""
         self.sound()
         self.near.ways.path.hop(self.now)

@@ -6,14 +6,14 @@
 //! `roam serve` serves a session whose panes are reached at sockets; `roam attach` follows one and paints it.
 #![tactic(auto)]
 
-use roam_attaching::{Attach, Home, Typed, run_attach, tell_end, tell_failed};
-use roam_command::{Request, Server, Source, Wire, asked, asks_why, words_of};
+use roam_attach::{Attach, Home, Typed, run_attach, tell_end, tell_failed};
+use roam_cli::{Request, Server, Source, Wire, asked, asks_why, words_of};
 use roam_faults::{RunFault, end};
-use roam_left_rows::{end_rows, run_rows};
-use roam_play::run_world;
-use roam_serving::{Serve, run_serve, tell_unbound};
+use roam_scrollback_stream::{end_rows, run_rows};
+use roam_serve::{Serve, run_serve, tell_unbound};
 use roam_show::run_show;
 use roam_wire::Version;
+use roam_world_run::run_world;
 use std::io;
 use std::os::fd::RawFd;
 use std::process::ExitCode;
@@ -93,8 +93,8 @@ fn run(rt: &HostRuntime, request: Request<'_>) -> ExitCode {
             );
             end(rt, ran)
         }
-        Request::Rows { as_meant } => {
-            let ran = run_rows(rt.alloc(), as_meant, &mut rt.reader(), &mut io::writer(rt));
+        Request::Rows { normalize } => {
+            let ran = run_rows(rt.alloc(), normalize, &mut rt.reader(), &mut io::writer(rt));
             end_rows(rt, ran)
         }
         Request::World => {
@@ -106,7 +106,7 @@ fn run(rt: &HostRuntime, request: Request<'_>) -> ExitCode {
             port,
             session,
             turns,
-            as_meant,
+            normalize,
         } => serve(
             rt,
             &Serve {
@@ -114,7 +114,7 @@ fn run(rt: &HostRuntime, request: Request<'_>) -> ExitCode {
                 port,
                 session,
                 turns,
-                as_meant,
+                normalize,
             },
         ),
         Request::Attach {

@@ -17,8 +17,8 @@ use Rattle.std.specs.Str.{bytes_eq, IsUtf8}
 use Rattle.std.specs.Str.Parse.{IsNumeral, ParsesSigned, digits_value, signed_digits_value, starts_with_minus, without_leading_plus}
 use lib.Signed.{mag, le_z}
 use lib.Utf8.{scalar}
-use Rattle.roam_numbers.specs.Numbers.{id_in}
-use Rattle.roam_numbers.proofs.Spelled.{id_again, id_found}
+use Rattle.roam_tokens.specs.Numbers.{id_in}
+use Rattle.roam_tokens.proofs.Spelled.{id_again, id_found}
 use Rattle.roam_acts.specs.Lines.{IsHexadecimal}
 use Rattle.roam_acts.specs.Reading.{is_integer, integer_in, only_scalar, scalar_in}
 

@@ -8,7 +8,7 @@ use Rattle.std.specs.Str.Parse.{signed_digits_value}
 use Rattle.std.specs.Int.{w16, cast_signed}
 use Rattle.byteorder.specs.Endian.{big_number}
 use lib.Utf8.{scalar}
-use Rattle.roam_numbers.specs.Numbers.{id_in}
+use Rattle.roam_tokens.specs.Numbers.{id_in}
 use Rattle.roam_acts.specs.declared.acts.Act.{Act}
 use Rattle.roam_acts.specs.declared.acts.Act.TheVariants as act
 use Rattle.roam_keys.specs.declared.keys.Key.TheVariants as key

@@ -14,7 +14,7 @@ use crate::limits::MOST_PANES;
 use itoa::Buffer;
 use roam_cells::Fault;
 use roam_keys::Key;
-use roam_numbers::id;
+use roam_tokens::id;
 use std::fmt;
 
 // How many digits a code point may have.

@@ -20,12 +20,12 @@ use Rattle.roam_update.proofs.Testing.{screenshot_is, old_screenshot_is}
 use Rattle.roam_wire.specs.declared.versions.Version.{Version}
 use Rattle.roam_wire.specs.declared.versions.Version.TheVariants.{One, Two}
 use Rattle.roam_wire.specs.Versions.{most_bytes}
-use Rattle.roam_world.specs.Versions.{seen_by, IsSeenBy, difference_by, applied_by}
-use Rattle.roam_world.proofs.Versions.{change_short}
+use Rattle.roam_model.specs.Versions.{seen_by, IsSeenBy, difference_by, applied_by}
+use Rattle.roam_model.proofs.Versions.{change_short}
 use Rattle.roam_wire.specs.Cutting.{texts_of}
 use Rattle.roam_wire.specs.Instructions.{DownValue, down_text}
-use Rattle.roam_world.specs.Texts.{Address, datagram_with}
-use Rattle.roam_world.specs.Ticks.{holds_after}
+use Rattle.roam_model.specs.Texts.{Address, datagram_with}
+use Rattle.roam_model.specs.Ticks.{holds_after}
 use Rattle.roam_cells.specs.declared.addresses.Addr.{Addr}
 use Rattle.roam_hub.specs.Servers.{RecordView, address_of, parcels_of}
 use Rattle.roam_hub.specs.Records.{held_record, fragments_due, is_sent_to, fragments_sent, datagrams_for, parcels_for}

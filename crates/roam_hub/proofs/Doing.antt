@@ -8,13 +8,13 @@ use Rattle.roam_acts.specs.declared.acts.Act.{Act}
 use Rattle.roam_session.specs.Sessions.{SessionSize, Entry, Did}
 use Rattle.roam_session.specs.Refusals.{stops}
 use Rattle.roam_session.specs.Stands.{SessionView, Stands, Appends}
-use Rattle.roam_world.specs.ServerArrivals.{reach}
+use Rattle.roam_model.specs.ServerArrivals.{reach}
 use Rattle.roam_hub.specs.Records.{taking, TakesActs, all, full, no_memory}
 
 -- the first k acts are done
 pub record AreDone (size : SessionSize) (log : List Entry) (id : ℕ) (acts : List Act) (k : ℕ) (state : SessionView) : Type 0 where
   pub stands : Stands state size (log ++ map (Did id) (take k acts))
-  pub reach : reach size log id acts ≡ k + Rattle.roam_world.specs.ServerArrivals.reach size (log ++ map (Did id) (take k acts)) id (drop k acts)
+  pub reach : reach size log id acts ≡ k + Rattle.roam_model.specs.ServerArrivals.reach size (log ++ map (Did id) (take k acts)) id (drop k acts)
 
 none_done : (size : SessionSize) (log : List Entry) (id : ℕ) (acts : List Act) → log ++ map (Did id) (take 0 acts) ≡ log
 none_done size log id [] = append-nil log

@@ -4,12 +4,12 @@ use Rattle.std.specs.Prelude.{nat_eq, nat_le, not, ◌&&◌}
 use Rattle.std.specs.List.{IsDistinct, AllByRecursion}
 use Rattle.std.specs.Map.{keys_of, lookup, set_value}
 use Rattle.std.proofs.lemmas.Bool.Decides.{nat_tests}
-use Rattle.roam_world.specs.Lists.{with_value}
-use Rattle.roam_world.specs.Servers.{Record, no_record, Server}
+use Rattle.roam_model.specs.Lists.{with_value}
+use Rattle.roam_model.specs.Servers.{Record, no_record, Server}
 use Rattle.roam_wire.specs.Datagrams.{DatagramValue}
-use Rattle.roam_world.specs.Texts.{is_watching}
-use Rattle.roam_world.specs.Versions.{is_same_version}
-use Rattle.roam_world.specs.ServerArrivals.{arrival_with, is_same, most_of, alike_in, alike, is_full_for, is_of_other, is_else}
+use Rattle.roam_model.specs.Texts.{is_watching}
+use Rattle.roam_model.specs.Versions.{is_same_version}
+use Rattle.roam_model.specs.ServerArrivals.{arrival_with, is_same, most_of, alike_in, alike, is_full_for, is_of_other, is_else}
 use Rattle.roam_hub.specs.Servers.{RecordView, ServerView, kept_of, IsKept, AreKept, Stands}
 use Rattle.roam_hub.specs.Records.{Puts, known, added, entry_of, alike_entries, Fits}
 

@@ -21,12 +21,12 @@ use Rattle.roam_wire.specs.Gatherers.{Gathering, Answer, Whole, gather, fragment
 use Rattle.roam_wire.specs.declared.datagrams.Kind.{Kind}
 use Rattle.roam_wire.specs.Headers.{checked_header, datagram_at, datagram_if, datagram_with, header_at, Refuses}
 use Rattle.roam_wire.specs.Instructions.{DownValue, IsDown, down_text, reason_for}
-use Rattle.roam_world.specs.Moments.{owed_from}
-use Rattle.roam_world.specs.Versions.{applied_by}
-use Rattle.roam_world.specs.Texts.{SaysDown, update_in}
-use Rattle.roam_world.specs.Clients.{moment_of}
-use Rattle.roam_world.specs.ClientArrivals.{arriving, arriving_gathered, after_fragment, hearing_of}
-use Rattle.roam_world.specs.Arrival.{turned_away, noted}
+use Rattle.roam_model.specs.Moments.{owed_from}
+use Rattle.roam_model.specs.Versions.{applied_by}
+use Rattle.roam_model.specs.Texts.{SaysDown, update_in}
+use Rattle.roam_model.specs.Clients.{moment_of}
+use Rattle.roam_model.specs.ClientArrivals.{arriving, arriving_gathered, after_fragment, hearing_of}
+use Rattle.roam_model.specs.Arrival.{turned_away, noted}
 use Rattle.roam_acts.proofs.Fields.{IsBytes}
 use Rattle.roam_wire.proofs.Heads.{found}
 use Rattle.roam_hub.specs.declared.clients.Heard.{Heard}

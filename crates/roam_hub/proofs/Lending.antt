@@ -6,8 +6,8 @@ use Rattle.roam_sync.specs.Senders.{Sending, newest}
 use Rattle.roam_wire.specs.declared.versions.Version.{Version}
 use Rattle.roam_wire.specs.Instructions.{IsDown, down_value, down_text}
 use Rattle.roam_wire.specs.Versions.{most_bytes}
-use Rattle.roam_world.specs.Versions.{seen_by, difference_by, applied_by}
-use Rattle.roam_world.specs.Ticks.{down_from}
+use Rattle.roam_model.specs.Versions.{seen_by, difference_by, applied_by}
+use Rattle.roam_model.specs.Ticks.{down_from}
 use Rattle.roam_hub.specs.declared.shared.SharedChange.{SharedChange}
 use Rattle.roam_hub.specs.Shared.{HoldsMade, IsBetween, Agree, IsFromTo, HasChange, LeadsOver, IsChangeFor, with_acked}
 use Rattle.roam_hub.proofs.Addressing.{down_short}

@@ -9,7 +9,7 @@ use Rattle.roam_wire.specs.declared.versions.Version.TheVariants.{One, Two}
 use Rattle.roam_wire.specs.Versions.{most_fragments}
 use Rattle.roam_wire.specs.Cutting.{AreSendable}
 use Rattle.roam_wire.specs.Datagrams.{DatagramValue, IsDatagram, datagram_text}
-use Rattle.roam_world.specs.Texts.{datagram_with}
+use Rattle.roam_model.specs.Texts.{datagram_with}
 
 -- some fragments are written, the others are left
 pub record IsPacking (g : ℕ × List ℕ → DatagramValue) (ps done rest : List (List ℕ)) : Type 0 where

@@ -24,12 +24,12 @@ use Rattle.roam_wire.specs.declared.versions.Version.{Version}
 use Rattle.roam_wire.specs.Instructions.{UpValue, IsUp, IsUpOf, up_text, reason_for}
 use Rattle.roam_session.specs.Sessions.{SessionSize, Entry}
 use Rattle.roam_session.specs.Stands.{SessionView, Stands as SessionStands}
-use Rattle.roam_world.specs.Moments.{owed_from}
-use Rattle.roam_world.specs.Numbers.{first_screen}
-use Rattle.roam_world.specs.Texts.{Address, is_watching, SaysUp}
-use Rattle.roam_world.specs.Servers.{no_record}
-use Rattle.roam_world.specs.ServerArrivals.{coming_gathered, is_same, most_of}
-use Rattle.roam_world.proofs.Versions as versions
+use Rattle.roam_model.specs.Moments.{owed_from}
+use Rattle.roam_model.specs.Numbers.{first_screen}
+use Rattle.roam_model.specs.Texts.{Address, is_watching, SaysUp}
+use Rattle.roam_model.specs.Servers.{no_record}
+use Rattle.roam_model.specs.ServerArrivals.{coming_gathered, is_same, most_of}
+use Rattle.roam_model.proofs.Versions as versions
 use Rattle.roam_hub.specs.declared.taking.Taking.{Taking}
 use Rattle.roam_hub.specs.Servers.{RecordView, kept_of}
 use Rattle.roam_hub.specs.Records.{taking, TakesActs, heard_by, informed_by, Notes, fragment, instruction, NotNoted, no_fragment, unread, no_memory, known, added, NotesIn, NotNotedIn, room, differs, entry_of, first_record, Fits, another_version, another_kind, NotHeard, other, fitting, fitted_record, alike_entries, acts_after}

@@ -20,14 +20,14 @@ use Rattle.roam_session.specs.Stands.{SessionView, Stands as SessionStands, Appe
 use Rattle.roam_session.specs.Queues.{IsWithin}
 use Rattle.roam_session.proofs.Entering.{waiting_is}
 use Rattle.roam_acts.specs.Takers.{fresh_of}
-use Rattle.roam_world.specs.Numbers.{cut_of, screen, first_screen}
+use Rattle.roam_model.specs.Numbers.{cut_of, screen, first_screen}
 use Rattle.roam_wire.specs.declared.versions.Version.TheVariants.{Two}
-use Rattle.roam_world.specs.Texts.{Address, is_to_server, is_watching}
-use Rattle.roam_world.specs.Versions.{is_same_version}
-use Rattle.roam_world.specs.Lists.{with_value}
-use Rattle.roam_world.specs.Servers.{Record, Server, new_server, moment, after_input}
-use Rattle.roam_world.specs.ServerArrivals.{coming, coming_gathered, is_same, is_full_for, is_of_other, is_else, most_of, arrival_with, heard_from, informed_from, new_acts, after_acts, room_for}
-use Rattle.roam_world.specs.Arrival.{turned_away}
+use Rattle.roam_model.specs.Texts.{Address, is_to_server, is_watching}
+use Rattle.roam_model.specs.Versions.{is_same_version}
+use Rattle.roam_model.specs.Lists.{with_value}
+use Rattle.roam_model.specs.Servers.{Record, Server, new_server, moment, after_input}
+use Rattle.roam_model.specs.ServerArrivals.{coming, coming_gathered, is_same, is_full_for, is_of_other, is_else, most_of, arrival_with, heard_from, informed_from, new_acts, after_acts, room_for}
+use Rattle.roam_model.specs.Arrival.{turned_away}
 use Rattle.roam_acts.proofs.Fields.{IsBytes}
 use Rattle.roam_hub.specs.Clients.{IsTextOf}
 use Rattle.roam_hub.proofs.Hearing.{text_there}

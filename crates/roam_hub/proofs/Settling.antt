@@ -5,9 +5,9 @@ use Rattle.std.specs.List.{flat_map, list_any}
 use Rattle.std.proofs.lemmas.List.{append_assoc}
 use Rattle.indexmap.specs.Layout.{set_value_at}
 use Rattle.roam_screens.specs.Screenshot.{Screenshot}
-use Rattle.roam_world.specs.Moments.{is_spent}
-use Rattle.roam_world.specs.Texts.{Address}
-use Rattle.roam_world.proofs.Keeps.{not_past, or_left, or_right}
+use Rattle.roam_model.specs.Moments.{is_spent}
+use Rattle.roam_model.specs.Texts.{Address}
+use Rattle.roam_model.proofs.Keeps.{not_past, or_left, or_right}
 use Rattle.roam_hub.specs.declared.shared.SharedChange.{SharedChange}
 use Rattle.roam_hub.specs.Servers.{RecordView}
 use Rattle.roam_hub.specs.Shared.{HoldMade, GoTogether, StayTogether}

@@ -13,12 +13,12 @@ use Rattle.roam_session.specs.Stands.{SessionView}
 use Rattle.roam_wire.specs.declared.versions.Version.{Version}
 use Rattle.roam_wire.specs.declared.versions.Version.TheVariants.{One, Two}
 use Rattle.roam_wire.specs.Datagrams.{DatagramValue}
-use Rattle.roam_world.specs.Numbers.{first_screen}
-use Rattle.roam_world.specs.Texts.{Address}
-use Rattle.roam_world.specs.Versions.{seen_by}
-use Rattle.roam_world.specs.Servers.{no_record}
-use Rattle.roam_world.specs.Ticks.{holds_after}
-use Rattle.roam_world.proofs.Versions as versions
+use Rattle.roam_model.specs.Numbers.{first_screen}
+use Rattle.roam_model.specs.Texts.{Address}
+use Rattle.roam_model.specs.Versions.{seen_by}
+use Rattle.roam_model.specs.Servers.{no_record}
+use Rattle.roam_model.specs.Ticks.{holds_after}
+use Rattle.roam_model.proofs.Versions as versions
 use Rattle.roam_hub.specs.declared.taking.Taking.{Taking}
 use Rattle.roam_hub.specs.declared.shared.SharedChange.{SharedChange}
 use Rattle.roam_hub.specs.Servers.{RecordView, kept_of}

@@ -8,8 +8,8 @@ use Rattle.std.proofs.lemmas.List.FromFn.{length-enumerate_from}
 use Rattle.roam_cells.specs.declared.faults.Fault.{Fault}
 use Rattle.roam_cells.specs.declared.faults.Fault.TheVariants.{OutOfMemory, Spent}
 use Rattle.roam_acts.specs.Senders.{Typing}
-use Rattle.roam_world.specs.Moments.{is_spent}
-use Rattle.roam_world.proofs.Keeps.{not_past, or_left, or_right}
+use Rattle.roam_model.specs.Moments.{is_spent}
+use Rattle.roam_model.proofs.Keeps.{not_past, or_left, or_right}
 use Rattle.roam_wire.specs.declared.datagrams.Kind.TheVariants.{FromWatcher}
 use Rattle.roam_wire.specs.declared.versions.Version.{Version}
 use Rattle.roam_wire.specs.declared.versions.Version.TheVariants.{One, Two}
@@ -17,9 +17,9 @@ use Rattle.roam_wire.specs.Versions.{most_bytes}
 use Rattle.roam_wire.specs.Cutting.{texts_of}
 use Rattle.roam_wire.specs.Datagrams.{datagram_text}
 use Rattle.roam_wire.specs.Instructions.{UpValue, up_text}
-use Rattle.roam_world.specs.Texts.{kind_from, datagram_with}
-use Rattle.roam_world.specs.Clients.{Kept, moment_of}
-use Rattle.roam_world.specs.Sendings.{is_client_due, is_client_spent, last_waiting, fragments_from, datagrams_from, after_sending, after_quiet}
+use Rattle.roam_model.specs.Texts.{kind_from, datagram_with}
+use Rattle.roam_model.specs.Clients.{Kept, moment_of}
+use Rattle.roam_model.specs.Sendings.{is_client_due, is_client_spent, last_waiting, fragments_from, datagrams_from, after_sending, after_quiet}
 use Rattle.roam_hub.specs.Clients.{ClientView, keeping, Sends, quiet, spent, sent, no_memory}
 
 pub text_sent : (number : ℕ) (t : Typing) (u : UpValue) (text : List ℕ) → u.acked ≡ number → u.first ≡ t.acked + 1

@@ -16,15 +16,15 @@ use Rattle.roam_wire.specs.Datagrams.{DatagramValue, datagram_text}
 use Rattle.roam_wire.specs.Instructions.{down_text}
 use Rattle.roam_session.specs.Faces.{face}
 use Rattle.roam_session.specs.Stands.{keeping}
-use Rattle.roam_world.specs.Moments.{has_passed, is_spent}
+use Rattle.roam_model.specs.Moments.{has_passed, is_spent}
 use Rattle.roam_wire.specs.declared.versions.Version.{Version}
 use Rattle.roam_wire.specs.declared.versions.Version.TheVariants.{Two}
-use Rattle.roam_world.specs.Versions.{seen_by}
-use Rattle.roam_world.proofs.Keeps.{or_left}
-use Rattle.roam_world.specs.Numbers.{cut_of, screen, first_screen}
-use Rattle.roam_world.specs.Texts.{Address, datagrams_of}
-use Rattle.roam_world.specs.Servers.{Record, no_record, Server, moment}
-use Rattle.roam_world.specs.Ticks.{makes, cuts_after, number_after, screen_after, screen_to, holds_after, sends, down_from, down_to, fragments_to, after_sent, ticked_record, datagrams_to, is_record_spent, Parcel, parcel, parcels_to, sent_by, after_tick}
+use Rattle.roam_model.specs.Versions.{seen_by}
+use Rattle.roam_model.proofs.Keeps.{or_left}
+use Rattle.roam_model.specs.Numbers.{cut_of, screen, first_screen}
+use Rattle.roam_model.specs.Texts.{Address, datagrams_of}
+use Rattle.roam_model.specs.Servers.{Record, no_record, Server, moment}
+use Rattle.roam_model.specs.Ticks.{makes, cuts_after, number_after, screen_after, screen_to, holds_after, sends, down_from, down_to, fragments_to, after_sent, ticked_record, datagrams_to, is_record_spent, Parcel, parcel, parcels_to, sent_by, after_tick}
 use Rattle.roam_cells.specs.declared.addresses.Addr.{Addr}
 use Rattle.roam_hub.specs.Servers.{RecordView, ServerView, kept_of, IsKept, AreKept, Stands, parcels_of, parcel_text, is_touched, is_server_due, is_ack_spent, is_number_spent, Ticks, spent, ticked as did_tick, no_memory}
 use Rattle.roam_hub.specs.Records.{bare, is_sent_to, fragments_sent, settled_with, held_record, texts_for, is_entry_spent, settled_entry, makes_at, sent_by_tick, ticked_by, is_any_spent}
@@ -42,7 +42,7 @@ sends_is : (r : Record) (n : ℕ) (s : Screenshot) (now : ℕ) → r.known ≡ t
 unfolding sends
 sends_is r n s now known =
     (λ i. (sym known i && nat_lt now (r.heard_at + 60000))
-    && (Rattle.roam_sync.specs.Senders.is_due (holds_is r n (seen_by r.version s) now known i) now || Rattle.roam_world.specs.Moments.is_overdue r.owed now))
+    && (Rattle.roam_sync.specs.Senders.is_due (holds_is r n (seen_by r.version s) now known i) now || Rattle.roam_model.specs.Moments.is_overdue r.owed now))
 
 -- what goes to it
 map_parcel : (to : Address) (ds : List DatagramValue) → map (λ d. (to, datagram_text d)) ds ≡ map parcel_text (map (parcel to) ds)
@@ -283,7 +283,7 @@ module _ (v : ServerView) (s : Server) (n : ℕ) (sc : Screenshot) (m : ℕ) (st
   stands_made made_now =
       record {
         session = st.session;
-        log = record { plan = st.log.plan; panes = st.log.panes; lives = st.log.lives };
+        log = record { plan = st.log.plan; panes = st.log.panes; generations = st.log.generations };
         made = e;
         cut =
             subst (λ (cs : List ℕ). cut_of cs (length cs) ≤ length s.log) (sym cuts)

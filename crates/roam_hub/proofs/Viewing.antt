@@ -9,7 +9,7 @@ use Rattle.roam_cells.specs.declared.faults.Fault.TheVariants.{OutOfMemory, Busy
 use Rattle.roam_acts.specs.declared.acts.Act.{Act}
 use Rattle.roam_acts.specs.Acts.{IsAct}
 use Rattle.roam_acts.specs.Senders.{Typing, after_typing, after_typing_all, HasNoRoom, IsShort}
-use Rattle.roam_world.specs.Clients.{Kept, after_typed}
+use Rattle.roam_model.specs.Clients.{Kept, after_typed}
 use Rattle.roam_hub.specs.Clients.{ClientView, keeping, after_typed_all, TypesAll}
 use Rattle.roam_hub.specs.Clients.TypesAll.{full, spent, typed, no_memory}
 

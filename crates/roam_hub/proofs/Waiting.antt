@@ -8,11 +8,11 @@ use Rattle.std.proofs.lemmas.List.Folds.{list_any_more}
 use Rattle.std.proofs.lemmas.Option.{get_or_from_slice_get}
 use Rattle.roam_screens.specs.Screenshot.{Screenshot}
 use Rattle.roam_sync.specs.Senders.{newest, count, offered, is_due}
-use Rattle.roam_world.specs.Moments.{has_passed, is_overdue, is_spent}
-use Rattle.roam_world.specs.Servers.{Record, no_record, Server, moment}
-use Rattle.roam_world.specs.Ticks.{makes, cuts_after, number_after, screen_to, is_offered, holds_after, sends, after_sent, ticked_record, datagrams_to, is_record_spent, Parcel, parcel, parcels_to, sent_by, after_tick}
-use Rattle.roam_world.specs.Versions.{seen_by}
-use Rattle.roam_world.proofs.Keeps.{or_left, or_right}
+use Rattle.roam_model.specs.Moments.{has_passed, is_overdue, is_spent}
+use Rattle.roam_model.specs.Servers.{Record, no_record, Server, moment}
+use Rattle.roam_model.specs.Ticks.{makes, cuts_after, number_after, screen_to, is_offered, holds_after, sends, after_sent, ticked_record, datagrams_to, is_record_spent, Parcel, parcel, parcels_to, sent_by, after_tick}
+use Rattle.roam_model.specs.Versions.{seen_by}
+use Rattle.roam_model.proofs.Keeps.{or_left, or_right}
 use Rattle.roam_hub.specs.Servers.{RecordView, ServerView, kept_of, AreKept, Stands, is_touched, is_server_due, is_ack_spent}
 use Rattle.roam_hub.specs.Records.{held_record, is_sent_to, makes_at}
 use Rattle.roam_hub.specs.Waits.{has_come, PassesFrom, is_record_due, is_entry_due, IsQuiet}
@@ -209,10 +209,10 @@ module _ (v : ServerView) (s : Server) (m : ℕ) (st : Stands v s) where
 
     no_parcels : (id : ℕ) → parcels_to s m id ≡ []
     no_parcels id =
-        ap (λ b. map (parcel (s.records id).address) (cond b (Rattle.roam_world.specs.Texts.datagrams_of (s.records id).version
+        ap (λ b. map (parcel (s.records id).address) (cond b (Rattle.roam_model.specs.Texts.datagrams_of (s.records id).version
         Rattle.roam_wire.specs.declared.datagrams.Kind.TheVariants.ToClient s.session id (s.records id).datagrams
         (length (s.records id).instructions + 1)
-        (Rattle.roam_world.specs.Ticks.fragments_to (s.records id) (number_after s m) (screen_to s m id) m)) [])) (unsent id)
+        (Rattle.roam_model.specs.Ticks.fragments_to (s.records id) (number_after s m) (screen_to s m id) m)) [])) (unsent id)
 
     pub is_quiet : IsQuiet s m
     is_quiet =
@@ -231,7 +231,7 @@ module _ (v : ServerView) (s : Server) (m : ℕ) (st : Stands v s) where
               || any_none (λ id. is_record_spent (s.records id) (number_after s m) (screen_to s m id) m)
               (λ id. ap (λ b. b && (is_spent (length (s.records id).instructions + 1)
               || is_spent ((s.records id).datagrams
-              + length (Rattle.roam_world.specs.Ticks.fragments_to (s.records id) (number_after s m) (screen_to s m id) m)))) (unsent id))
+              + length (Rattle.roam_model.specs.Ticks.fragments_to (s.records id) (number_after s m) (screen_to s m id) m)))) (unsent id))
               s.arrival i)
               || any_none (is_ack_spent s m) (λ id. ap (λ b. b && is_spent (s.records id).taken) (unsent id))
               s.arrival i);

@@ -15,13 +15,13 @@ use Rattle.roam_wire.specs.Headers.{header_at, kind_tagged, fragment_fault, kind
 use Rattle.roam_wire.specs.Gatherers.{Gathering}
 use Rattle.roam_wire.specs.Instructions.{UpValue}
 use Rattle.roam_wire.proofs.Heads.{again}
-use Rattle.roam_world.specs.Texts.{Address, is_watching, SaysUp}
-use Rattle.roam_world.specs.Servers.{Server, moment}
-use Rattle.roam_world.specs.ServerArrivals.{new_acts, after_acts, after_note, room_for}
-use Rattle.roam_world.specs.Laws.{IsSameBut}
-use Rattle.roam_world.proofs.Follows.{fresh_none, same_acts}
-use Rattle.roam_world.proofs.Members.{put_other}
-use Rattle.roam_world.proofs.Runs.{reach_low}
+use Rattle.roam_model.specs.Texts.{Address, is_watching, SaysUp}
+use Rattle.roam_model.specs.Servers.{Server, moment}
+use Rattle.roam_model.specs.ServerArrivals.{new_acts, after_acts, after_note, room_for}
+use Rattle.roam_model.specs.Laws.{IsSameBut}
+use Rattle.roam_model.proofs.Follows.{fresh_none, same_acts}
+use Rattle.roam_model.proofs.Members.{put_other}
+use Rattle.roam_model.proofs.Runs.{reach_low}
 use Rattle.roam_hub.specs.Clients.{IsTextOf}
 use Rattle.roam_hub.specs.declared.addresses.Stop.{Stop}
 use Rattle.roam_hub.specs.declared.taking.Taking.{Taking}

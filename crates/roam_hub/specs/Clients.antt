@@ -16,14 +16,14 @@ use Rattle.roam_wire.specs.Datagrams.{DatagramValue, IsDatagram, datagram_text}
 use Rattle.roam_wire.specs.Gatherers.{Gathering}
 use Rattle.roam_wire.specs.Headers.{datagram_at}
 use Rattle.roam_wire.specs.Instructions.{DownValue}
-use Rattle.roam_world.specs.Texts.{SaysDown, SaysNoDown, update_in}
-use Rattle.roam_world.specs.Moments.{is_spent}
+use Rattle.roam_model.specs.Texts.{SaysDown, SaysNoDown, update_in}
+use Rattle.roam_model.specs.Moments.{is_spent}
 use Rattle.roam_wire.specs.declared.versions.Version.{Version}
-use Rattle.roam_world.specs.Versions.{applied_by}
-use Rattle.roam_world.specs.Clients.{Kept, Client, moment_of, after_typed}
-use Rattle.roam_world.specs.ClientArrivals.{Hearing, IsPart, IsOld, IsGap, IsNew, arriving, after_fragment, step_of, hearing_of, after_whole}
-use Rattle.roam_world.specs.Arrival.{turned_away, noted, completed}
-use Rattle.roam_world.specs.Sendings.{is_client_due, is_client_spent, datagrams_from, after_sending, after_quiet}
+use Rattle.roam_model.specs.Versions.{applied_by}
+use Rattle.roam_model.specs.Clients.{Kept, Client, moment_of, after_typed}
+use Rattle.roam_model.specs.ClientArrivals.{Hearing, IsPart, IsOld, IsGap, IsNew, arriving, after_fragment, step_of, hearing_of, after_whole}
+use Rattle.roam_model.specs.Arrival.{turned_away, noted, completed}
+use Rattle.roam_model.specs.Sendings.{is_client_due, is_client_spent, datagrams_from, after_sending, after_quiet}
 use Rattle.roam_hub.specs.declared.clients.Heard.{Heard}
 use Rattle.roam_hub.specs.declared.clients.Heard.TheVariants as heard
 

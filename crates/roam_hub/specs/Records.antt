@@ -20,13 +20,13 @@ use Rattle.roam_wire.specs.Instructions.{UpValue, down_text}
 use Rattle.roam_wire.specs.Cutting.{fragments_of}
 use Rattle.roam_session.specs.Sessions.{SessionSize, Entry, Did}
 use Rattle.roam_session.specs.Stands.{SessionView, Stands as SessionStands, keeping}
-use Rattle.roam_world.specs.Moments.{has_passed, is_overdue, owed_from, is_spent, frame_interval}
-use Rattle.roam_world.specs.Texts.{Address, is_watching, SaysUp, SaysNoUp, datagrams_of}
-use Rattle.roam_world.specs.Versions.{is_same_version, seen_by}
-use Rattle.roam_world.specs.Servers.{Record, no_record}
-use Rattle.roam_world.specs.ServerArrivals.{coming_gathered, reach, is_same, most_of}
-use Rattle.roam_world.specs.Arrival.{noted, completed}
-use Rattle.roam_world.specs.Ticks.{is_live, holds_after, down_from}
+use Rattle.roam_model.specs.Moments.{has_passed, is_overdue, owed_from, is_spent, frame_interval}
+use Rattle.roam_model.specs.Texts.{Address, is_watching, SaysUp, SaysNoUp, datagrams_of}
+use Rattle.roam_model.specs.Versions.{is_same_version, seen_by}
+use Rattle.roam_model.specs.Servers.{Record, no_record}
+use Rattle.roam_model.specs.ServerArrivals.{coming_gathered, reach, is_same, most_of}
+use Rattle.roam_model.specs.Arrival.{noted, completed}
+use Rattle.roam_model.specs.Ticks.{is_live, holds_after, down_from}
 use Rattle.roam_hub.specs.Servers.{RecordView, ServerView, kept_of, stop_after}
 use Rattle.roam_hub.specs.declared.addresses.Stop.{Stop}
 use Rattle.roam_hub.specs.declared.taking.Taking.{Taking}

@@ -18,14 +18,14 @@ use Rattle.roam_wire.specs.Instructions.{UpValue}
 use Rattle.roam_session.specs.Sessions.{Given, Drained}
 use Rattle.roam_session.specs.Refusals.{refuses_bytes, output_at}
 use Rattle.roam_session.specs.Stands.{SessionView, Stands as SessionStands}
-use Rattle.roam_world.specs.Moments.{is_spent}
-use Rattle.roam_world.specs.Numbers.{cut_of, screen}
-use Rattle.roam_world.specs.Texts.{Address, is_watching, SaysUp, SaysNoUp}
-use Rattle.roam_world.specs.Servers.{Record, no_record, Server, moment, after_input}
-use Rattle.roam_world.specs.ServerArrivals.{coming, after_note, new_acts, after_acts, room_for}
-use Rattle.roam_world.specs.Arrival.{turned_away, noted, completed}
-use Rattle.roam_world.specs.Ticks.{makes, number_after, screen_to, is_offered, sends, Parcel, sent_by, is_tick_spent, after_tick}
-use Rattle.roam_world.specs.Laws.{IsSameBut}
+use Rattle.roam_model.specs.Moments.{is_spent}
+use Rattle.roam_model.specs.Numbers.{cut_of, screen}
+use Rattle.roam_model.specs.Texts.{Address, is_watching, SaysUp, SaysNoUp}
+use Rattle.roam_model.specs.Servers.{Record, no_record, Server, moment, after_input}
+use Rattle.roam_model.specs.ServerArrivals.{coming, after_note, new_acts, after_acts, room_for}
+use Rattle.roam_model.specs.Arrival.{turned_away, noted, completed}
+use Rattle.roam_model.specs.Ticks.{makes, number_after, screen_to, is_offered, sends, Parcel, sent_by, is_tick_spent, after_tick}
+use Rattle.roam_model.specs.Laws.{IsSameBut}
 use Rattle.roam_hub.specs.Clients.{IsTextOf, IsNoDatagram}
 use Rattle.roam_cells.specs.declared.addresses.Addr.{Addr}
 use Rattle.roam_hub.specs.declared.addresses.Stop.{Stop}

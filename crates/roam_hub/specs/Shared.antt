@@ -5,8 +5,8 @@ use Rattle.roam_screens.specs.Screenshot.{Screenshot}
 use Rattle.roam_sync.specs.declared.senders.Held.{Held}
 use Rattle.roam_sync.specs.Senders.{Sending, newest}
 use Rattle.roam_wire.specs.declared.versions.Version.{Version}
-use Rattle.roam_world.specs.Numbers.{first_screen}
-use Rattle.roam_world.specs.Versions.{seen_by, difference_by, applied_by}
+use Rattle.roam_model.specs.Numbers.{first_screen}
+use Rattle.roam_model.specs.Versions.{seen_by, difference_by, applied_by}
 use Rattle.roam_hub.specs.Servers.{RecordView}
 use Rattle.roam_hub.specs.declared.shared.SharedChange.{SharedChange}
 

@@ -2,9 +2,9 @@
 use Rattle.std.specs.Prelude.{◌≡◌, ℕ, ◌+◌, ◌<◌, ◌^◌, ◌&&◌, ◌||◌, [], Option, Some, None, Bool, true, false, nat_le, nat_lt}
 use Rattle.roam_sync.specs.Limits.{most_held}
 use Rattle.roam_sync.specs.Senders.{newest, count, is_due}
-use Rattle.roam_world.specs.Moments.{is_overdue, forget_after}
-use Rattle.roam_world.specs.Servers.{Server}
-use Rattle.roam_world.specs.Ticks.{sent_by, after_tick}
+use Rattle.roam_model.specs.Moments.{is_overdue, forget_after}
+use Rattle.roam_model.specs.Servers.{Server}
+use Rattle.roam_model.specs.Ticks.{sent_by, after_tick}
 use Rattle.roam_hub.specs.Servers.{RecordView, is_number_spent}
 
 -- a moment has come at another one; none never comes

@@ -5,7 +5,7 @@ ghost use Rattle.roam_screens.specs.Screenshot.{Screenshot, blank_screenshot};
 ghost use Rattle.roam_screens.specs.Shown.{shown_by};
 ghost use Rattle.roam_sync.specs.Senders.{newest, count, offered, withdrawn, acked, sent_at, is_due, start};
 ghost use Rattle.roam_sync.specs.Receivers.{pairs, state_at, step_for, Takes, start as receives};
-ghost use Rattle.roam_world.specs.Versions.{seen_by, difference_by, applied_by};
+ghost use Rattle.roam_model.specs.Versions.{seen_by, difference_by, applied_by};
 ghost use Rattle.roam_hub.specs.Waits.{PassesFrom};
 ghost use Rattle.roam_hub.specs.Ends.{version_of, sending_of, version_in, receiving_in};
 ghost use Rattle.roam_sync.specs.Limits.{most_held};

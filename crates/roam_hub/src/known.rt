@@ -3,7 +3,7 @@ ghost use Rattle.std.specs.Prelude.{◌≡◌, ◌⊎◌, ◌+◌, ◌<◌, ◌^
 ghost use Rattle.std.specs.List.{IsDistinct};
 ghost use Rattle.std.specs.Map.{keys_of};
 ghost use Rattle.roam_wire.specs.Datagrams.{datagram_value};
-ghost use Rattle.roam_world.specs.ServerArrivals.{most_of};
+ghost use Rattle.roam_model.specs.ServerArrivals.{most_of};
 ghost use Rattle.roam_hub.specs.Servers.{address_of};
 ghost use Rattle.roam_hub.specs.Records.{acts_after, alike_entries, NotesIn, NotNotedIn};
 

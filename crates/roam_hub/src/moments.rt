@@ -1,6 +1,6 @@
 //! Moments, in milliseconds: when something is due, and what is owed.
 ghost use Rattle.std.specs.Prelude.{◌≡◌, ◌+◌, ◌<◌, ◌^◌, ◌⊎◌, ◌||◌, ℕ, max, nat_lt, if◌then◌else◌, Some, None, IfSome};
-ghost use Rattle.roam_world.specs.Moments.{forget_after, has_passed, is_overdue, owed_from};
+ghost use Rattle.roam_model.specs.Moments.{forget_after, has_passed, is_overdue, owed_from};
 ghost use Rattle.roam_hub.specs.Waits.{has_come, PassesFrom};
 
 /// The least time from one number to the next.

@@ -5,8 +5,8 @@ ghost use Rattle.roam_wire.specs.Datagrams.{IsDatagram, datagram_text};
 ghost use Rattle.roam_wire.specs.Versions.{most_bytes};
 ghost use Rattle.roam_wire.specs.declared.datagrams.Kind.TheVariants.{FromWatcher};
 ghost use Rattle.roam_wire.specs.declared.versions.Version.TheVariants.{Two};
-ghost use Rattle.roam_world.specs.Moments.{is_spent};
-ghost use Rattle.roam_world.specs.Texts.{datagram_with, datagrams_of};
+ghost use Rattle.roam_model.specs.Moments.{is_spent};
+ghost use Rattle.roam_model.specs.Texts.{datagram_with, datagrams_of};
 ghost use Rattle.roam_acts.specs.Limits.{number_limit};
 
 use roam_acts::limits::NUMBER_LIMIT;

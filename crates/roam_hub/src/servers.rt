@@ -3,18 +3,18 @@ ghost use Rattle.std.specs.Prelude.{◌≡◌, ◌↔◌, ◌⊎◌, ◌≤◌, 
 ghost use Rattle.std.specs.Option.{option_map};
 ghost use Rattle.roam_layout.specs.Layouts.{IsSessionSize};
 ghost use Rattle.roam_session.specs.Faces.{face};
-ghost use Rattle.roam_session.specs.Lives.{life_of};
+ghost use Rattle.roam_session.specs.Generations.{generation_of};
 ghost use Rattle.roam_session.specs.Places.{focus_at, rect_at};
 ghost use Rattle.roam_session.specs.Stands.{waiting_at};
 ghost use Rattle.roam_session.specs.Queues.{IsWithin, IsCopied};
 ghost use Rattle.roam_session.specs.Refusals.{fault_of, none_refused, output_at};
 ghost use Rattle.std.specs.List.{list_any};
-ghost use Rattle.roam_world.specs.Moments.{is_spent};
-ghost use Rattle.roam_world.specs.Servers.{Server as ServerOf, moment, new_server};
+ghost use Rattle.roam_model.specs.Moments.{is_spent};
+ghost use Rattle.roam_model.specs.Servers.{Server as ServerOf, moment, new_server};
 ghost use Rattle.roam_wire.specs.Datagrams.{datagram_value};
-ghost use Rattle.roam_world.specs.Texts.{is_to_server as is_to_server_kind};
-ghost use Rattle.roam_world.specs.ServerArrivals.{alike as alike_of, coming};
-ghost use Rattle.roam_world.specs.Arrival.{turned_away};
+ghost use Rattle.roam_model.specs.Texts.{is_to_server as is_to_server_kind};
+ghost use Rattle.roam_model.specs.ServerArrivals.{alike as alike_of, coming};
+ghost use Rattle.roam_model.specs.Arrival.{turned_away};
 ghost use Rattle.roam_hub.specs.Servers.{Stands, Feeds, Drains, Comes, Ticks, ComesFromWatcher, TakesNothing, IsStopAtAct, is_server_due, address_of, parcels_of};
 ghost use Rattle.roam_hub.specs.Records.{acts_after, answer_to_datagram, makes_at, sent_by_tick, ticked_by, is_any_spent, Numbers, is_numbering_spent};
 ghost use Rattle.roam_hub.specs.Waits.{has_come, PassesFrom, is_entry_due, IsQuiet};
@@ -237,10 +237,10 @@ impl Server {
     }
 
     /// Which making of a pane of this number is there, counted from 1 modulo 2^64; `None` where no such pane is there. It takes no memory.
-    pub fn life(&self, pane: u8) -> Option<u64>
-        ensures life { (s : ServerOf) → Stands self.now s → result ≡ life_of s.size s.log pane }
+    pub fn generation(&self, pane: u8) -> Option<u64>
+        ensures life { (s : ServerOf) → Stands self.now s → result ≡ generation_of s.size s.log pane }
     {
-        self.session.life(pane)
+        self.session.generation(pane)
     }
 
     /// Where a pane is, rows and columns from 1; `None` where no pane of this number is there. It takes no memory.

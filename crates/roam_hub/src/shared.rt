@@ -4,7 +4,7 @@ ghost use Rattle.roam_acts.specs.Limits.{number_limit};
 ghost use Rattle.roam_sync.specs.Senders.{newest};
 ghost use Rattle.roam_wire.specs.Instructions.{IsDown, down_value, down_text};
 ghost use Rattle.roam_wire.specs.Versions.{most_bytes};
-ghost use Rattle.roam_world.specs.Ticks.{down_from};
+ghost use Rattle.roam_model.specs.Ticks.{down_from};
 ghost use Rattle.roam_hub.specs.Ends.{version_of, sending_of};
 ghost use Rattle.roam_hub.specs.Shared.{Agree, StayBetween, IsFromTo, HasChange, IsChangeFor, with_acked};
 

@@ -4,13 +4,13 @@ use Rattle.std.specs.Prelude.{◌≢◌, is_some, if◌then◌else◌}
 use Rattle.roam_cells.specs.declared.faults.Fault.{Fault}
 use Rattle.roam_cells.specs.declared.faults.Fault.TheVariants.{BadAct, OutOfMemory}
 use Rattle.roam_hub.specs.Clients.{ClientView}
-use Rattle.roam_telling.specs.Telling.{TellingView}
+use Rattle.roam_display_state.specs.DisplayState.{DisplayStateView}
 use Rattle.roam_turns.specs.declared.outer.Noted.{Noted}
-use Rattle.roam_typing.specs.Entries.{Says}
-use Rattle.roam_typing.specs.Lines.{IsFirst, LinesView, front_of}
-use Rattle.roam_typing.specs.declared.entries.Entry.{Entry}
-use Rattle.roam_typing.specs.declared.entries.Entry.TheVariants.{Acts, Paste, Told, Repaint, Watch, Guess, Look, LookStyled, Show, End}
-use Rattle.roam_typing.specs.declared.lines.Front.TheVariants.{TooLong}
+use Rattle.roam_terminal_input.specs.Entries.{Says}
+use Rattle.roam_terminal_input.specs.Lines.{IsFirst, LinesView, front_of}
+use Rattle.roam_terminal_input.specs.declared.entries.Entry.{Entry}
+use Rattle.roam_terminal_input.specs.declared.entries.Entry.TheVariants.{Acts, Paste, Events, Repaint, Watch, Prediction, Look, LookStyled, Show, End}
+use Rattle.roam_terminal_input.specs.declared.lines.Front.TheVariants.{TooLong}
 use Rattle.roam_outer_terminal.specs.Hearing.{Asks, HearsOne, HeardStands, IsBad, IsRead, IsRefusal, IsRefused, TakesEntry, TakesLine, is_end, outer_after, told_of}
 use Rattle.roam_outer_terminal.specs.Hearing.IsBad.{no_entry as says_nothing, late as too_late, no_memory as wanting}
 use Rattle.roam_outer_terminal.specs.Hearing.IsRead.{read, refused}
@@ -34,8 +34,8 @@ pub refused_after : {S : Type 0} (a b c : Terminal S) → b ≡ record a { strea
 refused_after {S} a b c h long k =
     let stream : c.stream ≡ b.stream = ap (λ t. t.stream) k.2 in
     let lines : c.lines ≡ b.lines = ap (λ t. t.lines) k.2 in
-    let telling : b.telling ≡ a.telling = ap (λ t. t.telling) h in
-    refused k.0 (subst (λ o. IsRefusal (is_some o) k.0) telling k.1) (ap (λ l. front_of l.kept) lines ∙ long)
+    let display_state : b.display_state ≡ a.display_state = ap (λ t. t.display_state) h in
+    refused k.0 (subst (λ o. IsRefusal (is_some o) k.0) display_state k.1) (ap (λ l. front_of l.kept) lines ∙ long)
     (k.2 ∙ ap (λ (t : Terminal S). record t { state = Refused; outer = None; waiting = t.waiting ++ k.0 }) h
     ∙ (λ i. record a {
       stream = sym stream i;
@@ -58,9 +58,9 @@ pub entry_heard : {S : Type 0} (entry : Entry) (line rest : List ℕ) (old mid n
     → TakesEntry entry mid new client client' told
     → (taken : Option Entry) × (takes : TakesLine taken mid new client client') × (is_end told ≡ asks_end old.watches taken)
     × (told ≡ told_of takes)
-entry_heard entry line rest old mid new client client' told same heard first says (entry_taken t may took types guesses is) = (
+entry_heard entry line rest old mid new client client' told same heard first says (entry_taken t may took types predictions is) = (
   Some entry,
-  line_taken entry line refl heard (subst (IsFirst mid.lines.kept line) (sym (took line rest first)) first) says may types guesses is,
+  line_taken entry line refl heard (subst (IsFirst mid.lines.kept line) (sym (took line rest first)) first) says may types predictions is,
   ap is_end t ∙ (ends_told (ends_by mid.watches entry) ∙ ap (λ w. ends_by w entry) (sym same)),
   t,
 )
@@ -74,21 +74,21 @@ entry_heard entry line rest old mid new client client' told same heard first say
     let asks : Asks mid.lines.kept entry = record { line = line; rest = rest; first = first; says = says } in
     (None, line_looks entry refl heard asks is_look again c is, ap is_end t, t)
 entry_heard entry line rest old mid new client client' told same heard first says (entry_untold t told_is c is) =
-    let asks : Asks mid.lines.kept Told = record { line = line; rest = rest; first = first; says = subst (Says line) told_is says } in
+    let asks : Asks mid.lines.kept Events = record { line = line; rest = rest; first = first; says = subst (Says line) told_is says } in
     (None, line_untold refl heard asks c is, ap is_end t, t)
 entry_heard entry line rest old mid new client client' told same heard first says (entry_late t may is c) =
     let asks : Asks mid.lines.kept entry = record { line = line; rest = rest; first = first; says = says } in
     (None, line_refused refl heard (too_late entry asks may) is c, ap is_end t, t)
 
 -- why it is refused
-pub line_bad : (lines : LinesView) (telling : Option TellingView) (line rest : List ℕ) (fault : Fault) → IsFirst lines.kept line rest
-    → ((entry : Entry) → Says line entry → fault ≡ OutOfMemory) → ((fault ≡ BadAct) ⊎ (fault ≡ OutOfMemory)) → IsBad lines telling
-line_bad lines telling line rest fault first only (inl bad_act) =
+pub line_bad : (lines : LinesView) (display_state : Option DisplayStateView) (line rest : List ℕ) (fault : Fault) → IsFirst lines.kept line rest
+    → ((entry : Entry) → Says line entry → fault ≡ OutOfMemory) → ((fault ≡ BadAct) ⊎ (fault ≡ OutOfMemory)) → IsBad lines display_state
+line_bad lines display_state line rest fault first only (inl bad_act) =
     says_nothing line rest first (λ entry says. differ (sym bad_act ∙ only entry says))
   where
     differ : BadAct ≡ OutOfMemory → ⊥
     differ e = cc
-line_bad lines telling line rest fault first only (inr none) = wanting line rest first
+line_bad lines display_state line rest fault first only (inr none) = wanting line rest first
 
 -- a terminal is as it is told where it was read
 pub watches_read : {S : Type 0} (old mid : Terminal S) → IsRead old mid → old.watches ≡ mid.watches
@@ -100,10 +100,10 @@ watches_read old mid (refused text words long is) = sym (ap (λ t. t.watches) is
 entry_outer : (entry : Entry) (outer : Option Noted) → (outer_after entry outer ≡ outer) ⊎ (outer_after entry outer ≡ None)
 entry_outer (Acts acts) outer = inl refl
 entry_outer (Paste acts) outer = inl refl
-entry_outer Told outer = inr refl
+entry_outer Events outer = inr refl
 entry_outer Repaint outer = inr refl
 entry_outer Watch outer = inl refl
-entry_outer (Guess guessing) outer = inl refl
+entry_outer (Prediction predicting) outer = inl refl
 entry_outer Look outer = inl refl
 entry_outer LookStyled outer = inl refl
 entry_outer (Show showing) outer = inl refl
@@ -116,7 +116,7 @@ either_after a b c (inr none) (inl is) = inr (is ∙ none)
 
 pub taken_outer : {S : Type 0} (entry : Option Entry) (old new : Terminal S) (client client' : ClientView)
     → TakesLine entry old new client client' → (new.outer ≡ old.outer) ⊎ (new.outer ≡ None)
-taken_outer entry old new client client' (line_taken e line is heard first says may types guesses to) =
+taken_outer entry old new client client' (line_taken e line is heard first says may types predictions to) =
     either_after old.outer (outer_after e old.outer) new.outer (entry_outer e old.outer) (inl (ap (λ t. t.outer) to))
 taken_outer entry old new client client' (line_waits e is heard asks watches holds c same) = inl (ap (λ t. t.outer) same)
 taken_outer entry old new client client' (line_wanting e is heard asks watches some c same) = inl (ap (λ t. t.outer) same)
@@ -156,7 +156,7 @@ module _ {S : Type 0} (remaining : S → Option (List ℕ)) (old mid new : Termi
   pub heard_stands : (entry : Option Entry) → Reads (remaining old.stream) (remaining mid.stream) old.lines.kept mid.lines.kept mid.state
       → IsRead old mid → TakesLine entry mid new client client'
       → Hears (remaining old.stream) (remaining new.stream) old.lines.kept new.lines.kept old.watches new.watches new.state client client'
-  heard_stands entry reads is_read (line_taken e line is heard first says may types guesses to) =
+  heard_stands entry reads is_read (line_taken e line is heard first says may types predictions to) =
       subst (λ x. Hears (remaining old.stream) (remaining x) old.lines.kept new.lines.kept old.watches new.watches new.state client client')
       (sym (ap (λ t. t.stream) to))
       (hears_line _ _ line _ _ _ _ _ _ _ _ client client' e reads (not_gone mid.state heard) (sym (watches_read old mid is_read))

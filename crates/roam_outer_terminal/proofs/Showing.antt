@@ -198,7 +198,7 @@ leads_still o None (Some noted') b w is empty = absurd is
 leads_still o (Some noted) (Some noted') b w is empty =
     subst (λ l. ShowsSized (Some (record noted { screen = o })) l o) (sym empty) (still o noted.number)
 
--- ---- what stands there is what is guessed
+-- ---- what stands there is what is predicted
 
 pub over_laid : (now : ℕ) (g : Option OverlayOf) (outer : Option Noted) (wanted over : Option Screenshot) (w w' : List ℕ)
     → Lays outer wanted over w w' → IsOver now g outer wanted → IsOver now g outer over

@@ -6,24 +6,24 @@ use Rattle.std.specs.declared.alloc.Global.{Global}
 use Rattle.roam_acts.specs.declared.acts.Act.{Act}
 use Rattle.roam_hub.specs.Clients.{ClientView, TypesAll, after_typed_all, keeping}
 use Rattle.roam_hub.specs.Clients.TypesAll.{watching, full, spent, typed as typed_now, no_memory as none_for_them}
-use Rattle.roam_typing.specs.Entries.{Says, acts_in}
-use Rattle.roam_typing.specs.declared.entries.Entry.{Entry}
-use Rattle.roam_typing.specs.declared.entries.Entry.TheVariants.{Acts, Paste}
-use Rattle.roam_typing.specs.declared.entries.Guessing.{Guessing}
-use Rattle.roam_typing.specs.Lines.{IsFirst, ended_all}
+use Rattle.roam_terminal_input.specs.Entries.{Says, acts_in}
+use Rattle.roam_terminal_input.specs.declared.entries.Entry.{Entry}
+use Rattle.roam_terminal_input.specs.declared.entries.Entry.TheVariants.{Acts, Paste}
+use Rattle.roam_terminal_input.specs.declared.entries.Predicting.{Predicting}
+use Rattle.roam_terminal_input.specs.Lines.{IsFirst, ended_all}
 use Rattle.roam_faults.specs.Streams.{ended_line}
 use Rattle.roam_overlay.specs.Overlays.{OverlayOf}
 use Rattle.roam_outer_terminal.specs.Hearing.{TakesEntry, TakesWord, TypesLine}
 use Rattle.roam_outer_terminal.specs.Hearing.TakesEntry.{taken, waits, no_memory, looks, untold, late}
 use Rattle.roam_outer_terminal.specs.Hearing.TakesWord.{taken as word_done, looks as word_looks, untold as word_untold, late as word_late}
 use Rattle.roam_outer_terminal.specs.Hearing.TypesLine.{typed as typed_line, waits as line_waits, no_memory as line_no_memory}
-use Rattle.roam_outer_terminal.specs.Terminals.{Guesses, Hears, IsSet, Reads, Stands, TakesAll, Types, adaptive_of, fresh_guesses, typed_by, watches_after}
-use Rattle.roam_outer_terminal.specs.Terminals.IsSet.{no_guesses, fresh}
+use Rattle.roam_outer_terminal.specs.Terminals.{Predictions, Hears, IsSet, Reads, Stands, TakesAll, Types, adaptive_of, fresh_predictions, typed_by, watches_after}
+use Rattle.roam_outer_terminal.specs.Terminals.IsSet.{no_predictions, fresh}
 use Rattle.roam_outer_terminal.specs.declared.hearing.Taking.{Taking}
 use Rattle.roam_outer_terminal.specs.declared.terminal.Terminal.{Terminal}
 use Rattle.roam_outer_terminal.specs.declared.terminal.State.{State}
 use Rattle.roam_outer_terminal.specs.declared.terminal.State.TheVariants.{Gone}
-use Rattle.roam_typing.proofs.Fronts.{first_is_ended}
+use Rattle.roam_terminal_input.proofs.Fronts.{first_is_ended}
 
 -- typing nothing leaves a start
 pub types_none : (client client' : ClientView) → client' ≡ client → Types [] client client'
@@ -84,34 +84,34 @@ types_all acts client client' (spent w r e s) = absurd cc
 types_all acts client client' (typed_now w r n e s) = s
 types_all acts client client' (none_for_them w r n some e s) = absurd cc
 
--- guesses begin as they are wanted, where there is memory
-pub is_set : (guessing : Guessing) (watches adaptive : Bool) (new : Option OverlayOf) → watches ≡ false
-    → adaptive_of guessing ≡ Some adaptive → ((new ≡ None) ⊎ (new ≡ Some (fresh_guesses adaptive))) → IsSet guessing watches new
-is_set guessing watches adaptive new heard wanted (inl none) = no_guesses none
-is_set guessing watches adaptive new heard wanted (inr is) = fresh adaptive heard wanted is
+-- predictions begin as they are wanted, where there is memory
+pub is_set : (predicting : Predicting) (watches adaptive : Bool) (new : Option OverlayOf) → watches ≡ false
+    → adaptive_of predicting ≡ Some adaptive → ((new ≡ None) ⊎ (new ≡ Some (fresh_predictions adaptive))) → IsSet predicting watches new
+is_set predicting watches adaptive new heard wanted (inl none) = no_predictions none
+is_set predicting watches adaptive new heard wanted (inr is) = fresh adaptive heard wanted is
 
 module _ {S : Type 0} (old new : Terminal S) (client client' : ClientView) (told : Taking) where
   pub acts_taken : (acts : Vec Act Global) → TypesLine false acts.items old new client client' told
       → TakesEntry (Acts acts) old new client client' told
-  acts_taken acts (typed_line t took types guesses is) = taken t refl took types guesses is
+  acts_taken acts (typed_line t took types predictions is) = taken t refl took types predictions is
   acts_taken acts (line_waits t watches holds same is) = waits t watches holds same is
   acts_taken acts (line_no_memory t watches some same is) = no_memory t watches some same is
 
   pub paste_taken : (acts : Vec Act Global) → TypesLine true acts.items old new client client' told
       → TakesEntry (Paste acts) old new client client' told
-  paste_taken acts (typed_line t took types guesses is) = taken t refl took types guesses is
+  paste_taken acts (typed_line t took types predictions is) = taken t refl took types predictions is
   paste_taken acts (line_waits t watches holds same is) = waits t watches holds same is
   paste_taken acts (line_no_memory t watches some same is) = no_memory t watches some same is
 
-  -- a word types nothing, and guesses stay but where it says when they are shown
+  -- a word types nothing, and predictions stay but where it says when they are shown
   pub word_taken : (entry : Entry) → acts_in entry ≡ []
-      → (new.guessing ≡ old.guessing → Guesses old.watches entry client old.guessing new.guessing)
+      → (new.predicting ≡ old.predicting → Predictions old.watches entry client old.predicting new.predicting)
       → TakesWord entry client old new told → TakesEntry entry old new client client told
-  word_taken entry none guesses (word_done t may took same is) =
-      taken t may took (word_types old.watches entry client none) (guesses same) is
-  word_taken entry none guesses (word_looks t is_look again same) = looks t is_look again refl same
-  word_taken entry none guesses (word_untold t told_is same) = untold t told_is refl same
-  word_taken entry none guesses (word_late t may is) = late t may is refl
+  word_taken entry none predictions (word_done t may took same is) =
+      taken t may took (word_types old.watches entry client none) (predictions same) is
+  word_taken entry none predictions (word_looks t is_look again same) = looks t is_look again refl same
+  word_taken entry none predictions (word_untold t told_is same) = untold t told_is refl same
+  word_taken entry none predictions (word_late t may is) = late t may is refl
 
 -- ---- what is read
 

@@ -6,11 +6,11 @@ use Rattle.std.proofs.lemmas.List.{drop-drop, drop-take, take-append-drop}
 use Rattle.std.proofs.lemmas.Grind.{common_steps}
 use Rattle.std.specs.Prelude.{is_some}
 use Rattle.std.specs.Io.KnownBytes.{Appends, Keeps}
-use Rattle.roam_frames.specs.Carriers.{Writes}
+use Rattle.roam_stream_framing.specs.Carriers.{Writes}
 use Rattle.roam_outer_terminal.specs.Painted.{is_here}
 use Rattle.roam_outer_terminal.specs.Silence.{due_of, is_over, notice_of}
-use Rattle.roam_records.specs.Records.{text_of}
-use Rattle.roam_records.specs.declared.records.Record.TheVariants.{Heard, Silent}
+use Rattle.roam_display_records.specs.Records.{text_of}
+use Rattle.roam_display_records.specs.declared.records.Record.TheVariants.{Heard, Silent}
 use Rattle.roam_outer_terminal.specs.Writing.{Flushes, SaysSilence, TellsSilence, has_gone, is_empty, seen_by, state_after, stuck_after, unwritten}
 use Rattle.roam_outer_terminal.specs.Writing.SaysSilence.{heard, silent, quiet as says_nothing}
 use Rattle.roam_outer_terminal.specs.Writing.TellsSilence.{over, told, quiet, says}
@@ -105,7 +105,7 @@ here_is Left e = absurd cc
 here_is Refused e = absurd cc
 here_is Gone e = absurd cc
 
-pub tells_by : {S : Type 0} (silence : Silence) (seconds : ℕ) (old new : Terminal S) → is_some old.telling ≡ false
+pub tells_by : {S : Type 0} (silence : Silence) (seconds : ℕ) (old new : Terminal S) → is_some old.display_state ≡ false
     → is_over (seen_by silence old) ≡ false → due_of (seen_by silence old) ≡ Some seconds → old.waiting ≡ [] → old.over ≡ None
     → old.state ≡ Here
     → ((new ≡ old)

@@ -5,21 +5,21 @@ use Rattle.std.specs.Io.KnownBytes.{Keeps}
 use Rattle.roam_acts.specs.Senders.{last_number}
 use Rattle.roam_acts.specs.declared.acts.Act.{Act}
 use Rattle.roam_hub.specs.Clients.{ClientView}
-use Rattle.roam_records.specs.Records.{text_of}
-use Rattle.roam_records.specs.Taken.{nothing_taken, took}
-use Rattle.roam_records.specs.declared.looks.Looking.{Looking}
-use Rattle.roam_records.specs.declared.looks.Looking.TheVariants.{Points, Styled}
-use Rattle.roam_records.specs.declared.records.Record.TheVariants as records
+use Rattle.roam_display_records.specs.Records.{text_of}
+use Rattle.roam_display_records.specs.Taken.{nothing_taken, took}
+use Rattle.roam_display_records.specs.declared.looks.Looking.{Looking}
+use Rattle.roam_display_records.specs.declared.looks.Looking.TheVariants.{Points, Styled}
+use Rattle.roam_display_records.specs.declared.records.Record.TheVariants as records
 use Rattle.roam_screens.specs.Screenshot.{Screenshot}
-use Rattle.roam_telling.specs.Telling.{TellingView, has_room_for, nothing_told, shown_so}
+use Rattle.roam_display_state.specs.DisplayState.{DisplayStateView, has_room_for, nothing_told, shown_so}
 use Rattle.roam_turns.specs.declared.outer.Noted.{Noted}
-use Rattle.roam_typing.specs.Entries.{Says, acts_in}
-use Rattle.roam_typing.specs.declared.entries.Entry.{Entry}
-use Rattle.roam_typing.specs.declared.entries.Entry.TheVariants.{Acts, Paste, Told, Repaint, Watch, Guess, Look, LookStyled, Show, End}
-use Rattle.roam_typing.specs.Lines.{IsFirst, LinesView, front_of}
-use Rattle.roam_typing.specs.declared.showings.Showing.{Showing}
-use Rattle.roam_typing.specs.declared.lines.Front.TheVariants.{TooLong}
-use Rattle.roam_outer_terminal.specs.Terminals.{Guesses, Hears, Holds, Reads, Types, acts_by, ends_by, guesses_by, is_heard, typed_by, watches_after}
+use Rattle.roam_terminal_input.specs.Entries.{Says, acts_in}
+use Rattle.roam_terminal_input.specs.declared.entries.Entry.{Entry}
+use Rattle.roam_terminal_input.specs.declared.entries.Entry.TheVariants.{Acts, Paste, Events, Repaint, Watch, Prediction, Look, LookStyled, Show, End}
+use Rattle.roam_terminal_input.specs.Lines.{IsFirst, LinesView, front_of}
+use Rattle.roam_terminal_input.specs.declared.showings.Showing.{Showing}
+use Rattle.roam_terminal_input.specs.declared.lines.Front.TheVariants.{TooLong}
+use Rattle.roam_outer_terminal.specs.Terminals.{Predictions, Hears, Holds, Reads, Types, acts_by, ends_by, predictions_by, is_heard, typed_by, watches_after}
 use Rattle.roam_outer_terminal.specs.declared.hearing.Taking.{Taking}
 use Rattle.roam_outer_terminal.specs.declared.hearing.Taking.TheVariants as taking
 use Rattle.roam_outer_terminal.specs.declared.terminal.State.TheVariants.{Refused}
@@ -33,13 +33,13 @@ IsRefusal true text = (text ≡ []) ⊎ ((line : ℕ) × (words : Bor (List ℕ)
 -- its line is refused: it is told so, where there is memory for that, and nothing is noted of it any more
 abbrev pub IsRefused : {S : Type 0} → Terminal S → Terminal S → Type 0
 IsRefused old new =
-    (text : List ℕ) × IsRefusal (is_some old.telling) text
+    (text : List ℕ) × IsRefusal (is_some old.display_state) text
     × (new ≡ record old { state = Refused; outer = None; waiting = old.waiting ++ text })
 
 -- bytes were read; or what was read is more than a line, which is refused
 pub data IsRead {S : Type 0} (old new : Terminal S) : Type 0 where
   read : new ≡ record old { stream = new.stream; lines = new.lines; state = new.state } → IsRead old new
-  refused : (text : List ℕ) → IsRefusal (is_some old.telling) text → front_of new.lines.kept ≡ TooLong
+  refused : (text : List ℕ) → IsRefusal (is_some old.display_state) text → front_of new.lines.kept ≡ TooLong
       → new
       ≡ record old { stream = new.stream; lines = new.lines; state = Refused; outer = None; waiting = old.waiting ++ text }
       → IsRead old new
@@ -55,27 +55,27 @@ pub record Asks (kept : List ℕ) (entry : Entry) : Type 0 where
 
 -- an entry can be taken where it comes: records are asked for by the first line alone; to watch says the first, or the second behind that;
 -- what is told in records alone is asked for there; and a fifth mask is none
-abbrev pub may_show : Showing → Option TellingView → Bool
+abbrev pub may_show : Showing → Option DisplayStateView → Bool
 may_show showing None = false
 may_show showing (Some t) = has_room_for showing t
 
-abbrev pub may_take : Entry → ℕ → Option TellingView → Bool
-may_take (Acts acts) count telling = true
-may_take (Paste acts) count telling = true
-may_take Told count telling = count == 0 && not (is_some telling)
-may_take Repaint count telling = true
-may_take Watch count telling = count == (if is_some telling then 1 else 0)
-may_take (Guess guessing) count telling = true
-may_take Look count telling = is_some telling
-may_take LookStyled count telling = is_some telling
-may_take (Show showing) count telling = may_show showing telling
-may_take End count telling = true
+abbrev pub may_take : Entry → ℕ → Option DisplayStateView → Bool
+may_take (Acts acts) count display_state = true
+may_take (Paste acts) count display_state = true
+may_take Events count display_state = count == 0 && not (is_some display_state)
+may_take Repaint count display_state = true
+may_take Watch count display_state = count == (if is_some display_state then 1 else 0)
+may_take (Prediction predicting) count display_state = true
+may_take Look count display_state = is_some display_state
+may_take LookStyled count display_state = is_some display_state
+may_take (Show showing) count display_state = may_show showing display_state
+may_take End count display_state = true
 
 -- why the line that stands first is refused: it says nothing; what it says can't be taken there; or memory was wanting for it
-pub data IsBad (lines : LinesView) (telling : Option TellingView) : Type 0 where
-  no_entry : (line rest : List ℕ) → IsFirst lines.kept line rest → ((entry : Entry) → Says line entry → ⊥) → IsBad lines telling
-  late : (e : Entry) → Asks lines.kept e → may_take e lines.count telling ≡ false → IsBad lines telling
-  no_memory : (line rest : List ℕ) → IsFirst lines.kept line rest → IsBad lines telling
+pub data IsBad (lines : LinesView) (display_state : Option DisplayStateView) : Type 0 where
+  no_entry : (line rest : List ℕ) → IsFirst lines.kept line rest → ((entry : Entry) → Says line entry → ⊥) → IsBad lines display_state
+  late : (e : Entry) → Asks lines.kept e → may_take e lines.count display_state ≡ false → IsBad lines display_state
+  no_memory : (line rest : List ℕ) → IsFirst lines.kept line rest → IsBad lines display_state
 
 -- ---- what an entry makes of a terminal
 
@@ -83,10 +83,10 @@ pub data IsBad (lines : LinesView) (telling : Option TellingView) : Type 0 where
 abbrev pub outer_after : Entry → Option Noted → Option Noted
 outer_after (Acts acts) outer = outer
 outer_after (Paste acts) outer = outer
-outer_after Told outer = None
+outer_after Events outer = None
 outer_after Repaint outer = None
 outer_after Watch outer = outer
-outer_after (Guess guessing) outer = outer
+outer_after (Prediction predicting) outer = outer
 outer_after Look outer = outer
 outer_after LookStyled outer = outer
 outer_after (Show showing) outer = outer
@@ -96,10 +96,10 @@ outer_after End outer = outer
 abbrev pub waiting_after : Entry → List ℕ → List ℕ
 waiting_after (Acts acts) waiting = waiting
 waiting_after (Paste acts) waiting = waiting
-waiting_after Told waiting = waiting ++ text_of records.Told
+waiting_after Events waiting = waiting ++ text_of records.Events
 waiting_after Repaint waiting = waiting
 waiting_after Watch waiting = waiting
-waiting_after (Guess guessing) waiting = waiting
+waiting_after (Prediction predicting) waiting = waiting
 waiting_after Look waiting = waiting
 waiting_after LookStyled waiting = waiting
 waiting_after (Show showing) waiting = waiting
@@ -109,10 +109,10 @@ waiting_after End waiting = waiting
 abbrev pub over_after : Entry → Option Screenshot → Option Screenshot
 over_after (Acts acts) over = over
 over_after (Paste acts) over = over
-over_after Told over = None
+over_after Events over = None
 over_after Repaint over = over
 over_after Watch over = over
-over_after (Guess guessing) over = over
+over_after (Prediction predicting) over = over
 over_after Look over = over
 over_after LookStyled over = over
 over_after (Show showing) over = over
@@ -121,7 +121,7 @@ over_after End over = over
 -- ---- what is told of it
 
 -- a line was taken; the last of its acts has this number, where it has acts
-abbrev pub line_told : Option ℕ → Option TellingView → Option TellingView
+abbrev pub line_told : Option ℕ → Option DisplayStateView → Option DisplayStateView
 line_told last None = None
 line_told last (Some t) = Some (record t { taken = took last t.taken })
 
@@ -130,35 +130,35 @@ abbrev pub last_typed : Bool → ClientView → Option ℕ
 last_typed false client = Some (last_number client.kept.acts)
 last_typed true client = None
 
-abbrev pub forgotten : Option TellingView → Option TellingView
+abbrev pub forgotten : Option DisplayStateView → Option DisplayStateView
 forgotten None = None
 forgotten (Some t) = Some (record t { view = None })
 
-abbrev pub asked : Looking → Option TellingView → Option TellingView
+abbrev pub asked : Looking → Option DisplayStateView → Option DisplayStateView
 asked looking None = None
 asked looking (Some t) = Some (record t { looking = Some looking })
 
-abbrev pub shown_then : Showing → Option TellingView → Option TellingView
+abbrev pub shown_then : Showing → Option DisplayStateView → Option DisplayStateView
 shown_then showing None = None
 shown_then showing (Some t) = Some (shown_so showing t)
 
 -- a screen that was asked for isn't told yet
-abbrev pub is_looking : Option TellingView → Bool
+abbrev pub is_looking : Option DisplayStateView → Bool
 is_looking None = false
 is_looking (Some t) = is_some t.looking
 
 -- what is told of it after an entry, where the start is so then
-abbrev pub telling_after : Bool → Entry → ClientView → Option TellingView → Option TellingView
-telling_after watches (Acts acts) client telling = line_told (last_typed watches client) telling
-telling_after watches (Paste acts) client telling = line_told (last_typed watches client) telling
-telling_after watches Told client telling = Some (record nothing_told { taken = took None nothing_taken })
-telling_after watches Repaint client telling = line_told None (forgotten telling)
-telling_after watches Watch client telling = line_told None telling
-telling_after watches (Guess guessing) client telling = line_told None telling
-telling_after watches Look client telling = line_told None (asked Points telling)
-telling_after watches LookStyled client telling = line_told None (asked Styled telling)
-telling_after watches (Show showing) client telling = line_told None (shown_then showing telling)
-telling_after watches End client telling = line_told None telling
+abbrev pub display_state_after : Bool → Entry → ClientView → Option DisplayStateView → Option DisplayStateView
+display_state_after watches (Acts acts) client display_state = line_told (last_typed watches client) display_state
+display_state_after watches (Paste acts) client display_state = line_told (last_typed watches client) display_state
+display_state_after watches Events client display_state = Some (record nothing_told { taken = took None nothing_taken })
+display_state_after watches Repaint client display_state = line_told None (forgotten display_state)
+display_state_after watches Watch client display_state = line_told None display_state
+display_state_after watches (Prediction predicting) client display_state = line_told None display_state
+display_state_after watches Look client display_state = line_told None (asked Points display_state)
+display_state_after watches LookStyled client display_state = line_told None (asked Styled display_state)
+display_state_after watches (Show showing) client display_state = line_told None (shown_then showing display_state)
+display_state_after watches End client display_state = line_told None display_state
 
 -- what asks for a screen so
 abbrev pub look_of : Looking → Entry
@@ -169,27 +169,27 @@ look_of Styled = LookStyled
 abbrev pub is_look : Entry → Bool
 is_look (Acts acts) = false
 is_look (Paste acts) = false
-is_look Told = false
+is_look Events = false
 is_look Repaint = false
 is_look Watch = false
-is_look (Guess guessing) = false
+is_look (Prediction predicting) = false
 is_look Look = true
 is_look LookStyled = true
 is_look (Show showing) = false
 is_look End = false
 
--- what an entry that was taken makes of a terminal, with its lines and what is guessed then
+-- what an entry that was taken makes of a terminal, with its lines and what is predicted then
 abbrev pub Makes : {S : Type 0} → Entry → ClientView → Terminal S → Terminal S → Type 0
 Makes e client old new =
     new
     ≡ record old {
       lines = new.lines;
-      guessing = new.guessing;
+      predicting = new.predicting;
       watches = watches_after e old.watches;
       outer = outer_after e old.outer;
       over = over_after e old.over;
       waiting = waiting_after e old.waiting;
-      telling = telling_after old.watches e client old.telling;
+      display_state = display_state_after old.watches e client old.display_state;
     }
 
 -- A terminal that was read: the line that stands first was taken, and what it says was done; or none was. A line waits for a reason; or it
@@ -197,18 +197,18 @@ Makes e client old new =
 -- stands first; or the terminal isn't heard any more.
 pub data TakesLine {S : Type 0} (entry : Option Entry) (old new : Terminal S) (client client' : ClientView) : Type 0 where
   taken : (e : Entry) (line : List ℕ) → entry ≡ Some e → is_heard old.state ≡ true → IsFirst old.lines.kept line new.lines.kept
-      → Says line e → may_take e old.lines.count old.telling ≡ true → Types (typed_by old.watches e) client client'
-      → Guesses old.watches e client old.guessing new.guessing → Makes e client' old new
+      → Says line e → may_take e old.lines.count old.display_state ≡ true → Types (typed_by old.watches e) client client'
+      → Predictions old.watches e client old.predicting new.predicting → Makes e client' old new
       → TakesLine entry old new client client'
   waits : (e : Entry) → entry ≡ None → is_heard old.state ≡ true → Asks old.lines.kept e → old.watches ≡ false
       → Holds (acts_in e) client → client' ≡ client → new ≡ old → TakesLine entry old new client client'
   no_memory : (e : Entry) → entry ≡ None → is_heard old.state ≡ true → Asks old.lines.kept e → old.watches ≡ false
       → 0 < length (acts_in e) → client' ≡ client → new ≡ old → TakesLine entry old new client client'
   looks : (e : Entry) → entry ≡ None → is_heard old.state ≡ true → Asks old.lines.kept e → is_look e ≡ true
-      → is_looking old.telling ≡ true → client' ≡ client → new ≡ old → TakesLine entry old new client client'
-  untold : entry ≡ None → is_heard old.state ≡ true → Asks old.lines.kept Told → client' ≡ client → new ≡ old
+      → is_looking old.display_state ≡ true → client' ≡ client → new ≡ old → TakesLine entry old new client client'
+  untold : entry ≡ None → is_heard old.state ≡ true → Asks old.lines.kept Events → client' ≡ client → new ≡ old
       → TakesLine entry old new client client'
-  refused : entry ≡ None → is_heard old.state ≡ true → IsBad old.lines old.telling → IsRefused old new → client' ≡ client
+  refused : entry ≡ None → is_heard old.state ≡ true → IsBad old.lines old.display_state → IsRefused old new → client' ≡ client
       → TakesLine entry old new client client'
   nothing : entry ≡ None → is_heard old.state ≡ true → ((line rest : List ℕ) → IsFirst old.lines.kept line rest → ⊥)
       → client' ≡ client → new ≡ old
@@ -237,7 +237,7 @@ taking_of watches entry = if ends_by watches entry then taking.End else taking.L
 -- so what became of the line that stood first is told
 abbrev pub told_of : {S : Type 0} {entry : Option Entry} {old new : Terminal S} {client client' : ClientView}
     → TakesLine entry old new client client' → Taking
-told_of {S} {entry} {old} (taken e line is heard first says may types guesses makes) = taking_of old.watches e
+told_of {S} {entry} {old} (taken e line is heard first says may types predictions makes) = taking_of old.watches e
 told_of (waits e none heard asks watches holds same still) = taking.Waits
 told_of (no_memory e none heard asks watches some same still) = taking.NoMemory
 told_of (looks e none heard asks is again same still) = taking.Waits
@@ -257,12 +257,12 @@ is_end taking.NoMemory = false
 pub data TypesLine {S : Type 0} (pasted : Bool) (acts : List Act) (old new : Terminal S) (client client' : ClientView) (told : Taking)
     : Type 0 where
   typed : told ≡ taking.Line → Took old.lines.kept new.lines.kept → Types (acts_by old.watches acts) client client'
-      → new.guessing ≡ guesses_by old.watches pasted acts client old.guessing
+      → new.predicting ≡ predictions_by old.watches pasted acts client old.predicting
       → new
       ≡ record old {
         lines = new.lines;
-        guessing = new.guessing;
-        telling = line_told (last_typed old.watches client') old.telling;
+        predicting = new.predicting;
+        display_state = line_told (last_typed old.watches client') old.display_state;
       }
       → TypesLine pasted acts old new client client' told
   waits : told ≡ taking.Waits → old.watches ≡ false → Holds acts client → client' ≡ client → new ≡ old
@@ -272,28 +272,28 @@ pub data TypesLine {S : Type 0} (pasted : Bool) (acts : List Act) (old new : Ter
 
 -- What the line that stands first says was done, and the line taken; or it waits; or memory is wanting; or it comes where it can't.
 pub data TakesEntry {S : Type 0} (entry : Entry) (old new : Terminal S) (client client' : ClientView) (told : Taking) : Type 0 where
-  taken : told ≡ taking_of old.watches entry → may_take entry old.lines.count old.telling ≡ true
+  taken : told ≡ taking_of old.watches entry → may_take entry old.lines.count old.display_state ≡ true
       → Took old.lines.kept new.lines.kept → Types (typed_by old.watches entry) client client'
-      → Guesses old.watches entry client old.guessing new.guessing → Makes entry client' old new
+      → Predictions old.watches entry client old.predicting new.predicting → Makes entry client' old new
       → TakesEntry entry old new client client' told
   waits : told ≡ taking.Waits → old.watches ≡ false → Holds (acts_in entry) client → client' ≡ client → new ≡ old
       → TakesEntry entry old new client client' told
   no_memory : told ≡ taking.NoMemory → old.watches ≡ false → 0 < length (acts_in entry) → client' ≡ client → new ≡ old
       → TakesEntry entry old new client client' told
-  looks : told ≡ taking.Waits → is_look entry ≡ true → is_looking old.telling ≡ true → client' ≡ client → new ≡ old
+  looks : told ≡ taking.Waits → is_look entry ≡ true → is_looking old.display_state ≡ true → client' ≡ client → new ≡ old
       → TakesEntry entry old new client client' told
-  untold : told ≡ taking.NoMemory → entry ≡ Told → client' ≡ client → new ≡ old → TakesEntry entry old new client client' told
-  late : told ≡ taking.Nothing → may_take entry old.lines.count old.telling ≡ false → IsRefused old new → client' ≡ client
+  untold : told ≡ taking.NoMemory → entry ≡ Events → client' ≡ client → new ≡ old → TakesEntry entry old new client client' told
+  late : told ≡ taking.Nothing → may_take entry old.lines.count old.display_state ≡ false → IsRefused old new → client' ≡ client
       → TakesEntry entry old new client client' told
 
 -- the same of an entry that is a word, and types nothing
 pub data TakesWord {S : Type 0} (entry : Entry) (client : ClientView) (old new : Terminal S) (told : Taking) : Type 0 where
-  taken : told ≡ taking_of old.watches entry → may_take entry old.lines.count old.telling ≡ true
-      → Took old.lines.kept new.lines.kept → new.guessing ≡ old.guessing → Makes entry client old new
+  taken : told ≡ taking_of old.watches entry → may_take entry old.lines.count old.display_state ≡ true
+      → Took old.lines.kept new.lines.kept → new.predicting ≡ old.predicting → Makes entry client old new
       → TakesWord entry client old new told
-  looks : told ≡ taking.Waits → is_look entry ≡ true → is_looking old.telling ≡ true → new ≡ old → TakesWord entry client old new told
-  untold : told ≡ taking.NoMemory → entry ≡ Told → new ≡ old → TakesWord entry client old new told
-  late : told ≡ taking.Nothing → may_take entry old.lines.count old.telling ≡ false → IsRefused old new
+  looks : told ≡ taking.Waits → is_look entry ≡ true → is_looking old.display_state ≡ true → new ≡ old → TakesWord entry client old new told
+  untold : told ≡ taking.NoMemory → entry ≡ Events → new ≡ old → TakesWord entry client old new told
+  late : told ≡ taking.Nothing → may_take entry old.lines.count old.display_state ≡ false → IsRefused old new
       → TakesWord entry client old new told
 
 -- ---- the law

@@ -6,12 +6,12 @@ use Rattle.roam_turns.specs.Painting.{Leads, ShowsSized}
 use Rattle.roam_turns.specs.declared.outer.Noted.{Noted}
 use Rattle.roam_outer_terminal.specs.declared.laying.Taken.{Taken}
 
--- what stands over the screen that is noted at a moment, where something does, is that screen with what is guessed and shown over it
+-- what stands over the screen that is noted at a moment, where something does, is that screen with what is predicted and shown over it
 abbrev pub IsOver : ℕ → Option OverlayOf → Option Noted → Option Screenshot → Type 0
-IsOver now guessing outer None = Unit {0}
+IsOver now predicting outer None = Unit {0}
 IsOver now None outer (Some over) = ⊥
-IsOver now (Some guessing) None (Some over) = ⊥
-IsOver now (Some guessing) (Some noted) (Some over) = (is_shown guessing ≡ true) × (over ≡ laid_over guessing noted.screen now)
+IsOver now (Some predicting) None (Some over) = ⊥
+IsOver now (Some predicting) (Some noted) (Some over) = (is_shown predicting ≡ true) × (over ≡ laid_over predicting noted.screen now)
 
 -- ---- what a terminal shows
 

@@ -2,14 +2,14 @@
 use Rattle.std.specs.Prelude.{◌≡◌, ◌⊎◌, ℕ, List, [], ◌++◌, Bool, true, false, not, ◌&&◌, ◌||◌, Option, Some, None, is_some}
 use Rattle.roam_hub.specs.Clients.{ClientView}
 use Rattle.roam_overlay.specs.Overlays.{OverlayOf, Judges}
-use Rattle.roam_records.specs.declared.records.Record.{Record}
+use Rattle.roam_display_records.specs.declared.records.Record.{Record}
 use Rattle.roam_screens.specs.Screenshot.{Screenshot}
-use Rattle.roam_telling.specs.Saying.{texts_of}
-use Rattle.roam_telling.specs.Telling.{TellingView, Tells, TellsLook, TellsTaken}
+use Rattle.roam_display_state.specs.Saying.{texts_of}
+use Rattle.roam_display_state.specs.DisplayState.{DisplayStateView, Tells, TellsLook, TellsTaken}
 use Rattle.roam_turns.specs.Painting.{LeadsSized}
 use Rattle.roam_turns.specs.declared.outer.Noted.{Noted}
 use Rattle.roam_outer_terminal.specs.Overlaid.{IsOver, on_show}
-use Rattle.roam_outer_terminal.specs.Terminals.{has_guesses}
+use Rattle.roam_outer_terminal.specs.Terminals.{has_predictions}
 use Rattle.roam_outer_terminal.specs.Writing.{is_empty}
 use Rattle.roam_outer_terminal.specs.declared.silence.Silence.{Silence}
 use Rattle.roam_outer_terminal.specs.declared.terminal.State.{State}
@@ -25,7 +25,7 @@ is_here Gone = false
 
 -- it tells of no silence, or is told of it in records
 abbrev pub is_open : {S : Type 0} → Terminal S → Bool
-is_open t = is_some t.telling || not (is_some t.told)
+is_open t = is_some t.display_state || not (is_some t.told)
 
 -- a terminal is to be painted: it is there, tells of no silence but in records, and all that was painted before is written
 abbrev pub is_ready : {S : Type 0} → Terminal S → Bool
@@ -35,26 +35,26 @@ is_ready t = is_here t.state && (is_open t && is_empty t.waiting)
 abbrev pub shown_of : ClientView → Noted
 shown_of client = record { number = client.kept.receiver.newest.number; screen = client.kept.receiver.newest.state }
 
--- the guesses of a terminal are judged at a moment by the screen that is noted of it; where none is, or there are none, they stay
+-- the predictions of a terminal are judged at a moment by the screen that is noted of it; where none is, or there are none, they stay
 pub data IsJudged (now : ℕ) (client : ClientView) (noted : Option Noted) (old new : Option OverlayOf) : Type 0 where
   judged : (n : Noted) (o o' : OverlayOf) → noted ≡ Some n → old ≡ Some o → new ≡ Some o'
       → Judges n.number n.screen client.kept.acts.acked now o o' → IsJudged now client noted old new
   stay : new ≡ old → IsJudged now client noted old new
 
--- A terminal was painted: what waits for it leads it from what it showed to what it shows, the screen that is noted with what is guessed
+-- A terminal was painted: what waits for it leads it from what it showed to what it shows, the screen that is noted with what is predicted
 -- over it. What is noted is what the start shows, or what was noted before, where that has its number or memory was wanting; where there is
 -- no memory to take back what was laid over it, nothing is.
 pub record Paints {S : Type 0} (silence : Silence) (client : ClientView) (old new : Terminal S) : Type 0 where
   pub ready : is_ready old ≡ true
-  pub untold : is_some old.telling ≡ false
+  pub untold : is_some old.display_state ≡ false
   pub noted : Option Noted
   pub is_noted : (noted ≡ Some (shown_of client)) ⊎ ((noted ≡ old.outer) ⊎ (noted ≡ None))
   pub stays : (new.outer ≡ noted) ⊎ (new.outer ≡ None)
   pub leads : LeadsSized (on_show old.over old.outer) new.waiting (on_show new.over new.outer)
-  pub judged : IsJudged silence.moment client noted old.guessing new.guessing
-  pub over : IsOver silence.moment new.guessing new.outer new.over
+  pub judged : IsJudged silence.moment client noted old.predicting new.predicting
+  pub over : IsOver silence.moment new.predicting new.outer new.over
   pub others : new
-      ≡ record old { outer = new.outer; guessing = new.guessing; over = new.over; waiting = new.waiting }
+      ≡ record old { outer = new.outer; predicting = new.predicting; over = new.over; waiting = new.waiting }
 
 -- ---- in records
 
@@ -64,34 +64,34 @@ shown_screen None noted = noted.screen
 shown_screen (Some over) noted = over
 
 -- the screen that is noted was told where it was asked for, and what is to be shown of it with what stands over it
-abbrev pub TellsNoted : Option Noted → Option Screenshot → List Record → TellingView → TellingView → Type 0
+abbrev pub TellsNoted : Option Noted → Option Screenshot → List Record → DisplayStateView → DisplayStateView → Type 0
 TellsNoted None over said old new = (said ≡ []) × (new ≡ old)
 TellsNoted (Some noted) over said old new =
-    (mid : TellingView) × (looked : List Record) × (shown : List Record) × TellsLook noted.screen looked old mid
+    (mid : DisplayStateView) × (looked : List Record) × (shown : List Record) × TellsLook noted.screen looked old mid
     × Tells (shown_screen over noted) shown mid new × (said ≡ looked ++ shown)
 
 -- It was told in records, behind what waits: first which of its lines are taken, where so many acts are acknowledged; then the screen that
 -- it asked for; then what is to be shown.
-pub record TellsIt {S : Type 0} (acknowledged : ℕ) (before : TellingView) (old new : Terminal S) : Type 0 where
-  pub between : TellingView
-  pub after : TellingView
+pub record TellsIt {S : Type 0} (acknowledged : ℕ) (before : DisplayStateView) (old new : Terminal S) : Type 0 where
+  pub between : DisplayStateView
+  pub after : DisplayStateView
   pub taken : List Record
   pub shown : List Record
   pub tells_taken : TellsTaken acknowledged taken before between
   pub tells_noted : TellsNoted old.outer old.over shown between after
-  pub is : new ≡ record old { telling = Some after; waiting = old.waiting ++ texts_of (taken ++ shown) }
+  pub is : new ≡ record old { display_state = Some after; waiting = old.waiting ++ texts_of (taken ++ shown) }
 
--- A terminal that asked for records was told in them. Whole screens are noted, and guesses are made and judged over these. What is noted is
--- what the start shows, or what was noted before, where that has its number or memory was wanting.
+-- A terminal that asked for records was told in them. Whole screens are noted, and predictions are made and judged over these. What is
+-- noted is what the start shows, or what was noted before, where that has its number or memory was wanting.
 pub record TellsAll {S : Type 0} (silence : Silence) (client : ClientView) (old new : Terminal S) : Type 0 where
   pub ready : is_ready old ≡ true
-  pub before : TellingView
-  pub was : old.telling ≡ Some before
+  pub before : DisplayStateView
+  pub was : old.display_state ≡ Some before
   pub mid : Terminal S
   pub noted : (mid.outer ≡ Some (shown_of client)) ⊎ (mid.outer ≡ old.outer)
-  pub judged : IsJudged silence.moment client mid.outer old.guessing mid.guessing
-  pub over : IsOver silence.moment mid.guessing mid.outer mid.over
-  pub others : mid ≡ record old { outer = mid.outer; guessing = mid.guessing; over = mid.over }
+  pub judged : IsJudged silence.moment client mid.outer old.predicting mid.predicting
+  pub over : IsOver silence.moment mid.predicting mid.outer mid.over
+  pub others : mid ≡ record old { outer = mid.outer; predicting = mid.predicting; over = mid.over }
   pub tells : TellsIt client.kept.acts.acked before mid new
 
 -- one that is ready was painted, or told in records what is to be shown; another is as it was
@@ -100,6 +100,6 @@ pub data MayPaint {S : Type 0} (silence : Silence) (client : ClientView) (old ne
   told : TellsAll silence client old new → MayPaint silence client old new
   not_ready : is_ready old ≡ false → new ≡ old → MayPaint silence client old new
 
--- something is guessed of what a terminal is to show
-abbrev pub is_guessing : {S : Type 0} → Terminal S → Bool
-is_guessing t = has_guesses t.guessing
+-- something is predicted of what a terminal is to show
+abbrev pub is_predicting : {S : Type 0} → Terminal S → Bool
+is_predicting t = has_predictions t.predicting

@@ -1,8 +1,8 @@
 -- When an outer terminal is let go.
 use Rattle.std.specs.Prelude.{ℕ, Bool, true, false, not, List}
-use Rattle.roam_typing.specs.Lines.{front_of}
-use Rattle.roam_typing.specs.declared.lines.Front.{Front}
-use Rattle.roam_typing.specs.declared.lines.Front.TheVariants.{Line, Part, TooLong}
+use Rattle.roam_terminal_input.specs.Lines.{front_of}
+use Rattle.roam_terminal_input.specs.declared.lines.Front.{Front}
+use Rattle.roam_terminal_input.specs.declared.lines.Front.TheVariants.{Line, Part, TooLong}
 use Rattle.roam_outer_terminal.specs.declared.terminal.State.{State}
 use Rattle.roam_outer_terminal.specs.declared.terminal.State.TheVariants.{Here, Deaf, Left, Refused, Gone}
 use Rattle.roam_outer_terminal.specs.declared.terminal.Terminal.{Terminal}

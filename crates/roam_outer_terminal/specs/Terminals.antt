@@ -4,18 +4,18 @@ use Rattle.std.specs.List.{fold}
 use Rattle.std.specs.Io.KnownBytes.{Consumes}
 use Rattle.roam_acts.specs.declared.acts.Act.{Act}
 use Rattle.roam_acts.specs.Senders.{HasNoRoom, IsShort, last_number}
-use Rattle.roam_guess.specs.Guesses.{none}
-use Rattle.roam_guess.specs.Laws.{after}
+use Rattle.roam_prediction.specs.Predictions.{none}
+use Rattle.roam_prediction.specs.Laws.{after}
 use Rattle.roam_hub.specs.Clients.{ClientView, keeping, after_typed_all}
 use Rattle.roam_overlay.specs.Delays.{no_delay}
 use Rattle.roam_overlay.specs.Overlays.{OverlayOf, line_steps, next_number, screen_or}
 use Rattle.roam_screens.specs.Screenshot.{Screenshot}
-use Rattle.roam_typing.specs.Entries.{Says, acts_in}
-use Rattle.roam_typing.specs.declared.entries.Entry.{Entry}
-use Rattle.roam_typing.specs.declared.entries.Entry.TheVariants.{Acts, Paste, Told, Repaint, Watch, Guess, Look, LookStyled, Show, End}
-use Rattle.roam_typing.specs.declared.entries.Guessing.{Guessing}
-use Rattle.roam_typing.specs.declared.entries.Guessing.TheVariants.{Always, Adaptive, Never}
-use Rattle.roam_typing.specs.Lines.{ended_all}
+use Rattle.roam_terminal_input.specs.Entries.{Says, acts_in}
+use Rattle.roam_terminal_input.specs.declared.entries.Entry.{Entry}
+use Rattle.roam_terminal_input.specs.declared.entries.Entry.TheVariants.{Acts, Paste, Events, Repaint, Watch, Prediction, Look, LookStyled, Show, End}
+use Rattle.roam_terminal_input.specs.declared.entries.Predicting.{Predicting}
+use Rattle.roam_terminal_input.specs.declared.entries.Predicting.TheVariants.{Always, Adaptive, Never}
+use Rattle.roam_terminal_input.specs.Lines.{ended_all}
 use Rattle.roam_outer_terminal.specs.declared.terminal.State.{State}
 use Rattle.roam_outer_terminal.specs.declared.terminal.State.TheVariants.{Here, Deaf, Left, Refused, Gone}
 
@@ -23,10 +23,10 @@ use Rattle.roam_outer_terminal.specs.declared.terminal.State.TheVariants.{Here, 
 abbrev pub watches_after : Entry → Bool → Bool
 watches_after (Acts acts) watches = watches
 watches_after (Paste acts) watches = watches
-watches_after Told watches = watches
+watches_after Events watches = watches
 watches_after Repaint watches = watches
 watches_after Watch watches = true
-watches_after (Guess guessing) watches = watches
+watches_after (Prediction predicting) watches = watches
 watches_after Look watches = watches
 watches_after LookStyled watches = watches
 watches_after (Show showing) watches = watches
@@ -36,10 +36,10 @@ watches_after End watches = watches
 abbrev pub ends_by : Bool → Entry → Bool
 ends_by watches (Acts acts) = false
 ends_by watches (Paste acts) = false
-ends_by watches Told = false
+ends_by watches Events = false
 ends_by watches Repaint = false
 ends_by watches Watch = false
-ends_by watches (Guess guessing) = false
+ends_by watches (Prediction predicting) = false
 ends_by watches Look = false
 ends_by watches LookStyled = false
 ends_by watches (Show showing) = false
@@ -114,56 +114,56 @@ pub data Holds (acts : List Act) (client : ClientView) : Type 0 where
   full : HasNoRoom client.kept.acts (length acts) → Holds acts client
   spent : IsShort client.kept.acts (length acts) → Holds acts client
 
--- ---- what is guessed of them
+-- ---- what is predicted of them
 
--- the guesses of a terminal after acts of its line were typed, the first under a number, where a start showed a screen
-abbrev pub guesses_after : Bool → ℕ → List Act → Screenshot → Option OverlayOf → Option OverlayOf
-guesses_after pasted first acts shown None = None
-guesses_after pasted first acts shown (Some o) =
-    Some (record o { guesses = fold after o.guesses (line_steps pasted first acts (screen_or o.seen shown)) })
+-- the predictions of a terminal after acts of its line were typed, the first under a number, where a start showed a screen
+abbrev pub predictions_after : Bool → ℕ → List Act → Screenshot → Option OverlayOf → Option OverlayOf
+predictions_after pasted first acts shown None = None
+predictions_after pasted first acts shown (Some o) =
+    Some (record o { predictions = fold after o.predictions (line_steps pasted first acts (screen_or o.seen shown)) })
 
 -- the number of the next act of a start
 abbrev pub first_number : ClientView → ℕ
 first_number client = next_number (last_number client.kept.acts)
 
--- whether guesses are shown where what is typed takes long alone, as a line says; or none are
-abbrev pub adaptive_of : Guessing → Option Bool
+-- whether predictions are shown where what is typed takes long alone, as a line says; or none are
+abbrev pub adaptive_of : Predicting → Option Bool
 adaptive_of Always = Some false
 adaptive_of Adaptive = Some true
 adaptive_of Never = None
 
--- guesses that begin anew
-abbrev pub fresh_guesses : Bool → OverlayOf
-fresh_guesses adaptive = record { guesses = none; adaptive = adaptive; delays = no_delay; seen = None }
+-- predictions that begin anew
+abbrev pub fresh_predictions : Bool → OverlayOf
+fresh_predictions adaptive = record { predictions = none; adaptive = adaptive; delays = no_delay; seen = None }
 
--- guesses begin anew, as a line says; there are none where it wants none, of a terminal that watches, and where memory is wanting
-pub data IsSet (guessing : Guessing) (watches : Bool) (new : Option OverlayOf) : Type 0 where
-  no_guesses : new ≡ None → IsSet guessing watches new
-  fresh : (adaptive : Bool) → watches ≡ false → adaptive_of guessing ≡ Some adaptive → new ≡ Some (fresh_guesses adaptive)
-      → IsSet guessing watches new
+-- predictions begin anew, as a line says; there are none where it wants none, of a terminal that watches, and where memory is wanting
+pub data IsSet (predicting : Predicting) (watches : Bool) (new : Option OverlayOf) : Type 0 where
+  no_predictions : new ≡ None → IsSet predicting watches new
+  fresh : (adaptive : Bool) → watches ≡ false → adaptive_of predicting ≡ Some adaptive → new ≡ Some (fresh_predictions adaptive)
+      → IsSet predicting watches new
 
--- acts of a line that was taken are guessed, but of a terminal that only watches
-abbrev pub guesses_by : Bool → Bool → List Act → ClientView → Option OverlayOf → Option OverlayOf
-guesses_by true pasted acts client old = old
-guesses_by false pasted acts client old = guesses_after pasted (first_number client) acts client.kept.receiver.newest.state old
+-- acts of a line that was taken are predicted, but of a terminal that only watches
+abbrev pub predictions_by : Bool → Bool → List Act → ClientView → Option OverlayOf → Option OverlayOf
+predictions_by true pasted acts client old = old
+predictions_by false pasted acts client old = predictions_after pasted (first_number client) acts client.kept.receiver.newest.state old
 
--- something is guessed
-abbrev pub has_guesses : Option OverlayOf → Bool
-has_guesses None = false
-has_guesses (Some o) = nat_lt 0 (length o.guesses.list)
+-- something is predicted
+abbrev pub has_predictions : Option OverlayOf → Bool
+has_predictions None = false
+has_predictions (Some o) = nat_lt 0 (length o.predictions.list)
 
--- what a line that was taken makes of what is guessed: its acts are guessed; it says when guesses are shown; or nothing changes
-abbrev pub Guesses : Bool → Entry → ClientView → Option OverlayOf → Option OverlayOf → Type 0
-Guesses watches (Acts acts) client old new = new ≡ guesses_by watches false acts.items client old
-Guesses watches (Paste acts) client old new = new ≡ guesses_by watches true acts.items client old
-Guesses watches Told client old new = new ≡ old
-Guesses watches Repaint client old new = new ≡ old
-Guesses watches Watch client old new = new ≡ old
-Guesses watches (Guess guessing) client old new = IsSet guessing watches new
-Guesses watches Look client old new = new ≡ old
-Guesses watches LookStyled client old new = new ≡ old
-Guesses watches (Show showing) client old new = new ≡ old
-Guesses watches End client old new = new ≡ old
+-- what a line that was taken makes of what is predicted: its acts are predicted; it says when predictions are shown; or nothing changes
+abbrev pub Predictions : Bool → Entry → ClientView → Option OverlayOf → Option OverlayOf → Type 0
+Predictions watches (Acts acts) client old new = new ≡ predictions_by watches false acts.items client old
+Predictions watches (Paste acts) client old new = new ≡ predictions_by watches true acts.items client old
+Predictions watches Events client old new = new ≡ old
+Predictions watches Repaint client old new = new ≡ old
+Predictions watches Watch client old new = new ≡ old
+Predictions watches (Prediction predicting) client old new = IsSet predicting watches new
+Predictions watches Look client old new = new ≡ old
+Predictions watches LookStyled client old new = new ≡ old
+Predictions watches (Show showing) client old new = new ≡ old
+Predictions watches End client old new = new ≡ old
 
 -- ---- a line at a time
 

@@ -1,9 +1,9 @@
 -- What waits for an outer terminal: it is written as the terminal takes it; and what is told of silence.
 use Rattle.std.specs.Prelude.{◌≡◌, ◌⊎◌, ℕ, ◌-◌, Bool, true, false, nat_le, nat_lt, List, [], ◌∷◌, length, Option, Some, None, is_some, if◌then◌else◌}
 use Rattle.std.specs.Io.KnownBytes.{Keeps}
-use Rattle.roam_frames.specs.Carriers.{Writes}
-use Rattle.roam_records.specs.Records.{text_of}
-use Rattle.roam_records.specs.declared.records.Record.TheVariants as records
+use Rattle.roam_stream_framing.specs.Carriers.{Writes}
+use Rattle.roam_display_records.specs.Records.{text_of}
+use Rattle.roam_display_records.specs.declared.records.Record.TheVariants as records
 use Rattle.roam_outer_terminal.specs.Silence.{due_of, is_over, notice_of}
 use Rattle.roam_outer_terminal.specs.declared.silence.Silence.{Silence}
 use Rattle.roam_outer_terminal.specs.declared.terminal.State.{State}
@@ -55,7 +55,7 @@ state_after false has_taken now stuck state =
     if nat_le longest_stuck (now - stuck_since has_taken now stuck) then Gone else state
 
 -- Some of what waited for a terminal was written, and nothing else is another: what is noted of it, what stands over that and what is
--- guessed stay, and so do its lines. Where a write failed nothing more can be written. Since when it takes nothing is known by whether
+-- predicted stay, and so do its lines. Where a write failed nothing more can be written. Since when it takes nothing is known by whether
 -- less waits than before.
 pub record Flushes {S : Type 0} (remaining contents : S → Option (List ℕ)) (now : ℕ) (old new : Terminal S) : Type 0 where
   pub writes : Writes (contents old.stream) (contents new.stream) old.waiting new.waiting
@@ -83,13 +83,13 @@ pub data SaysSilence {S : Type 0} (seen : Silence) (old new : Terminal S) : Type
 -- A silence that a terminal was told of is over, and what it shows isn't known; it is told of so many seconds, where nothing waits for it
 -- and nothing stands over what is noted; or nothing changes. One that asked for records is told in them.
 pub data TellsSilence {S : Type 0} (silence : Silence) (old new : Terminal S) : Type 0 where
-  over : is_some old.telling ≡ false → is_over (seen_by silence old) ≡ true → new ≡ record old { told = None; outer = None }
+  over : is_some old.display_state ≡ false → is_over (seen_by silence old) ≡ true → new ≡ record old { told = None; outer = None }
       → TellsSilence silence old new
-  told : (seconds : ℕ) → is_some old.telling ≡ false → is_over (seen_by silence old) ≡ false → due_of (seen_by silence old) ≡ Some seconds
+  told : (seconds : ℕ) → is_some old.display_state ≡ false → is_over (seen_by silence old) ≡ false → due_of (seen_by silence old) ≡ Some seconds
       → old.waiting ≡ [] → old.over ≡ None → old.state ≡ Here
       → new ≡ record old { told = Some seconds; outer = None; waiting = notice_of seconds } → TellsSilence silence old new
-  quiet : is_some old.telling ≡ false → is_over (seen_by silence old) ≡ false → new ≡ old → TellsSilence silence old new
-  says : is_some old.telling ≡ true → SaysSilence (seen_by silence old) old new → TellsSilence silence old new
+  quiet : is_some old.display_state ≡ false → is_over (seen_by silence old) ≡ false → new ≡ old → TellsSilence silence old new
+  says : is_some old.display_state ≡ true → SaysSilence (seen_by silence old) old new → TellsSilence silence old new
 
 -- a terminal was told of a silence or not, and some of what waited for it was written
 pub record Settles {S : Type 0} (remaining contents : S → Option (List ℕ)) (silence : Silence) (old new : Terminal S) : Type 0 where

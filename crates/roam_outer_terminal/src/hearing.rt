@@ -6,24 +6,24 @@ ghost use Rattle.roam_acts.specs.Acts.{IsInRange};
 ghost use Rattle.roam_faults.specs.Streams.{IsStreamEnd};
 ghost use Rattle.roam_hub.specs.Clients.{ClientView};
 ghost use Rattle.roam_outer_terminal.specs.Hearing.{HearsOne, IsRead, IsRefused, TakesEntry, TakesWord, Took, TypesLine, forgotten, is_end, is_looking, line_told, look_of, told_of};
-ghost use Rattle.roam_telling.specs.Telling.{nothing_told};
-ghost use Rattle.roam_outer_terminal.specs.Terminals.{IsSet, Reads, asks_end, fresh_guesses, guesses_after, is_heard, is_read};
-ghost use Rattle.roam_typing.specs.Entries.{Says, acts_in};
-ghost use Rattle.roam_typing.specs.declared.entries.Entry.{Entry as EntryOf};
-ghost use Rattle.roam_typing.specs.Lines.{IsFirst};
-ghost use Rattle.roam_typing.specs.Typing.{bytes_given};
+ghost use Rattle.roam_display_state.specs.DisplayState.{nothing_told};
+ghost use Rattle.roam_outer_terminal.specs.Terminals.{IsSet, Reads, asks_end, fresh_predictions, predictions_after, is_heard, is_read};
+ghost use Rattle.roam_terminal_input.specs.Entries.{Says, acts_in};
+ghost use Rattle.roam_terminal_input.specs.declared.entries.Entry.{Entry as EntryOf};
+ghost use Rattle.roam_terminal_input.specs.Lines.{IsFirst};
+ghost use Rattle.roam_terminal_input.specs.Typing.{bytes_given};
 
 use crate::duplex::Duplex;
 use crate::terminal::{State, Terminal};
 use roam_acts::Act;
 use roam_acts::limits::MOST_ACTS;
 use roam_cells::Fault;
+use roam_display_records::{Looking, Record};
+use roam_display_state::{DisplayState, say};
 use roam_faults::is_for_now;
 use roam_hub::Client;
 use roam_overlay::Overlay;
-use roam_records::{Looking, Record};
-use roam_telling::{Telling, say};
-use roam_typing::{Entry, Front, Guessing, Showing, read_entry};
+use roam_terminal_input::{Entry, Front, Predicting, Showing, read_entry};
 use std::alloc::Global;
 use std::io;
 
@@ -64,9 +64,9 @@ impl Taking {
     }
 }
 
-// Guesses that begin, where there is memory for them.
+// Predictions that begin, where there is memory for them.
 fn new_overlay(alloc: Global, adaptive: bool) -> Option<Overlay>
-    ensures fresh { (result ≡ None) ⊎ (result ≡ Some (fresh_guesses adaptive)) }
+    ensures fresh { (result ≡ None) ⊎ (result ≡ Some (fresh_predictions adaptive)) }
 {
     match Overlay::new(alloc, adaptive) {
         Ok(overlay) => Some(overlay),
@@ -74,17 +74,17 @@ fn new_overlay(alloc: Global, adaptive: bool) -> Option<Overlay>
     }
 }
 
-// What guesses are shown by, where they are to be and there is memory for it; a terminal that watches has none.
-fn overlay_for(alloc: Global, guessing: Guessing, watches: bool) -> Option<Overlay>
-    ensures set { IsSet guessing watches result }
+// What predictions are shown by, where they are to be and there is memory for it; a terminal that watches has none.
+fn overlay_for(alloc: Global, predicting: Predicting, watches: bool) -> Option<Overlay>
+    ensures set { IsSet predicting watches result }
 {
     if watches {
         return None;
     }
-    match guessing {
-        Guessing::Always => new_overlay(alloc, false),
-        Guessing::Adaptive => new_overlay(alloc, true),
-        Guessing::Never => None,
+    match predicting {
+        Predicting::Always => new_overlay(alloc, false),
+        Predicting::Adaptive => new_overlay(alloc, true),
+        Predicting::Never => None,
     }
 }
 
@@ -173,34 +173,34 @@ impl<S: Duplex + Drop> Terminal<S> {
         }
     }
 
-    // The acts of a line were typed at the start, the first under a number, where it showed a screen: what they show is guessed, where that
-    // is wanted.
-    fn guess(&mut self, is_pasted: bool, first: u64, acts: &[Act], client: &Client)
-        ensures guesses { self.new.guessing
-            ≡ guesses_after is_pasted first acts.now client.now.kept.receiver.newest.state self.old.guessing }
-        ensures others { self.new ≡ record self.old { guessing = self.new.guessing } }
+    // The acts of a line were typed at the start, the first under a number, where it showed a screen: what they show is predicted, where
+    // that is wanted.
+    fn prediction(&mut self, is_pasted: bool, first: u64, acts: &[Act], client: &Client)
+        ensures guesses { self.new.predicting
+            ≡ predictions_after is_pasted first acts.now client.now.kept.receiver.newest.state self.old.predicting }
+        ensures others { self.new ≡ record self.old { predicting = self.new.predicting } }
     {
-        if let Some(overlay) = &mut self.guessing {
+        if let Some(overlay) = &mut self.predicting {
             overlay.typed(is_pasted, first, acts, &client.shown().1);
         }
     }
 
-    // Guesses are shown from now on, or aren't any more; a terminal that watches has none, and one for which there is no memory.
-    fn set_guessing(&mut self, alloc: Global, guessing: Guessing)
-        ensures set { IsSet guessing self.old.watches self.new.guessing }
-        ensures others { self.new ≡ record self.old { guessing = self.new.guessing } }
+    // Predictions are shown from now on, or aren't any more; a terminal that watches has none, and one for which there is no memory.
+    fn set_predicting(&mut self, alloc: Global, predicting: Predicting)
+        ensures set { IsSet predicting self.old.watches self.new.predicting }
+        ensures others { self.new ≡ record self.old { predicting = self.new.predicting } }
     {
-        self.guessing = overlay_for(alloc, guessing, self.watches);
+        self.predicting = overlay_for(alloc, predicting, self.watches);
     }
 
     // The line that stands first was taken; the last of its acts has this number, where it has acts.
     fn took_line(&mut self, last: Option<u64>)
         ensures took { Took self.old.lines.kept self.new.lines.kept }
-        ensures others { self.new ≡ record self.old { lines = self.new.lines; telling = line_told last self.old.telling } }
+        ensures others { self.new ≡ record self.old { lines = self.new.lines; display_state = line_told last self.old.display_state } }
     {
         self.lines.took();
-        if let Some(telling) = &mut self.telling {
-            telling.took(last);
+        if let Some(display_state) = &mut self.display_state {
+            display_state.took(last);
         }
     }
 
@@ -220,7 +220,7 @@ impl<S: Duplex + Drop> Terminal<S> {
         }
         match client.typed_all(acts) {
             Ok(()) => {
-                self.guess(is_pasted, first, acts, client);
+                self.prediction(is_pasted, first, acts, client);
                 self.took_line(Some(client.typed_count()));
                 Taking::Line
             }
@@ -240,21 +240,21 @@ impl<S: Duplex + Drop> Terminal<S> {
 
     // Nothing is told in records yet, and nothing is known of what it shows.
     fn open_records(&mut self)
-        ensures opened { self.new ≡ record self.old { outer = None; over = None; telling = Some nothing_told } }
+        ensures opened { self.new ≡ record self.old { outer = None; over = None; display_state = Some nothing_told } }
     {
         self.forget();
         self.over = None;
-        self.telling = Some(Telling::new());
+        self.display_state = Some(DisplayState::new());
     }
 
     // Records come from here on, behind what waits: the first line says so.
     fn begin_records(&mut self, alloc: Global) -> Taking
-        ensures begins { (client : ClientView) → TakesWord Entry.Told client self.old self.new result }
+        ensures begins { (client : ClientView) → TakesWord Entry.Events client self.old self.new result }
     {
-        if self.lines.count() != 0 || self.telling.is_some() {
+        if self.lines.count() != 0 || self.display_state.is_some() {
             return self.refuse_line(alloc);
         }
-        if !say(alloc, &mut self.waiting, Record::Told) {
+        if !say(alloc, &mut self.waiting, Record::Events) {
             return Taking::NoMemory;
         }
         self.open_records();
@@ -266,7 +266,7 @@ impl<S: Duplex + Drop> Terminal<S> {
     fn watch(&mut self, alloc: Global) -> Taking
         ensures watches { (client : ClientView) → TakesWord Entry.Watch client self.old self.new result }
     {
-        let before = if self.telling.is_some() { 1 } else { 0 };
+        let before = if self.display_state.is_some() { 1 } else { 0 };
         if self.lines.count() != before {
             return self.refuse_line(alloc);
         }
@@ -278,15 +278,15 @@ impl<S: Duplex + Drop> Terminal<S> {
     // The screen is asked for, once it was told that was asked for before.
     fn look(&mut self, alloc: Global, looking: Looking) -> Taking
         ensures looks { (client : ClientView) → TakesWord (look_of looking) client self.old self.new result }
-        ensures waits { is_looking self.old.telling ≡ true → result ≡ Taking.Waits }
+        ensures waits { is_looking self.old.display_state ≡ true → result ≡ Taking.Waits }
     {
-        let Some(telling) = &mut self.telling else {
+        let Some(display_state) = &mut self.display_state else {
             return self.refuse_line(alloc);
         };
-        if telling.is_asked() {
+        if display_state.is_asked() {
             return Taking::Waits;
         }
-        telling.ask(looking);
+        display_state.ask(looking);
         self.took_line(None);
         Taking::Line
     }
@@ -295,10 +295,10 @@ impl<S: Duplex + Drop> Terminal<S> {
     fn show(&mut self, alloc: Global, showing: Showing) -> Taking
         ensures shows { (client : ClientView) → TakesWord (Entry.Show showing) client self.old self.new result }
     {
-        let Some(telling) = &mut self.telling else {
+        let Some(display_state) = &mut self.display_state else {
             return self.refuse_line(alloc);
         };
-        if !telling.show(showing) {
+        if !display_state.show(showing) {
             return self.refuse_line(alloc);
         }
         self.took_line(None);
@@ -307,11 +307,11 @@ impl<S: Duplex + Drop> Terminal<S> {
 
     // Nothing is known of what it shows, whatever it is told.
     fn forget_all(&mut self)
-        ensures forgotten { self.new ≡ record self.old { outer = None; telling = forgotten self.old.telling } }
+        ensures forgotten { self.new ≡ record self.old { outer = None; display_state = forgotten self.old.display_state } }
     {
         self.forget();
-        if let Some(telling) = &mut self.telling {
-            telling.forget();
+        if let Some(display_state) = &mut self.display_state {
+            display_state.forget();
         }
     }
 
@@ -333,11 +333,11 @@ impl<S: Duplex + Drop> Terminal<S> {
         match entry {
             Entry::Acts(acts) => self.type_acts(client, acts, false),
             Entry::Paste(acts) => self.type_acts(client, acts, true),
-            Entry::Told => self.begin_records(alloc),
+            Entry::Events => self.begin_records(alloc),
             Entry::Repaint => self.repaint(),
             Entry::Watch => self.watch(alloc),
-            Entry::Guess(guessing) => {
-                self.set_guessing(alloc, *guessing);
+            Entry::Prediction(predicting) => {
+                self.set_predicting(alloc, *predicting);
                 self.took_line(None);
                 Taking::Line
             }

@@ -1,4 +1,4 @@
-//! What is guessed is laid over the screen that is noted of an outer terminal, and taken back before another is painted.
+//! What is predicted is laid over the screen that is noted of an outer terminal, and taken back before another is painted.
 ghost use Rattle.std.specs.Prelude.{◌≡◌, ◌⊎◌, ◌++◌, ◌≤◌, ℕ, [], Option, true, false, None, Some, IfSome, is_some, IfOk, OnOk, OnErr, IsOkUnless};
 ghost use Rattle.roam_screens.specs.Screenshot.{Screenshot};
 ghost use Rattle.roam_scroll_paint.specs.Leads.{Leads};
@@ -11,10 +11,10 @@ use crate::duplex::Duplex;
 use crate::silence::Silence;
 use crate::terminal::Terminal;
 use roam_cells::{Fault, are_same_cells};
-use roam_frames::Outbox;
 use roam_hub::Client;
 use roam_screens::{RowShot, Seen, Shown};
 use roam_scroll_paint::paint_moved;
+use roam_stream_framing::Outbox;
 use roam_turns::Outer;
 use std::alloc::Global;
 
@@ -170,12 +170,12 @@ impl<S: Duplex + Drop> Terminal<S> {
         }
     }
 
-    // The guesses are judged by the screen that is noted.
+    // The predictions are judged by the screen that is noted.
     pub(crate) fn judge(&mut self, alloc: Global, client: &Client, now: u64)
-        ensures judged { IsJudged now client.now self.old.outer self.old.guessing self.new.guessing }
-        ensures others { self.new ≡ record self.old { guessing = self.new.guessing } }
+        ensures judged { IsJudged now client.now self.old.outer self.old.predicting self.new.predicting }
+        ensures others { self.new ≡ record self.old { predicting = self.new.predicting } }
     {
-        if let Some(overlay) = &mut self.guessing
+        if let Some(overlay) = &mut self.predicting
             && let Some((number, Shown::New(screen))) = self.outer.noted()
         {
             overlay.judge(alloc, number, screen, client.acknowledged(), now);
@@ -184,12 +184,12 @@ impl<S: Duplex + Drop> Terminal<S> {
 
     // What is to stand over the screen that is noted: nothing in a silence, which is told.
     pub(crate) fn wanted(&self, alloc: Global, silence: Silence) -> Option<RowShot>
-        ensures over { IsOver silence.moment self.now.guessing self.now.outer result }
+        ensures over { IsOver silence.moment self.now.predicting self.now.outer result }
     {
         if silence.is_long() {
             return None;
         }
-        let overlay = self.guessing.as_ref()?;
+        let overlay = self.predicting.as_ref()?;
         match self.outer.noted() {
             Some((_, Shown::New(screen))) => overlay.over(alloc, screen, silence.moment()),
             _ => None,
@@ -211,8 +211,8 @@ impl<S: Duplex + Drop> Terminal<S> {
         ensures leads { (over : Screenshot) (outer : Option NotedOf) → taken.over ≡ over → IsBack over outer taken.text.items
             → LeadsSized outer self.old.waiting self.old.outer
             → LeadsSized (on_show (Some over) outer) self.new.waiting (on_show self.new.over self.new.outer) }
-        ensures over { (now : ℕ) → IsOver now self.old.guessing self.old.outer wanted
-            → IsOver now self.old.guessing self.new.outer self.new.over }
+        ensures over { (now : ℕ) → IsOver now self.old.predicting self.old.outer wanted
+            → IsOver now self.old.predicting self.new.outer self.new.over }
         ensures outer { (self.new.outer ≡ self.old.outer) ⊎ (self.new.outer ≡ None) }
         ensures others { self.new ≡ record self.old { over = self.new.over; outer = self.new.outer; waiting = self.new.waiting } }
     {
@@ -234,8 +234,8 @@ impl<S: Duplex + Drop> Terminal<S> {
         ensures leads { (over : Option Screenshot) (outer mid : Option NotedOf) → TakesBack over outer mid taken
             → LeadsSized mid self.old.waiting self.old.outer
             → LeadsSized (on_show over outer) self.new.waiting (on_show self.new.over self.new.outer) }
-        ensures over { (now : ℕ) → IsOver now self.old.guessing self.old.outer wanted
-            → IsOver now self.old.guessing self.new.outer self.new.over }
+        ensures over { (now : ℕ) → IsOver now self.old.predicting self.old.outer wanted
+            → IsOver now self.old.predicting self.new.outer self.new.over }
         ensures outer { (self.new.outer ≡ self.old.outer) ⊎ (self.new.outer ≡ None) }
         ensures others { self.new ≡ record self.old { over = self.new.over; outer = self.new.outer; waiting = self.new.waiting } }
     {
@@ -245,11 +245,11 @@ impl<S: Duplex + Drop> Terminal<S> {
         }
     }
 
-    // Paints it: what stands over the screen that is noted is taken back first, then what the start shows is painted, and what is guessed
+    // Paints it: what stands over the screen that is noted is taken back first, then what the start shows is painted, and what is predicted
     // is laid over that. All of it waits to be written, whole.
     fn paint(&mut self, alloc: Global, client: &Client, silence: Silence)
         requires ready { is_ready self.old ≡ true }
-        requires untold { is_some self.old.telling ≡ false }
+        requires untold { is_some self.old.display_state ≡ false }
         ensures paints { Paints silence client.now self.old self.new }
         ensures behind { IsBehind self.old.outer client.now.kept.receiver.newest.number client.now.kept.receiver.newest.state
             → IsBehind self.new.outer client.now.kept.receiver.newest.number client.now.kept.receiver.newest.state }
@@ -265,7 +265,7 @@ impl<S: Duplex + Drop> Terminal<S> {
     fn is_ready(&self) -> bool
         ensures ready { result ≡ is_ready self.now }
     {
-        let is_open = self.telling.is_some() || self.told.is_none();
+        let is_open = self.display_state.is_some() || self.told.is_none();
         self.is_here() && is_open && self.waiting.len() == 0
     }
 
@@ -278,7 +278,7 @@ impl<S: Duplex + Drop> Terminal<S> {
         if !self.is_ready() {
             return;
         }
-        if self.telling.is_some() {
+        if self.display_state.is_some() {
             self.tell(alloc, client, silence);
         } else {
             self.paint(alloc, client, silence);

@@ -1,20 +1,20 @@
 //! An outer terminal: the stream at its other end, the lines that came, and what waits to be written.
 ghost use Rattle.std.specs.Prelude.{◌≡◌, ◌++◌, List, ℕ, [], true, false, not, None};
 ghost use Rattle.roam_outer_terminal.specs.Hearing.{IsRefusal, IsRefused};
-ghost use Rattle.roam_outer_terminal.specs.Painted.{is_guessing, is_here};
+ghost use Rattle.roam_outer_terminal.specs.Painted.{is_predicting, is_here};
 ghost use Rattle.roam_outer_terminal.specs.Staying.{is_gone};
 ghost use Rattle.roam_outer_terminal.specs.Writing.{is_empty, once_written, unwritten};
-ghost use Rattle.roam_typing.specs.Lines.{nothing_came};
+ghost use Rattle.roam_terminal_input.specs.Lines.{nothing_came};
 
 use crate::duplex::Duplex;
 use roam_cells::Fault;
-use roam_frames::Outbox;
+use roam_display_records::Record;
+use roam_display_state::{DisplayState, say};
 use roam_overlay::Overlay;
-use roam_records::Record;
 use roam_screens::RowShot;
-use roam_telling::{Telling, say};
+use roam_stream_framing::Outbox;
+use roam_terminal_input::{Front, Lines};
 use roam_turns::Outer;
-use roam_typing::{Front, Lines};
 use std::alloc::Global;
 
 /// How far a terminal came.
@@ -65,12 +65,12 @@ pub struct Terminal<S> {
     pub(crate) stream: S,
     pub(crate) lines: Lines,
     pub(crate) outer: Outer,
-    pub(crate) guessing: Option<Overlay>,
-    // What stands over the screen that is noted: that screen with what was guessed.
+    pub(crate) predicting: Option<Overlay>,
+    // What stands over the screen that is noted: that screen with what was predicted.
     pub(crate) over: Option<RowShot>,
     pub(crate) waiting: Outbox,
     // What it is told in records, where it asked for these.
-    pub(crate) telling: Option<Telling>,
+    pub(crate) display_state: Option<DisplayState>,
     pub(crate) watches: bool,
     pub(crate) told: Option<u64>,
     pub(crate) stuck: Option<u64>,
@@ -82,19 +82,19 @@ impl<S: Duplex + Drop> Terminal<S> {
     pub fn new(alloc: Global, stream: S) -> Terminal<S>
         ensures stream { result.stream ≡ stream }
         ensures lines { (result.lines ≡ nothing_came) × (result.watches ≡ false) }
-        ensures guessing { (result.guessing ≡ None) × (result.over ≡ None) }
+        ensures guessing { (result.predicting ≡ None) × (result.over ≡ None) }
         ensures painted { (result.outer ≡ None) × (result.waiting ≡ []) × (result.told ≡ None) × (result.stuck ≡ None) }
-        ensures untold { result.telling ≡ None }
+        ensures untold { result.display_state ≡ None }
         ensures here { result.state ≡ State.Here }
     {
         Terminal {
             stream,
             lines: Lines::new(alloc),
             outer: Outer::new(),
-            guessing: None,
+            predicting: None,
             over: None,
             waiting: Outbox::new(alloc),
-            telling: None,
+            display_state: None,
             watches: false,
             told: None,
             stuck: None,
@@ -130,11 +130,11 @@ impl<S: Duplex + Drop> Terminal<S> {
         }
     }
 
-    /// Whether something is guessed of what it is to show.
-    pub fn is_guessing(&self) -> bool
-        ensures guesses { result ≡ is_guessing self.now }
+    /// Whether something is predicted of what it is to show.
+    pub fn is_predicting(&self) -> bool
+        ensures guesses { result ≡ is_predicting self.now }
     {
-        match &self.guessing {
+        match &self.predicting {
             Some(overlay) => overlay.len() > 0,
             None => false,
         }
@@ -151,7 +151,7 @@ impl<S: Duplex + Drop> Terminal<S> {
     pub(crate) fn refuse(&mut self, alloc: Global, fault: Fault)
         ensures refused { IsRefused self.old self.new }
     {
-        let is_told = self.telling.is_some();
+        let is_told = self.display_state.is_some();
         self.state = State::Refused;
         self.forget();
         let number = self.lines.count().saturating_add(1);

@@ -2,18 +2,18 @@
 ghost use Rattle.std.specs.Prelude.{◌≡◌, ◌≢◌, ◌⊎◌, ◌+◌, ◌≤◌, ◌++◌, [], true, false, None, Some, IfOk, OnErr, min, drop, length};
 ghost use Rattle.std.specs.Io.KnownBytes.{Keeps};
 ghost use Rattle.roam_faults.specs.Streams.{IsStreamEnd};
-ghost use Rattle.roam_frames.specs.Carriers.{Writes};
+ghost use Rattle.roam_stream_framing.specs.Carriers.{Writes};
 ghost use Rattle.roam_outer_terminal.specs.Writing.{Flushes, SaysSilence, Settles, TellsSilence, has_gone, is_empty, seen_by, state_after, stuck_after, stuck_since, unwritten};
 ghost use Rattle.roam_outer_terminal.specs.Silence.{is_over, due_of, notice_of};
-ghost use Rattle.roam_records.specs.Records.{text_of};
-ghost use Rattle.roam_records.specs.declared.records.Record.{Record as RecordOf};
+ghost use Rattle.roam_display_records.specs.Records.{text_of};
+ghost use Rattle.roam_display_records.specs.declared.records.Record.{Record as RecordOf};
 
 use crate::duplex::Duplex;
 use crate::silence::{Silence, notice};
 use crate::terminal::{State, Terminal};
+use roam_display_records::Record;
+use roam_display_state::say;
 use roam_faults::is_for_now;
-use roam_records::Record;
-use roam_telling::say;
 use std::alloc::Global;
 use std::io;
 
@@ -89,7 +89,7 @@ impl<S: Duplex + Drop> Terminal<S> {
     {
         let mut seen = silence;
         seen.tell(self.told);
-        if self.telling.is_some() {
+        if self.display_state.is_some() {
             self.tell_silence_in_records(alloc, seen);
         } else if seen.is_over() {
             self.told = None;

@@ -1,14 +1,14 @@
--- Guesses are judged by a screen that follows the one before, or by one that doesn't.
+-- Predictions are judged by a screen that follows the one before, or by one that doesn't.
 use Rattle.std.proofs.Common.{◌≡◌, ◌⊎◌, inl, inr, refl, sym, subst}
-use Rattle.roam_guess.specs.Guesses.{GuessesOf, dropped}
-use Rattle.roam_guess.specs.Laws.{Step, Seen, Ended, after}
-use Rattle.roam_guess.specs.Verdicts.{Follows, begun, judged}
-use Rattle.roam_guess.specs.declared.guesses.Moment.{Moment}
+use Rattle.roam_prediction.specs.Predictions.{PredictionsOf, dropped}
+use Rattle.roam_prediction.specs.Laws.{Step, Seen, Ended, after}
+use Rattle.roam_prediction.specs.Verdicts.{Follows, begun, judged}
+use Rattle.roam_prediction.specs.declared.predictions.Moment.{Moment}
 use Rattle.roam_screens.specs.Screenshot.{Screenshot}
 use Rattle.roam_overlay.specs.Overlays.{Sees}
 use Rattle.roam_overlay.specs.Overlays.Sees.{seen, ended}
 
-pub sees_by : (before judged_by s : Screenshot) (moment : Moment) (old new : GuessesOf) → before ≡ judged_by
+pub sees_by : (before judged_by s : Screenshot) (moment : Moment) (old new : PredictionsOf) → before ≡ judged_by
     → (Follows before s old.list ⊎ (Follows before s old.list → ⊥))
     → (Follows before s old.list → new ≡ begun moment.acknowledged (judged moment s old))
     → ((Follows before s old.list → ⊥) → new ≡ begun moment.acknowledged (dropped old))

@@ -1,10 +1,10 @@
-//! How long what is typed takes to be shown, by the last ten guesses that were right.
+//! How long what is typed takes to be shown, by the last ten predictions that were right.
 ghost use Rattle.std.specs.Prelude.{◌≡◌, ◌+◌, ◌^◌, ◌<◌, ◌≤◌, ◌++◌, ◌∷◌, [], IfOk, IsOkUnless, length};
 ghost use Rattle.std.specs.Vec.{vec_capacity};
 ghost use Rattle.roam_overlay.specs.Delays.{AreKept, after_right, are_most_above, are_most_within, count_above, is_long, is_slow, longest, no_delay, waits_long, with_delay, with_right, with_waited};
 
 use roam_cells::Fault;
-use roam_guess::Guesses;
+use roam_prediction::Predictions;
 use std::alloc::Global;
 use std::marker::Model;
 
@@ -14,19 +14,19 @@ const MOST_KEPT: usize = 10;
 /// So many of them are most.
 const MOST: usize = 6;
 
-/// Where most delays are above so many milliseconds, guesses are shown.
+/// Where most delays are above so many milliseconds, predictions are shown.
 const SLOW: u64 = 10;
 
 /// Where most are at most so many again, they aren't any more.
 const FAST: u64 = 4;
 
-/// Where most are above so many, guessed cells are underlined.
+/// Where most are above so many, predicted cells are underlined.
 const LONG: u64 = 80;
 
 /// So they are where one waits so many milliseconds to be shown.
 const LONGEST: u64 = 250;
 
-/// How long the last guesses that were right had waited, and whether that is slow.
+/// How long the last predictions that were right had waited, and whether that is slow.
 #[derive(Drop)]
 pub(crate) struct Delays {
     last: Vec<u64>,
@@ -76,7 +76,7 @@ fn is_slow(last: &[u64], was_slow: bool) -> bool
     are_most_above(last, SLOW) || (was_slow && !are_most_within(last, FAST))
 }
 
-// Whether a guess that has waited so long, where there is one, waits long.
+// Whether a prediction that has waited so long, where there is one, waits long.
 fn waits_long(waited: Option<u64>) -> bool
     ensures long { result ≡ waits_long waited }
 {
@@ -109,7 +109,7 @@ fn push_delay(last: &mut Vec<u64>, delay: u64)
     let _ = last.extend_from_slice(&[delay]);
 }
 
-// Adds how long a guess had waited, where there is one.
+// Adds how long a prediction had waited, where there is one.
 fn push_waited(last: &mut Vec<u64>, waited: Option<u64>)
     requires kept { AreKept last.old }
     ensures pushed { last.new.items ≡ with_waited waited last.old.items }
@@ -120,18 +120,18 @@ fn push_waited(last: &mut Vec<u64>, waited: Option<u64>)
     }
 }
 
-// Adds how long the guesses from a place on, so many, had waited at a moment.
-fn push_right(last: &mut Vec<u64>, guesses: &Guesses, now: u64, place: usize, count: usize)
+// Adds how long the predictions from a place on, so many, had waited at a moment.
+fn push_right(last: &mut Vec<u64>, predictions: &Predictions, now: u64, place: usize, count: usize)
     requires kept { AreKept last.old }
     requires fits { place + count < 2 ^ 64 }
-    ensures pushed { last.new.items ≡ with_right guesses.now.list now place count last.old.items }
+    ensures pushed { last.new.items ≡ with_right predictions.now.list now place count last.old.items }
     ensures kept { AreKept last.new }
 {
     if count == 0 {
         return;
     }
-    push_waited(last, guesses.waited(now, place));
-    push_right(last, guesses, now, place + 1, count - 1);
+    push_waited(last, predictions.waited(now, place));
+    push_right(last, predictions, now, place + 1, count - 1);
 }
 
 impl Delays {
@@ -146,11 +146,11 @@ impl Delays {
         })
     }
 
-    /// The first so many guesses are shown to be right at a moment.
-    pub(crate) fn right(&mut self, guesses: &Guesses, count: usize, now: u64)
-        ensures right { self.new ≡ after_right guesses.now.list now count self.old }
+    /// The first so many predictions are shown to be right at a moment.
+    pub(crate) fn right(&mut self, predictions: &Predictions, count: usize, now: u64)
+        ensures right { self.new ≡ after_right predictions.now.list now count self.old }
     {
-        push_right(&mut self.last, guesses, now, 0, count);
+        push_right(&mut self.last, predictions, now, 0, count);
         self.slow = is_slow(&self.last, self.slow);
     }
 
@@ -161,17 +161,17 @@ impl Delays {
         longest(&self.last)
     }
 
-    /// Whether what is typed takes long enough to be shown that guesses are.
+    /// Whether what is typed takes long enough to be shown that predictions are.
     pub(crate) fn is_slow(&self) -> bool
         ensures slow { result ≡ self.now.slow }
     {
         self.slow
     }
 
-    /// Whether it takes so long at a moment that guessed cells are underlined.
-    pub(crate) fn is_long(&self, guesses: &Guesses, now: u64) -> bool
-        ensures long { result ≡ is_long self.now.last guesses.now.list now }
+    /// Whether it takes so long at a moment that predicted cells are underlined.
+    pub(crate) fn is_long(&self, predictions: &Predictions, now: u64) -> bool
+        ensures long { result ≡ is_long self.now.last predictions.now.list now }
     {
-        are_most_above(&self.last, LONG) || waits_long(guesses.waited(now, 0))
+        are_most_above(&self.last, LONG) || waits_long(predictions.waited(now, 0))
     }
 }

@@ -1,4 +1,4 @@
-//! What the keys of an outer terminal are guessed to show, over the screens that are noted of it, and when that is shown.
+//! What the keys of an outer terminal are predicted to show, over the screens that are noted of it, and when that is shown.
 #![tactic(auto)]
 
 mod delays;

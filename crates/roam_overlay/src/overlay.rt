@@ -1,23 +1,23 @@
-//! What the keys of an outer terminal are guessed to show, over the screen that is noted of it.
+//! What the keys of an outer terminal are predicted to show, over the screen that is noted of it.
 ghost use Rattle.std.specs.Prelude.{◌≡◌, IfOk, IfSome, IsOkUnless, length, true, false, None};
 ghost use Rattle.std.specs.List.{fold};
-ghost use Rattle.roam_guess.specs.Guesses.{none};
-ghost use Rattle.roam_guess.specs.Laws.{Step, after};
+ghost use Rattle.roam_prediction.specs.Predictions.{none};
+ghost use Rattle.roam_prediction.specs.Laws.{Step, after};
 ghost use Rattle.roam_overlay.specs.Delays.{no_delay};
 ghost use Rattle.roam_overlay.specs.Overlays.{Judges, Keeps, Sees, is_number, is_shown, laid_over, last_number, line_steps, screen_or, typed_steps};
 
 use crate::delays::Delays;
 use roam_acts::Act;
 use roam_cells::Fault;
-use roam_guess::{Guesses, Moment};
+use roam_prediction::{Moment, Predictions};
 use roam_screens::{RowShot, Seen};
 use std::alloc::Global;
 use std::marker::Model;
 
-/// A line of more acts isn't guessed.
-const MOST_GUESSED: usize = 8;
+/// A line of more acts isn't predicted.
+const MOST_PREDICTED: usize = 8;
 
-// A screen by which guesses were judged, and its number.
+// A screen by which predictions were judged, and its number.
 #[derive(Drop)]
 struct Judged {
     number: u64,
@@ -32,10 +32,10 @@ impl Model for Judged {
     ghost view = { λ j. record { number = j.number; screen = j.screen } };
 }
 
-/// The guesses of an outer terminal, how long they take, and the screen by which they were judged last.
+/// The predictions of an outer terminal, how long they take, and the screen by which they were judged last.
 #[derive(Drop)]
 pub struct Overlay {
-    guesses: Guesses,
+    predictions: Predictions,
     adaptive: bool,
     delays: Delays,
     seen: Option<Judged>,
@@ -46,18 +46,18 @@ impl Model for Overlay {
 
     ghost Value = { OverlayOf };
 
-    ghost view = { λ o. record { guesses = o.guesses; adaptive = o.adaptive; delays = o.delays; seen = o.seen } };
+    ghost view = { λ o. record { predictions = o.predictions; adaptive = o.adaptive; delays = o.delays; seen = o.seen } };
 }
 
-// Hands acts to guesses, from a number on, where a screen is shown.
-fn type_each<S: Seen>(guesses: &mut Guesses, first: u64, acts: &[Act], shown: &S)
-    ensures typed { guesses.new ≡ fold after guesses.old (typed_steps first acts.now (S.screen shown.now)) }
+// Hands acts to predictions, from a number on, where a screen is shown.
+fn type_each<S: Seen>(predictions: &mut Predictions, first: u64, acts: &[Act], shown: &S)
+    ensures typed { predictions.new ≡ fold after predictions.old (typed_steps first acts.now (S.screen shown.now)) }
 {
     if acts.is_empty() {
         return;
     }
-    guesses.typed(first, &acts[0], shown);
-    type_each(guesses, first.saturating_add(1), &acts[1..], shown);
+    predictions.typed(first, &acts[0], shown);
+    type_each(predictions, first.saturating_add(1), &acts[1..], shown);
 }
 
 // The number of the last of so many acts.
@@ -67,43 +67,49 @@ fn last_number(first: u64, count: usize) -> u64
     first.saturating_add(count as u64).saturating_sub(1)
 }
 
-// Hands the acts of a line to guesses where a screen is shown; what was pasted, and more than eight acts, isn't guessed.
-fn type_line<S: Seen>(guesses: &mut Guesses, is_pasted: bool, first: u64, acts: &[Act], shown: &S)
-    ensures typed { guesses.new ≡ fold after guesses.old (line_steps is_pasted first acts.now (S.screen shown.now)) }
+// Hands the acts of a line to predictions where a screen is shown; what was pasted, and more than eight acts, isn't predicted.
+fn type_line<S: Seen>(
+    predictions: &mut Predictions,
+    is_pasted: bool,
+    first: u64,
+    acts: &[Act],
+    shown: &S,
+)
+    ensures typed { predictions.new ≡ fold after predictions.old (line_steps is_pasted first acts.now (S.screen shown.now)) }
 {
-    if is_pasted || acts.len() > MOST_GUESSED {
-        guesses.end_with(last_number(first, acts.len()));
+    if is_pasted || acts.len() > MOST_PREDICTED {
+        predictions.end_with(last_number(first, acts.len()));
     } else {
-        type_each(guesses, first, acts, shown);
+        type_each(predictions, first, acts, shown);
     }
 }
 
-// The same where guesses were judged by a screen, or over the one that is shown.
+// The same where predictions were judged by a screen, or over the one that is shown.
 fn type_over<S: Seen>(
-    guesses: &mut Guesses,
+    predictions: &mut Predictions,
     seen: &Option<Judged>,
     is_pasted: bool,
     first: u64,
     acts: &[Act],
     shown: &S,
 )
-    ensures typed { guesses.new ≡ fold after guesses.old
+    ensures typed { predictions.new ≡ fold after predictions.old
         (line_steps is_pasted first acts.now (screen_or seen.now (S.screen shown.now))) }
 {
     match seen {
-        Some(judged) => type_line(guesses, is_pasted, first, acts, &judged.screen),
-        None => type_line(guesses, is_pasted, first, acts, shown),
+        Some(judged) => type_line(predictions, is_pasted, first, acts, &judged.screen),
+        None => type_line(predictions, is_pasted, first, acts, shown),
     }
 }
 
-// Judges guesses by the screen that is noted, after the one that was.
-fn judge(guesses: &mut Guesses, seen: &Option<Judged>, screen: &RowShot, moment: Moment)
-    ensures sees { (step : Step) × Sees (screen_or seen.now screen.now) screen.now moment guesses.old step
-        × (guesses.new ≡ after guesses.old step) }
+// Judges predictions by the screen that is noted, after the one that was.
+fn judge(predictions: &mut Predictions, seen: &Option<Judged>, screen: &RowShot, moment: Moment)
+    ensures sees { (step : Step) × Sees (screen_or seen.now screen.now) screen.now moment predictions.old step
+        × (predictions.new ≡ after predictions.old step) }
 {
     match seen {
-        Some(judged) => guesses.seen(moment, &judged.screen, screen),
-        None => guesses.seen(moment, screen, screen),
+        Some(judged) => predictions.seen(moment, &judged.screen, screen),
+        None => predictions.seen(moment, screen, screen),
     }
 }
 
@@ -117,27 +123,27 @@ fn is_number(seen: &Option<Judged>, number: u64) -> bool
     }
 }
 
-// Judges guesses by a screen, and keeps it as that of the last judgement; where there is no memory for that all guesses end.
+// Judges predictions by a screen, and keeps it as that of the last judgement; where there is no memory for that all predictions end.
 fn see(
     alloc: Global,
-    guesses: &mut Guesses,
+    predictions: &mut Predictions,
     seen: &mut Option<Judged>,
     number: u64,
     screen: &RowShot,
     moment: Moment,
 )
-    ensures sees { (step : Step) × Keeps number screen.now moment guesses.old step seen.old seen.new
-        × (guesses.new ≡ after guesses.old step) }
+    ensures sees { (step : Step) × Keeps number screen.now moment predictions.old step seen.old seen.new
+        × (predictions.new ≡ after predictions.old step) }
 {
     if is_number(seen, number) {
-        judge(guesses, seen, screen, moment);
+        judge(predictions, seen, screen, moment);
         return;
     }
     let Ok(kept) = screen.copy(alloc) else {
-        guesses.end(moment.acknowledged);
+        predictions.end(moment.acknowledged);
         return;
     };
-    judge(guesses, seen, screen, moment);
+    judge(predictions, seen, screen, moment);
     *seen = Some(Judged {
         number,
         screen: kept,
@@ -145,40 +151,47 @@ fn see(
 }
 
 impl Overlay {
-    /// No guess; they are shown always, or where what is typed takes long to be shown. Refuses want of memory.
+    /// No prediction; they are shown always, or where what is typed takes long to be shown. Refuses want of memory.
     pub fn new(alloc: Global, adaptive: bool) -> Result<Overlay, Fault>
-        ensures none { IfOk result (λ o. o ≡ record { guesses = none; adaptive = adaptive; delays = no_delay; seen = None }) }
+        ensures none { IfOk result (λ o. o ≡ record { predictions = none; adaptive = adaptive; delays = no_delay; seen = None }) }
         ensures fault { IsOkUnless result Fault.OutOfMemory }
     {
         Ok(Overlay {
-            guesses: Guesses::new(alloc)?,
+            predictions: Predictions::new(alloc)?,
             adaptive,
             delays: Delays::new(alloc)?,
             seen: None,
         })
     }
 
-    /// How many guesses there are.
+    /// How many predictions there are.
     pub fn len(&self) -> usize
-        ensures len { result ≡ length self.now.guesses.list }
+        ensures len { result ≡ length self.now.predictions.list }
     {
-        self.guesses.len()
+        self.predictions.len()
     }
 
-    /// The acts of a line were typed, the first under a number: what they show is guessed over the screen by which guesses were judged
-    /// last, or over the one that is shown where none was. What was pasted, and a line of more than eight acts, isn't guessed, and the
-    /// epoch ends with it. It takes no memory.
+    /// The acts of a line were typed, the first under a number: what they show is predicted over the screen by which predictions were
+    /// judged last, or over the one that is shown where none was. What was pasted, and a line of more than eight acts, isn't predicted, and
+    /// the epoch ends with it. It takes no memory.
     pub fn typed<S: Seen>(&mut self, is_pasted: bool, first: u64, acts: &[Act], shown: &S)
         ensures typed { self.new ≡ record self.old {
-          guesses =
-              fold after self.old.guesses (line_steps is_pasted first acts.now (screen_or self.old.seen (S.screen shown.now)));
+          predictions =
+              fold after self.old.predictions (line_steps is_pasted first acts.now (screen_or self.old.seen (S.screen shown.now)));
         } }
     {
-        type_over(&mut self.guesses, &self.seen, is_pasted, first, acts, shown);
+        type_over(
+            &mut self.predictions,
+            &self.seen,
+            is_pasted,
+            first,
+            acts,
+            shown,
+        );
     }
 
-    /// A screen of a number is noted at a moment in milliseconds, and so many acts are acknowledged: the guesses are judged by it. Where
-    /// there is no memory to keep it, all guesses end, since no later screen could be told to follow it.
+    /// A screen of a number is noted at a moment in milliseconds, and so many acts are acknowledged: the predictions are judged by it.
+    /// Where there is no memory to keep it, all predictions end, since no later screen could be told to follow it.
     pub fn judge(
         &mut self,
         alloc: Global,
@@ -189,8 +202,8 @@ impl Overlay {
     )
         ensures judged { Judges number screen.now acknowledged now self.old self.new }
     {
-        let right = self.guesses.count_right(screen);
-        self.delays.right(&self.guesses, right, now);
+        let right = self.predictions.count_right(screen);
+        self.delays.right(&self.predictions, right, now);
         let moment = Moment {
             at: now,
             acknowledged,
@@ -198,7 +211,7 @@ impl Overlay {
         };
         see(
             alloc,
-            &mut self.guesses,
+            &mut self.predictions,
             &mut self.seen,
             number,
             screen,
@@ -206,14 +219,14 @@ impl Overlay {
         );
     }
 
-    // Whether what is guessed is shown.
+    // Whether what is predicted is shown.
     fn is_shown(&self) -> bool
         ensures shown { result ≡ is_shown self.now }
     {
-        self.guesses.are_shown() && (!self.adaptive || self.delays.is_slow())
+        self.predictions.are_shown() && (!self.adaptive || self.delays.is_slow())
     }
 
-    /// A screen with what is guessed over it at a moment; none where nothing is shown, or no memory is there.
+    /// A screen with what is predicted over it at a moment; none where nothing is shown, or no memory is there.
     pub fn over(&self, alloc: Global, screen: &RowShot, now: u64) -> Option<RowShot>
         ensures over { IfSome result (λ over. over ≡ laid_over self.now screen.now now) }
         ensures shown { IfSome result (λ _. is_shown self.now ≡ true) }
@@ -221,10 +234,10 @@ impl Overlay {
         if !self.is_shown() {
             return None;
         }
-        if self.delays.is_long(&self.guesses, now) {
-            let underlined = self.guesses.underlined(alloc).ok()?;
+        if self.delays.is_long(&self.predictions, now) {
+            let underlined = self.predictions.underlined(alloc).ok()?;
             return underlined.over(alloc, screen).ok();
         }
-        self.guesses.over(alloc, screen).ok()
+        self.predictions.over(alloc, screen).ok()
     }
 }

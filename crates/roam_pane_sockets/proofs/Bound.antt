@@ -3,7 +3,7 @@ use Rattle.std.proofs.Common.{arith, ◌≡◌, ◌+◌, ◌∷◌, ◌++◌, []
 use Rattle.std.proofs.lemmas.List.{map-append}
 use Rattle.std.proofs.lemmas.List.Elements.{All-append}
 use Rattle.roam_pane_sockets.specs.declared.panes.Pane.{Pane}
-use Rattle.roam_pane_sockets.specs.Inflows.{IsFreshInflow}
+use Rattle.roam_pane_sockets.specs.PaneInputs.{IsFreshPaneInput}
 use Rattle.roam_pane_sockets.specs.Panes.{path_of, paths_of}
 
 abbrev pub bytes_of : Pane → List ℕ
@@ -15,22 +15,22 @@ IsNone pane = pane.making ≡ None
 
 -- nothing came to it
 abbrev pub IsFresh : Bool → Pane → Type 0
-IsFresh as_meant pane = IsFreshInflow pane.inflow as_meant
+IsFresh normalize pane = IsFreshPaneInput pane.pane_input normalize
 
 -- these are the sockets of the panes before this one, and none of those is there
-pub record AreBound (folder : List ℕ) (as_meant : Bool) (number : ℕ) (panes : List Pane) : Type 0 where
+pub record AreBound (folder : List ℕ) (normalize : Bool) (number : ℕ) (panes : List Pane) : Type 0 where
   pub before : length panes + 1 ≡ number
   pub paths : map bytes_of panes ≡ paths_of folder (length panes)
   pub none : All IsNone panes
-  pub fresh : All (IsFresh as_meant) panes
+  pub fresh : All (IsFresh normalize) panes
 
 -- with that of this one they are those before the next
-pub one_more : (folder : List ℕ) (as_meant : Bool) (number : ℕ) (panes : List Pane) (pane : Pane) → AreBound folder as_meant number panes
-    → bytes_of pane ≡ path_of folder number → IsNone pane → IsFresh as_meant pane → AreBound folder as_meant (number + 1) (panes ++ pane ∷ [])
-one_more folder as_meant number panes pane bound path none fresh =
+pub one_more : (folder : List ℕ) (normalize : Bool) (number : ℕ) (panes : List Pane) (pane : Pane) → AreBound folder normalize number panes
+    → bytes_of pane ≡ path_of folder number → IsNone pane → IsFresh normalize pane → AreBound folder normalize (number + 1) (panes ++ pane ∷ [])
+one_more folder normalize number panes pane bound path none fresh =
     let count : length (panes ++ pane ∷ []) ≡ number = omega (arith, length-append panes (pane ∷ []), bound.before) in
     let alone : All IsNone (pane ∷ []) = λ k d lt. let first : k ≡ 0 = omega (arith, lt) in rw first none in
-    let new : All (IsFresh as_meant) (pane ∷ []) = λ k d lt. let first : k ≡ 0 = omega (arith, lt) in rw first fresh in
+    let new : All (IsFresh normalize) (pane ∷ []) = λ k d lt. let first : k ≡ 0 = omega (arith, lt) in rw first fresh in
     let next : length (panes ++ pane ∷ []) ≡ suc (length panes) = omega (arith, length-append panes (pane ∷ [])) in
     let at : number ≡ suc (length panes) = omega (arith, bound.before) in
     let mine : bytes_of pane ≡ path_of folder (suc (length panes)) = path ∙ ap (path_of folder) at in
@@ -39,5 +39,5 @@ one_more folder as_meant number panes pane bound path none fresh =
       before = ap (λ (n : ℕ). n + 1) count;
       paths = map-append bytes_of panes (pane ∷ []) ∙ paths ∙ ap (paths_of folder) (sym next);
       none = All-append IsNone panes (pane ∷ []) bound.none alone;
-      fresh = All-append (IsFresh as_meant) panes (pane ∷ []) bound.fresh new;
+      fresh = All-append (IsFresh normalize) panes (pane ∷ []) bound.fresh new;
     }

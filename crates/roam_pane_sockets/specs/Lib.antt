@@ -1,10 +1,10 @@
-pub mod Besides
+pub mod MetadataLists
 pub mod Clips
 pub mod Frames
-pub mod Inflows
+pub mod PaneInputs
 pub mod Moments
 pub mod Panes
 pub mod Peers
 pub mod Pieces
-pub mod Questions
-pub mod Sieves
+pub mod Queries
+pub mod FilterStages

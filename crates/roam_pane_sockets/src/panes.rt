@@ -2,23 +2,23 @@
 ghost use Rattle.std.specs.Prelude.{◌≡◌, ◌≢◌, ◌⊎◌, ◌++◌, ◌≤◌, ◌<◌, ◌-◌, [], ◌∷◌, length, map, slice_get, string_bytes, is_some, nat_lt, None, Some, IfOk, OnOk, IfSome, IfErr, IsOkUnless};
 ghost use Rattle.std.specs.List.{All, AllZip};
 ghost use Rattle.roam_pane_sockets.specs.Panes.{path_of, paths_of};
-ghost use Rattle.roam_pane_sockets.specs.Besides.{AreBeside, pane_beside, shown_bells, title_of};
-ghost use Rattle.roam_pane_sockets.specs.Questions.{AreAsks, last_of, pane_asks};
+ghost use Rattle.roam_pane_sockets.specs.MetadataLists.{AreMetadata, pane_metadata, shown_bells, title_of};
+ghost use Rattle.roam_pane_sockets.specs.Queries.{AreQueries, last_of, pane_asked};
 ghost use Rattle.roam_pane_sockets.specs.Clips.{AreClips, clip_of, pane_clips};
-ghost use Rattle.roam_pane_sockets.specs.Inflows.{HandsOn, IsFreshInflow};
-ghost use Rattle.roam_pane_sockets.specs.Peers.{Changes, HasFreeIn, IsMended, Lives, Asks, Hears, any_goes_on, frames_until, has_peer, inflow_in};
-ghost use Rattle.roam_pane_sockets.specs.Sieves.{CountsSome, bytes_given};
+ghost use Rattle.roam_pane_sockets.specs.PaneInputs.{HandsOn, IsFreshPaneInput};
+ghost use Rattle.roam_pane_sockets.specs.Peers.{Changes, HasFreeIn, IsMended, Generations, Asks, Hears, any_goes_on, frames_until, has_peer, pane_input_in};
+ghost use Rattle.roam_pane_sockets.specs.FilterStages.{CountsSome, bytes_given};
 
-use crate::inflows::Inflow;
 use crate::moments::sooner;
-use crate::peers::{Making, has_peer, life_of, live, read, write};
+use crate::pane_inputs::PaneInput;
+use crate::peers::{Making, generation_of, has_peer, live, read, write};
 use mio::net::UnixListener;
 use mio::{Interest, Registry, Token};
 use roam_acts::limits::{MOST_PANES, PANES_END};
-use roam_beside::Question;
 use roam_cells::Fault;
 use roam_faults::RunFault;
-use roam_pane_list::{AskList, AskPane, BesideList, BesidePane, ClipList, ClipPane};
+use roam_pane_metadata::Query;
+use roam_pane_protocol::{ClipList, ClipPane, MetadataList, MetadataPane, QueryList, QueryPane};
 use roam_sockets::{listen, listen_again};
 use std::alloc::Global;
 use std::fs::{Files, remove_file};
@@ -30,7 +30,7 @@ pub(crate) struct Pane {
     path: String,
     listener: UnixListener,
     making: Option<Making>,
-    inflow: Inflow,
+    pane_input: PaneInput,
 }
 
 impl Pane {
@@ -41,11 +41,11 @@ impl Pane {
         registry: &Registry,
         folder: &str,
         number: u8,
-        as_meant: bool,
+        normalize: bool,
     ) -> Result<Pane, RunFault>
         ensures path { IfOk result (λ pane. string_bytes pane.path ≡ path_of folder.now number) }
         ensures none { IfOk result (λ pane. pane.making ≡ None) }
-        ensures fresh { IfOk result (λ pane. IsFreshInflow pane.inflow as_meant) }
+        ensures fresh { IfOk result (λ pane. IsFreshPaneInput pane.pane_input normalize) }
         ensures faults { IfErr result (λ fault. (fault ≡ RunFault.Bind) ⊎ (fault ≡ RunFault.Core Fault.OutOfMemory)) }
     {
         let Ok(path) = format!(in alloc; "{folder}/p{number}") else {
@@ -60,7 +60,7 @@ impl Pane {
             path,
             listener,
             making: None,
-            inflow: Inflow::new(alloc, as_meant),
+            pane_input: PaneInput::new(alloc, normalize),
         })
     }
 
@@ -75,23 +75,23 @@ impl Pane {
     }
 
     // From now on this making of the pane is there, or none is.
-    fn live(&mut self, life: Option<u64>)
-        ensures lives { Lives life self.old self.new }
+    fn live(&mut self, generation: Option<u64>)
+        ensures lives { Generations generation self.old self.new }
     {
-        live(&mut self.making, &mut self.inflow, life);
+        live(&mut self.making, &mut self.pane_input, generation);
     }
 
     // What goes on to the terminal of what the program wrote: how many bytes of `buf` it fills from the front.
     fn read(&mut self, registry: &Registry, buf: &mut [u8], now: u64) -> Option<usize>
         ensures within { IfSome result (λ n. n ≤ length buf.new) }
         ensures hears { Hears (is_some result) (bytes_given result buf.new) self.old self.new }
-        ensures none { result ≡ None → self.new.inflow ≡ self.old.inflow }
+        ensures none { result ≡ None → self.new.pane_input ≡ self.old.pane_input }
         ensures free { HasFreeIn now (Some self.old) → 0 < length buf.old → CountsSome result }
-        ensures hands { IfSome result (λ n. HandsOn now self.old.inflow self.new.inflow n) }
+        ensures hands { IfSome result (λ n. HandsOn now self.old.pane_input self.new.pane_input n) }
     {
         read(
             &mut self.making,
-            &mut self.inflow,
+            &mut self.pane_input,
             &self.listener,
             registry,
             buf,
@@ -100,12 +100,12 @@ impl Pane {
     }
 
     // What stands beside the terminal, where the pane is there.
-    fn beside(&self) -> Option<BesidePane>
-        ensures beside { result ≡ pane_beside (Some self.now) }
+    fn metadata(&self) -> Option<MetadataPane>
+        ensures beside { result ≡ pane_metadata (Some self.now) }
     {
-        match life_of(&self.making) {
+        match generation_of(&self.making) {
             None => None,
-            Some(life) => Some(self.inflow.beside_of(life)),
+            Some(generation) => Some(self.pane_input.metadata_of(generation)),
         }
     }
 
@@ -113,19 +113,19 @@ impl Pane {
     fn clips(&self) -> Option<ClipPane>
         ensures clips { result ≡ pane_clips (Some self.now) }
     {
-        match life_of(&self.making) {
+        match generation_of(&self.making) {
             None => None,
-            Some(life) => Some(self.inflow.clips_of(life)),
+            Some(generation) => Some(self.pane_input.clips_of(generation)),
         }
     }
 
     // How many questions the program has asked, where the pane is there.
-    fn asks(&self) -> Option<AskPane>
-        ensures asks { result ≡ pane_asks (Some self.now) }
+    fn asks(&self) -> Option<QueryPane>
+        ensures asks { result ≡ pane_asked (Some self.now) }
     {
-        match life_of(&self.making) {
+        match generation_of(&self.making) {
             None => None,
-            Some(life) => Some(self.inflow.asks_of(life)),
+            Some(generation) => Some(self.pane_input.asked_of_pane(generation)),
         }
     }
 
@@ -141,9 +141,9 @@ impl Pane {
 // What is told of what stands beside a terminal: where no bell may be told, as many as were shown before.
 fn shown_bells(
     may_ring: bool,
-    shown: Option<BesidePane>,
-    now: Option<BesidePane>,
-) -> Option<BesidePane>
+    shown: Option<MetadataPane>,
+    now: Option<MetadataPane>,
+) -> Option<MetadataPane>
     ensures shown { result ≡ shown_bells may_ring shown now }
 {
     match now {
@@ -158,7 +158,7 @@ fn frames_until(all: &[Pane]) -> Option<u64>
     ensures until { result ≡ frames_until all.now }
 {
     let (first, others) = all.split_first()?;
-    sooner(first.inflow.waits_until(), frames_until(others))
+    sooner(first.pane_input.waits_until(), frames_until(others))
 }
 
 // Whether the rest of a frame is to go on to the terminal of one of these panes.
@@ -167,7 +167,7 @@ fn any_goes_on(all: &[Pane]) -> bool
 {
     match all.split_first() {
         None => false,
-        Some((first, others)) => first.inflow.goes_on() || any_goes_on(others),
+        Some((first, others)) => first.pane_input.goes_on() || any_goes_on(others),
     }
 }
 
@@ -197,12 +197,12 @@ impl Panes {
         alloc: Global,
         registry: &Registry,
         folder: &str,
-        as_meant: bool,
+        normalize: bool,
     ) -> Result<Panes, RunFault>
         ensures nine { IfOk result (λ panes. length panes.all.items ≡ 9) }
         ensures paths { IfOk result (λ panes. map (λ pane. string_bytes pane.path) panes.all.items ≡ paths_of folder.now 9) }
         ensures none { IfOk result (λ panes. All (λ pane. pane.making ≡ None) panes.all.items) }
-        ensures fresh { IfOk result (λ panes. All (λ pane. IsFreshInflow pane.inflow as_meant) panes.all.items) }
+        ensures fresh { IfOk result (λ panes. All (λ pane. IsFreshPaneInput pane.pane_input normalize) panes.all.items) }
         ensures named { IfOk result (λ _. folder.now ≢ []) }
         ensures faults { IfErr result (λ fault. (fault ≡ RunFault.Bind) ⊎ (fault ≡ RunFault.Core Fault.OutOfMemory)) }
     {
@@ -213,7 +213,7 @@ impl Panes {
             return Err(RunFault::Core(Fault::OutOfMemory));
         };
         let mut panes = Panes { all };
-        match panes.bind_all(rt, alloc, registry, folder, as_meant) {
+        match panes.bind_all(rt, alloc, registry, folder, normalize) {
             Ok(()) => Ok(panes),
             Err(fault) => {
                 panes.remove(rt);
@@ -228,17 +228,17 @@ impl Panes {
         alloc: Global,
         registry: &Registry,
         folder: &str,
-        as_meant: bool,
+        normalize: bool,
     ) -> Result<(), RunFault>
         requires empty { length self.old.all.items ≡ 0 }
         ensures nine { OnOk result (length self.new.all.items ≡ 9) }
         ensures paths { OnOk result (map (λ pane. string_bytes pane.path) self.new.all.items ≡ paths_of folder.now 9) }
         ensures none { OnOk result (All (λ pane. pane.making ≡ None) self.new.all.items) }
-        ensures fresh { OnOk result (All (λ pane. IsFreshInflow pane.inflow as_meant) self.new.all.items) }
+        ensures fresh { OnOk result (All (λ pane. IsFreshPaneInput pane.pane_input normalize) self.new.all.items) }
         ensures faults { IfErr result (λ fault. (fault ≡ RunFault.Bind) ⊎ (fault ≡ RunFault.Core Fault.OutOfMemory)) }
     {
         for number in 1..PANES_END {
-            let pane = Pane::bind(rt, alloc, registry, folder, number, as_meant)?;
+            let pane = Pane::bind(rt, alloc, registry, folder, number, normalize)?;
             self.add(pane)?;
         }
         Ok(())
@@ -260,12 +260,12 @@ impl Panes {
     }
 
     /// From now on this making of a pane, 1 to 9, is there, or none is: a peer that came to another is let go.
-    pub fn live(&mut self, pane: u8, life: Option<u64>)
-        ensures lives { Changes (Lives life) pane self.old.all.items self.new.all.items }
+    pub fn live(&mut self, pane: u8, generation: Option<u64>)
+        ensures lives { Changes (Generations generation) pane self.old.all.items self.new.all.items }
     {
         let at = usize::from(pane);
         if 0 < at && at <= self.all.len() {
-            self.all[at - 1].live(life);
+            self.all[at - 1].live(generation);
         }
     }
 
@@ -276,11 +276,12 @@ impl Panes {
         ensures within { IfSome result (λ n. n ≤ length buf.new) }
         ensures hears { Changes (Hears (is_some result) (bytes_given result buf.new)) pane self.old.all.items self.new.all.items }
         ensures none { result ≡ None → 1 ≤ pane
-            → inflow_in (slice_get self.new.all.items (pane - 1)) ≡ inflow_in (slice_get self.old.all.items (pane - 1)) }
+            → pane_input_in (slice_get self.new.all.items (pane - 1)) ≡ pane_input_in (slice_get self.old.all.items (pane - 1)) }
         // What waits goes on as soon as it may: a frame that has been held for long enough too.
         ensures free { 1 ≤ pane → HasFreeIn now (slice_get self.old.all.items (pane - 1)) → 0 < length buf.old → CountsSome result }
         // And no sooner: a frame that is open, and isn't over at this moment, waits.
-        ensures hands { Changes (λ p q. IfSome result (λ n. HandsOn now p.inflow q.inflow n)) pane self.old.all.items self.new.all.items }
+        ensures hands { Changes (λ p q. IfSome result (λ n. HandsOn now p.pane_input q.pane_input n)) pane self.old.all.items
+            self.new.all.items }
     {
         let at = usize::from(pane);
         if at < 1 || self.all.len() < at {
@@ -290,14 +291,14 @@ impl Panes {
     }
 
     // What stands beside the terminal of a pane, where it is there.
-    fn beside(&self, pane: u8) -> Option<BesidePane>
-        ensures beside { 1 ≤ pane → result ≡ pane_beside (slice_get self.now.all.items (pane - 1)) }
+    fn metadata(&self, pane: u8) -> Option<MetadataPane>
+        ensures beside { 1 ≤ pane → result ≡ pane_metadata (slice_get self.now.all.items (pane - 1)) }
     {
         let at = usize::from(pane);
         if at < 1 || self.all.len() < at {
             return None;
         }
-        self.all[at - 1].beside()
+        self.all[at - 1].metadata()
     }
 
     /// The last title that the program of a pane said, or nothing.
@@ -308,18 +309,18 @@ impl Panes {
         if at < 1 || self.all.len() < at {
             return &[];
         }
-        self.all[at - 1].inflow.title()
+        self.all[at - 1].pane_input.title()
     }
 
     /// What stands beside the panes' terminals, with the bells that may be told: all that rang, or those that were shown before.
-    pub fn besides(&self, may_ring: bool, shown: &BesideList) -> BesideList
-        ensures are { AreBeside may_ring shown.now self.now.all.items result }
+    pub fn metadata_lists(&self, may_ring: bool, shown: &MetadataList) -> MetadataList
+        ensures are { AreMetadata may_ring shown.now self.now.all.items result }
     {
-        let mut list = BesideList::unknown();
+        let mut list = MetadataList::unknown();
         for pane in 1..PANES_END {
             list.set(
                 pane,
-                shown_bells(may_ring, shown.get(pane), self.beside(pane)),
+                shown_bells(may_ring, shown.get(pane), self.metadata(pane)),
             );
         }
         list
@@ -344,7 +345,7 @@ impl Panes {
         if at < 1 || self.all.len() < at {
             return &[];
         }
-        self.all[at - 1].inflow.clip()
+        self.all[at - 1].pane_input.clip()
     }
 
     /// How many texts for the clipboard the panes' programs have said.
@@ -359,8 +360,8 @@ impl Panes {
     }
 
     /// How many questions the program of a pane has asked, where the pane is there.
-    pub fn asks_at(&self, pane: u8) -> Option<AskPane>
-        ensures asks { 1 ≤ pane → result ≡ pane_asks (slice_get self.now.all.items (pane - 1)) }
+    pub fn queries_at(&self, pane: u8) -> Option<QueryPane>
+        ensures asks { 1 ≤ pane → result ≡ pane_asked (slice_get self.now.all.items (pane - 1)) }
     {
         let at = usize::from(pane);
         if at < 1 || self.all.len() < at {
@@ -370,23 +371,23 @@ impl Panes {
     }
 
     /// The last questions that the program of a pane asked, in their order.
-    pub fn questions(&self, pane: u8) -> &[Question]
+    pub fn queries(&self, pane: u8) -> &[Query]
         ensures last { 1 ≤ pane → result.now ≡ last_of self.now.all.items pane }
     {
         let at = usize::from(pane);
         if at < 1 || self.all.len() < at {
             return &[];
         }
-        self.all[at - 1].inflow.questions()
+        self.all[at - 1].pane_input.queries()
     }
 
     /// How many questions the panes' programs have asked.
-    pub fn ask_counts(&self) -> AskList
-        ensures are { AreAsks self.now.all.items result }
+    pub fn query_counts(&self) -> QueryList
+        ensures are { AreQueries self.now.all.items result }
     {
-        let mut list = AskList::unknown();
+        let mut list = QueryList::unknown();
         for pane in 1..PANES_END {
-            list.set(pane, self.asks_at(pane));
+            list.set(pane, self.queries_at(pane));
         }
         list
     }
@@ -421,7 +422,7 @@ impl Panes {
         ensures within { result ≤ length bytes.now }
         ensures asks { Changes (Asks (nat_lt 0 result)) pane self.old.all.items self.new.all.items }
         ensures inflow { 1 ≤ pane
-            → inflow_in (slice_get self.new.all.items (pane - 1)) ≡ inflow_in (slice_get self.old.all.items (pane - 1)) }
+            → pane_input_in (slice_get self.new.all.items (pane - 1)) ≡ pane_input_in (slice_get self.old.all.items (pane - 1)) }
     {
         let at = usize::from(pane);
         if at < 1 || self.all.len() < at {

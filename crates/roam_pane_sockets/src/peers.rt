@@ -1,11 +1,11 @@
 //! The peers of sockets, one at a time; those of the panes' sockets are each for the making of the pane that they came to.
 ghost use Rattle.std.specs.Prelude.{◌≡◌, ◌≢◌, ◌⊎◌, ◌↔◌, ◌<◌, ◌≤◌, length, IsTrue, IsSome, IfSome, is_some, None};
-ghost use Rattle.roam_pane_sockets.specs.Inflows.{Brings, HandsOn, IsFreshInflow};
-ghost use Rattle.roam_pane_sockets.specs.Peers.{HasFailed, life_in, peer_in};
-ghost use Rattle.roam_pane_sockets.specs.Sieves.{CountsSome, HasFree, IsFree, bytes_given};
+ghost use Rattle.roam_pane_sockets.specs.PaneInputs.{Brings, HandsOn, IsFreshPaneInput};
+ghost use Rattle.roam_pane_sockets.specs.Peers.{HasFailed, generation_in, peer_in};
+ghost use Rattle.roam_pane_sockets.specs.FilterStages.{CountsSome, HasFree, IsFree, bytes_given};
 
-use crate::inflows::Inflow;
-use crate::sieves::MOST_READ;
+use crate::filter_stages::MOST_READ;
+use crate::pane_inputs::PaneInput;
 use mio::net::{UnixListener, UnixStream};
 use mio::{Interest, Registry, Token};
 use roam_faults::{is_for_now, is_stream_end};
@@ -24,7 +24,7 @@ pub(crate) struct Peer {
 /// A making of a pane that is there, and the peer that came to it.
 #[derive(Drop)]
 pub(crate) struct Making {
-    life: u64,
+    generation: u64,
     peer: Peer,
 }
 
@@ -52,31 +52,31 @@ pub fn next_at(listener: &UnixListener, registry: &Registry) -> Option<UnixStrea
 
 /// The making of a pane that is there from now on, or that none is. That which was there stays with its peer; the peer of any other goes,
 /// and what came of it.
-pub(crate) fn live(making: &mut Option<Making>, inflow: &mut Inflow, life: Option<u64>)
-    ensures lives { life_in making.new ≡ life }
-    ensures stays { life_in making.old ≡ life → (making.new ≡ making.old) × (inflow.new ≡ inflow.old) }
-    ensures goes { life_in making.old ≢ life → peer_in making.new ≡ None }
-    ensures fresh { life_in making.old ≢ life → IsFreshInflow inflow.new (is_some inflow.old.sieve) }
+pub(crate) fn live(making: &mut Option<Making>, pane_input: &mut PaneInput, generation: Option<u64>)
+    ensures lives { generation_in making.new ≡ generation }
+    ensures stays { generation_in making.old ≡ generation → (making.new ≡ making.old) × (pane_input.new ≡ pane_input.old) }
+    ensures goes { generation_in making.old ≢ generation → peer_in making.new ≡ None }
+    ensures fresh { generation_in making.old ≢ generation → IsFreshPaneInput pane_input.new (is_some pane_input.old.filter_stage) }
 {
-    if life_of(making) != life {
-        *making = match life {
+    if generation_of(making) != generation {
+        *making = match generation {
             None => None,
-            Some(life) => Some(Making {
-                life,
+            Some(generation) => Some(Making {
+                generation,
                 peer: Peer::none(),
             }),
         };
-        inflow.renew();
+        pane_input.renew();
     }
 }
 
 /// Which making is there, if any.
-pub(crate) fn life_of(making: &Option<Making>) -> Option<u64>
-    ensures life { result ≡ life_in making.now }
+pub(crate) fn generation_of(making: &Option<Making>) -> Option<u64>
+    ensures life { result ≡ generation_in making.now }
 {
     match making {
         None => None,
-        Some(making) => Some(making.life),
+        Some(making) => Some(making.generation),
     }
 }
 
@@ -191,7 +191,7 @@ fn hear(
     ensures some { IfSome result (λ n. 0 < n) }
     ensures within { IfSome result (λ n. n ≤ length buf.new) }
     ensures from { IfSome result (λ _. IsSome making.new.peer.stream) }
-    ensures life { making.new.life ≡ making.old.life }
+    ensures life { making.new.generation ≡ making.old.generation }
     ensures one { IfSome making.old.peer.stream (λ _. (making.new ≡ making.old) ⊎ (making.new.peer.stream ≡ None)) }
 {
     if making.peer.is_there() {
@@ -204,29 +204,29 @@ fn hear(
 /// that came, or waited, waits. A pane that isn't there takes no peer, and is told nothing.
 pub(crate) fn read(
     making: &mut Option<Making>,
-    inflow: &mut Inflow,
+    pane_input: &mut PaneInput,
     listener: &UnixListener,
     registry: &Registry,
     buf: &mut [u8],
     now: u64,
 ) -> Option<usize>
     ensures within { IfSome result (λ n. n ≤ length buf.new) }
-    ensures from { IfSome result (λ _. IsSome (peer_in making.new) ⊎ (IsFree inflow.old.sieve → ⊥)) }
-    ensures life { life_in making.new ≡ life_in making.old }
-    ensures waits { life_in making.old ≡ None → (making.new ≡ making.old) × (inflow.new ≡ inflow.old) }
+    ensures from { IfSome result (λ _. IsSome (peer_in making.new) ⊎ (IsFree pane_input.old.filter_stage → ⊥)) }
+    ensures life { generation_in making.new ≡ generation_in making.old }
+    ensures waits { generation_in making.old ≡ None → (making.new ≡ making.old) × (pane_input.new ≡ pane_input.old) }
     ensures one { IfSome (peer_in making.old) (λ _. (making.new ≡ making.old) ⊎ (peer_in making.new ≡ None)) }
-    ensures brings { Brings inflow.old inflow.new (bytes_given result buf.new) }
-    ensures none { result ≡ None → inflow.new ≡ inflow.old }
-    ensures free { IsSome (life_in making.old) → HasFree now inflow.old.sieve → 0 < length buf.old → CountsSome result }
-    ensures hands { IfSome result (λ n. HandsOn now inflow.old inflow.new n) }
+    ensures brings { Brings pane_input.old pane_input.new (bytes_given result buf.new) }
+    ensures none { result ≡ None → pane_input.new ≡ pane_input.old }
+    ensures free { IsSome (generation_in making.old) → HasFree now pane_input.old.filter_stage → 0 < length buf.old → CountsSome result }
+    ensures hands { IfSome result (λ n. HandsOn now pane_input.old pane_input.new n) }
 {
     let making = making.as_mut()?;
-    if let Some(count) = inflow.go_on(buf, now) {
+    if let Some(count) = pane_input.go_on(buf, now) {
         return Some(count);
     }
     let most = buf.len().min(MOST_READ);
     let count = hear(making, listener, registry, buf.split_at_mut(most).0)?;
-    Some(inflow.came(buf, count, now))
+    Some(pane_input.came(buf, count, now))
 }
 
 /// How many of the bytes the program of a pane took, 0 where none is there.
@@ -238,7 +238,7 @@ pub(crate) fn write(
 ) -> usize
     ensures within { result ≤ length bytes.now }
     ensures from { 0 < result → IsSome (peer_in making.new) }
-    ensures life { life_in making.new ≡ life_in making.old }
+    ensures life { generation_in making.new ≡ generation_in making.old }
     ensures one { IfSome (peer_in making.old) (λ _. (making.new ≡ making.old) ⊎ (peer_in making.new ≡ None)) }
 {
     let Some(making) = making.as_mut() else {

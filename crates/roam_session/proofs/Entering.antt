@@ -23,30 +23,30 @@ use Rattle.roam_session.specs.declared.steps.Step.{Step}
 use Rattle.roam_session.specs.Queues.{ChangesAt, Both, IsFed, IsKeyed, IsDrained, key_refused}
 use Rattle.roam_session.proofs.Logs.{session-append}
 use Rattle.roam_session.proofs.Agreeing.{agrees_given, placed_given, agrees_both, Does', does_fed, does_keyed, does_drained}
-use Rattle.roam_session.specs.Lives.{CountsLives}
-use Rattle.roam_session.proofs.Living.{counted_more, counts_kept, first_lives, counted_first}
+use Rattle.roam_session.specs.Generations.{CountsGenerations}
+use Rattle.roam_session.proofs.Living.{counted_more, counts_kept, first_generations, counted_first}
 use Rattle.roam_session.proofs.Rectangles.{none_above}
 use Rattle.roam_session.proofs.Busyness.{never_busy}
 
 -- a session stands for a log with one entry more where it agrees with what the entry makes
 stands_after : (s t : SessionView) (size : SessionSize) (log : List Entry) (entry : Entry) (now : SessionState) → Stands s size log
     → session size (log ++ entry ∷ []) ≡ now → t.plan ≡ now.plan → ((k : ℕ) → Agrees (term_at t.terms k) (now.pane k))
-    → CountsLives s.plan t.plan s.lives t.lives → Stands t size (log ++ entry ∷ [])
-stands_after s t size log entry now h e plan panes lives =
+    → CountsGenerations s.plan t.plan s.generations t.generations → Stands t size (log ++ entry ∷ [])
+stands_after s t size log entry now h e plan panes generations =
     let after = plan ∙ ap (λ (x : SessionState). x.plan) (sym e) in
     record {
       plan = after;
       panes = λ k. subst (λ (x : SessionState). Agrees (term_at t.terms k) (x.pane k)) (sym e) (panes k);
-      lives = counted_more s t size log entry h after lives;
+      generations = counted_more s t size log entry h after generations;
     }
 
 -- ---- layout commands
 
 pub stands_laid : (s t : SessionView) (client : ℕ) (act : Act) → key_in act ≡ None → outcome_of s.plan act ≡ Laid t.plan
     → ((k : ℕ) → IsGiven (rect_in k (panes s.plan)) (rect_in k (panes t.plan)) (term_at s.terms k) (term_at t.terms k))
-    → CountsLives s.plan t.plan s.lives t.lives
+    → CountsGenerations s.plan t.plan s.generations t.generations
     → (size : SessionSize) (log : List Entry) → Stands s size log → Stands t size (log ++ Did client act ∷ [])
-stands_laid s t client act no_key e are lives size log h =
+stands_laid s t client act no_key e are generations size log h =
     let d = session size log in
     let now : SessionState = record { plan = t.plan; pane = panes_given s.plan t.plan d.pane } in
     stands_after s t size log (Did client act) now h
@@ -56,7 +56,7 @@ stands_laid s t client act no_key e are lives size log h =
     refl
     (λ k. agrees_given (rect_in k (panes s.plan)) (rect_in k (panes t.plan)) (term_at s.terms k) (term_at t.terms k) (d.pane k) (are k)
     (h.panes k))
-    lives
+    generations
 
 pub stands_refused : (s : SessionView) (client : ℕ) (act : Act) (fault : Fault) → key_in act ≡ None → outcome_of s.plan act ≡ Refused fault
     → (size : SessionSize) (log : List Entry) → Stands s size log → Stands s size (log ++ Did client act ∷ [])
@@ -101,18 +101,18 @@ none_agrees : (o : Option TermView) → o ≡ None → Agrees o None
 none_agrees o e = subst (λ (t : Option TermView). Agrees t None) (sym e) tt
 
 pub stands_first : (s : SessionView) (size : SessionSize) (ts : List (Option TermView)) → s.plan ≡ start size.rows size.cols
-    → s.lives ≡ first_lives → ((k : ℕ) → term_at ts k ≡ None)
+    → s.generations ≡ first_generations → ((k : ℕ) → term_at ts k ≡ None)
     → ((k : ℕ) → IsGiven None (rect_in k (panes s.plan)) (term_at ts k) (term_at s.terms k))
     → Stands s size []
 unfolding session
-stands_first s size ts plan lives none are =
+stands_first s size ts plan generations none are =
     record {
       plan = plan;
       panes = λ k.
           subst (λ (x : Plan). Agrees (term_at s.terms k) (pane_after_act None (rect_in k (panes x)) None)) plan
           (agrees_given None (rect_in k (panes s.plan)) (term_at ts k) (term_at s.terms k) None (are k)
           (none_agrees (term_at ts k) (none k)));
-      lives = counted_first s size lives;
+      generations = counted_first s size generations;
     }
 
 -- ---- calls on one pane
@@ -131,31 +131,31 @@ agrees_at p rule change does ts us changes pane of k = by_number (eqb k p) refl
         subst (λ (t : Option TermView). Agrees t (pane k)) (sym (changes.others k (λ same. false≢true (sym e ∙ eq-eqb k p same)))) (of k)
 
 pub stands_fed : (s t : SessionView) (p : ℕ) (bytes : List ℕ) (plan : Plan) (before after : List Bool) → t.plan ≡ s.plan
-    → t.lives ≡ s.lives → ChangesAt p (IsFed bytes plan p before after) s.terms t.terms
+    → t.generations ≡ s.generations → ChangesAt p (IsFed bytes plan p before after) s.terms t.terms
     → (size : SessionSize) (log : List Entry) → Stands s size log → Stands t size (log ++ Given p bytes ∷ [])
-stands_fed s t p bytes layout before after plan lives changes size log h =
+stands_fed s t p bytes layout before after plan generations changes size log h =
     let d = session size log in
     stands_after s t size log (Given p bytes) (at_pane p (after_feed bytes) d) h (session-append size log (Given p bytes)) (plan ∙ h.plan)
     (agrees_at p (IsFed bytes layout p before after) (after_feed bytes) (does_fed bytes layout p before after) s.terms t.terms changes d.pane h.panes)
-    (counts_kept s t size log h plan lives)
+    (counts_kept s t size log h plan generations)
 
-pub stands_drained : (s t : SessionView) (p n : ℕ) → t.plan ≡ s.plan → t.lives ≡ s.lives → ChangesAt p (IsDrained n) s.terms t.terms
+pub stands_drained : (s t : SessionView) (p n : ℕ) → t.plan ≡ s.plan → t.generations ≡ s.generations → ChangesAt p (IsDrained n) s.terms t.terms
     → (size : SessionSize) (log : List Entry) → Stands s size log → Stands t size (log ++ Drained p n ∷ [])
-stands_drained s t p n plan lives changes size log h =
+stands_drained s t p n plan generations changes size log h =
     let d = session size log in
     stands_after s t size log (Drained p n) (at_pane p (after_drain n) d) h (session-append size log (Drained p n)) (plan ∙ h.plan)
-    (agrees_at p (IsDrained n) (after_drain n) (does_drained n) s.terms t.terms changes d.pane h.panes) (counts_kept s t size log h plan lives)
+    (agrees_at p (IsDrained n) (after_drain n) (does_drained n) s.terms t.terms changes d.pane h.panes) (counts_kept s t size log h plan generations)
 
 pub stands_keyed : (s t : SessionView) (client : ℕ) (act : Act) (key : Key) → key_in act ≡ Some key → t.plan ≡ s.plan
-    → t.lives ≡ s.lives → ChangesAt s.plan.focus (IsKeyed key) s.terms t.terms
+    → t.generations ≡ s.generations → ChangesAt s.plan.focus (IsKeyed key) s.terms t.terms
     → (size : SessionSize) (log : List Entry) → Stands s size log → Stands t size (log ++ Did client act ∷ [])
-stands_keyed s t client act key is plan lives changes size log h =
+stands_keyed s t client act key is plan generations changes size log h =
     let d = session size log in
     let f = s.plan.focus in
     stands_after s t size log (Did client act) (at_pane f (after_key key) d) h
     (session-append size log (Did client act) ∙ ap (λ o. after_act o act d) is ∙ ap (λ (x : Plan). at_pane x.focus (after_key key) d) (sym h.plan))
     (plan ∙ h.plan)
-    (agrees_at f (IsKeyed key) (after_key key) (does_keyed key) s.terms t.terms changes d.pane h.panes) (counts_kept s t size log h plan lives)
+    (agrees_at f (IsKeyed key) (after_key key) (does_keyed key) s.terms t.terms changes d.pane h.panes) (counts_kept s t size log h plan generations)
 
 -- ---- what waits
 

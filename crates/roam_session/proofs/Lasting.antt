@@ -1,4 +1,4 @@
--- What lives tell: a pane stands exactly where the layout has a rectangle, so it begins where its number is made.
+-- What generations tell: a pane stands exactly where the layout has a rectangle, so it begins where its number is made.
 use Rattle.std.proofs.Common.{◌≡◌, ℕ, ◌+◌, ◌%◌, ◌^◌, true, not, ◌&&◌, cond, eqb, List, [], ◌∷◌, ◌++◌, Option, Some, None, refl, sym, ap, ◌∙◌, add-zero}
 use Rattle.std.specs.Prelude.{is_some}
 use Rattle.std.specs.List.{fold}
@@ -11,7 +11,7 @@ use Rattle.roam_layout.specs.Layouts.{Outcome, Laid, Refused, outcome_of, panes}
 use Rattle.roam_layout.specs.declared.rects.Rect.{Rect}
 use Rattle.roam_session.specs.Panes.{Pane, pane_after_act, after_feed, after_key, after_drain}
 use Rattle.roam_session.specs.Sessions.{Entry, Given, Did, Drained, SessionSize, SessionState, at_pane, laid_out, key_in, after_act, after_entry, first_state, session}
-use Rattle.roam_session.specs.Lives.{is_made, begins, ever_made, life_of, LivesAreCounted, LivesLast}
+use Rattle.roam_session.specs.Generations.{is_made, begins, ever_made, generation_of, GenerationsAreCounted, GenerationsLast}
 use Rattle.roam_session.proofs.Logs.{session-append}
 use Rattle.roam_session.proofs.Living.{ever_more}
 
@@ -67,8 +67,8 @@ made_where None None = refl
 made_where None (Some r) = refl
 made_where (Some r) after = refl
 
-pub lives_are_counted : LivesAreCounted
-lives_are_counted size log entry p =
+pub generations_are_counted : GenerationsAreCounted
+generations_are_counted size log entry p =
     let old = session size log in
     let new = after_entry old entry in
     let before = session_there size log in
@@ -84,14 +84,14 @@ lived : (pane : Option Pane) (c n : ℕ) → option_map (λ (x : Pane). c) pane 
 lived None c n e = absurd cc
 lived (Some p) c n e = (refl, cc)
 
-pub lives_last : LivesLast
-unfolding life_of
-lives_last size log entry p n m was is =
+pub generations_last : GenerationsLast
+unfolding generation_of
+generations_last size log entry p n m was is =
     let w : ℕ = 2 ^ 64 in
     let old = session size log in
     let new = session size (log ++ entry ∷ []) in
     let before = lived (old.pane p) (ever_made size log p % w) n was in
     let after = lived (new.pane p) (ever_made size (log ++ entry ∷ []) p % w) m is in
-    sym after.1 ∙ ap (λ c. c % w) (lives_are_counted size log entry p)
+    sym after.1 ∙ ap (λ c. c % w) (generations_are_counted size log entry p)
     ∙ ap (λ b. (ever_made size log p + cond (not b && is_some (new.pane p)) 1 0) % w) before.0
     ∙ ap (λ c. c % w) (add-zero (ever_made size log p)) ∙ before.1

@@ -18,4 +18,4 @@ pub mod Standing
 pub mod MarkingRows
 pub mod Adding
 pub mod Lasting
-pub mod LivesRows
+pub mod GenerationsRows

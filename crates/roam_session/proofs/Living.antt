@@ -11,8 +11,8 @@ use Rattle.roam_layout.specs.declared.rects.Rect.{Rect}
 use Rattle.roam_term.specs.Stands.{TermView}
 use Rattle.roam_session.specs.Panes.{Pane}
 use Rattle.roam_session.specs.Sessions.{Entry, SessionSize, SessionState, after_entry, first_state, session}
-use Rattle.roam_session.specs.Lives.{is_made, made_between, made_by, made_through, ever_made, life_of, AreCounted, CountsLives}
-use Rattle.roam_session.specs.Stands.{SessionView, Stands, Agrees, life_at, term_at}
+use Rattle.roam_session.specs.Generations.{is_made, made_between, made_by, made_through, ever_made, generation_of, AreCounted, CountsGenerations}
+use Rattle.roam_session.specs.Stands.{SessionView, Stands, Agrees, generation_at, term_at}
 use Rattle.roam_session.proofs.Logs.{session-append}
 
 -- ---- one entry more
@@ -38,14 +38,14 @@ ever_more size log entry p =
 
 -- counts that have what is made between two layouts have what an entry makes
 pub counted_more : (s t : SessionView) (size : SessionSize) (log : List Entry) (entry : Entry) → Stands s size log
-    → t.plan ≡ (session size (log ++ entry ∷ [])).plan → CountsLives s.plan t.plan s.lives t.lives
-    → AreCounted t.lives size (log ++ entry ∷ [])
+    → t.plan ≡ (session size (log ++ entry ∷ [])).plan → CountsGenerations s.plan t.plan s.generations t.generations
+    → AreCounted t.generations size (log ++ entry ∷ [])
 unfolding AreCounted
 counted_more s t size log entry h plan counts k low =
     let d = session size log in
     let ever = ever_made size log k in
     let after : t.plan ≡ (after_entry d entry).plan = plan ∙ ap (λ (x : SessionState). x.plan) (session-append size log entry) in
-    counts k low ∙ ap (λ n. (n + made_between (panes s.plan) (panes t.plan) k) % 2 ^ 64) (h.lives k low)
+    counts k low ∙ ap (λ n. (n + made_between (panes s.plan) (panes t.plan) k) % 2 ^ 64) (h.generations k low)
     ∙ mod-add-mod ever (2 ^ 64) (made_between (panes s.plan) (panes t.plan) k)
     ∙ (λ i. (ever + made_between (panes (h.plan i)) (panes (after i)) k) % 2 ^ 64)
     ∙ ap (λ n. n % 2 ^ 64) (sym (ever_more size log entry k))
@@ -55,29 +55,29 @@ same_makes_none None = refl
 same_makes_none (Some r) = refl
 
 -- a layout that stays makes none
-pub counts_kept : (s t : SessionView) (size : SessionSize) (log : List Entry) → Stands s size log → t.plan ≡ s.plan → t.lives ≡ s.lives
-    → CountsLives s.plan t.plan s.lives t.lives
+pub counts_kept : (s t : SessionView) (size : SessionSize) (log : List Entry) → Stands s size log → t.plan ≡ s.plan → t.generations ≡ s.generations
+    → CountsGenerations s.plan t.plan s.generations t.generations
 unfolding AreCounted
-counts_kept s t size log h plan lives k low =
+counts_kept s t size log h plan generations k low =
     let ever = ever_made size log k in
     let made = made_between (panes s.plan) (panes t.plan) k in
     let none : made ≡ 0 =
     ap (λ (x : Plan). made_between (panes s.plan) (panes x) k) plan ∙ ap (λ b. cond b 1 0) (same_makes_none (rect_in k (panes s.plan))) in
-    ap (λ (ls : List ℕ). get_or ls k 0) lives ∙ h.lives k low
-    ∙ sym (ap (λ n. (n + made) % 2 ^ 64) (h.lives k low) ∙ mod-add-mod ever (2 ^ 64) made ∙ ap (λ n. (ever + n) % 2 ^ 64) none
+    ap (λ (ls : List ℕ). get_or ls k 0) generations ∙ h.generations k low
+    ∙ sym (ap (λ n. (n + made) % 2 ^ 64) (h.generations k low) ∙ mod-add-mod ever (2 ^ 64) made ∙ ap (λ n. (ever + n) % 2 ^ 64) none
     ∙ ap (λ n. n % 2 ^ 64) (add-zero ever))
 
 -- ---- the start
 
 -- pane 1 was made once
-abbrev pub first_lives : List ℕ
-first_lives = 0 ∷ 1 ∷ 0 ∷ 0 ∷ 0 ∷ 0 ∷ 0 ∷ 0 ∷ 0 ∷ 0 ∷ []
+abbrev pub first_generations : List ℕ
+first_generations = 0 ∷ 1 ∷ 0 ∷ 0 ∷ 0 ∷ 0 ∷ 0 ∷ 0 ∷ 0 ∷ 0 ∷ []
 
-pub counted_first : (s : SessionView) (size : SessionSize) → s.lives ≡ first_lives → AreCounted s.lives size []
+pub counted_first : (s : SessionView) (size : SessionSize) → s.generations ≡ first_generations → AreCounted s.generations size []
 unfolding made_through AreCounted
-counted_first s size lives k low = ap (λ (ls : List ℕ). get_or ls k 0) lives ∙ by_number k low
+counted_first s size generations k low = ap (λ (ls : List ℕ). get_or ls k 0) generations ∙ by_number k low
   where
-    by_number : (k : ℕ) → k < 10 → get_or first_lives k 0 ≡ ever_made size [] k % 2 ^ 64
+    by_number : (k : ℕ) → k < 10 → get_or first_generations k 0 ≡ ever_made size [] k % 2 ^ 64
     by_number zero low = refl
     by_number (suc zero) low = refl
     by_number (suc (suc k)) low =
@@ -85,31 +85,31 @@ counted_first s size lives k low = ap (λ (ls : List ℕ). get_or ls k 0) lives 
         get_or-replicate 8 k 0 0 (omega (arith, low))
         ∙ sym (ap (λ b. (cond (is_made None (cond b (Some (area size.rows size.cols)) None)) 1 0 + 0) % 2 ^ 64) other)
 
--- ---- the life of a pane
+-- ---- the generation of a pane
 
-lives_alike : (t : Option TermView) (pane : Option Pane) (m n : ℕ) → Agrees t pane → m ≡ n
+generations_alike : (t : Option TermView) (pane : Option Pane) (m n : ℕ) → Agrees t pane → m ≡ n
     → option_map (λ (x : TermView). m) t ≡ option_map (λ (x : Pane). n) pane
-lives_alike None None m n of e = refl
-lives_alike None (Some p) m n of e = absurd of
-lives_alike (Some t) None m n of e = absurd of
-lives_alike (Some t) (Some p) m n of e = ap Some e
+generations_alike None None m n of e = refl
+generations_alike None (Some p) m n of e = absurd of
+generations_alike (Some t) None m n of e = absurd of
+generations_alike (Some t) (Some p) m n of e = ap Some e
 
-none_lives : (t : Option TermView) (pane : Option Pane) (m n : ℕ) → t ≡ None → Agrees t pane
+none_generations : (t : Option TermView) (pane : Option Pane) (m n : ℕ) → t ≡ None → Agrees t pane
     → option_map (λ (x : TermView). m) t ≡ option_map (λ (x : Pane). n) pane
-none_lives None None m n e of = refl
-none_lives None (Some p) m n e of = absurd of
-none_lives (Some t) pane m n e of = absurd cc
+none_generations None None m n e of = refl
+none_generations None (Some p) m n e of = absurd of
+none_generations (Some t) pane m n e of = absurd cc
 
--- the life of a pane is that of the log
-pub life_is : (s : SessionView) (p : ℕ) (size : SessionSize) (log : List Entry) → length s.terms ≡ 10 → Stands s size log
-    → life_at s p ≡ life_of size log p
-unfolding life_of AreCounted
-life_is s p size log ten h =
+-- the generation of a pane is that of the log
+pub generation_is : (s : SessionView) (p : ℕ) (size : SessionSize) (log : List Entry) → length s.terms ≡ 10 → Stands s size log
+    → generation_at s p ≡ generation_of size log p
+unfolding generation_of AreCounted
+generation_is s p size log ten h =
     let t = term_at s.terms p in
     let pane = (session size log).pane p in
-    let life = get_or s.lives p 0 in
+    let generation = get_or s.generations p 0 in
     let ever = ever_made size log p % 2 ^ 64 in
     elim (cases_lt p 10) [
-      | inl low ↦ lives_alike t pane life ever (h.panes p) (h.lives p low)
-      | inr high ↦ none_lives t pane life ever (get_or_past s.terms p None (omega (arith, ten, high))) (h.panes p)
+      | inl low ↦ generations_alike t pane generation ever (h.panes p) (h.generations p low)
+      | inr high ↦ none_generations t pane generation ever (get_or_past s.terms p None (omega (arith, ten, high))) (h.panes p)
     ]

@@ -80,10 +80,10 @@ module _ (p : ℕ) (rule : TermView → TermView → Type 0) (keeps : (old new :
       by_number false e =
           ap (shown_at (slice_index plan.views k)) (changes.others k (λ same. false≢true (sym e ∙ eq-eqb k p same)))
 
-  pub kept_session : (marks : List Bool) (kept : Screenshot) (lives : List ℕ)
-      → IsSession (record { plan = plan; terms = ts; marks = marks; kept = kept; lives = lives })
-      → IsSession (record { plan = plan; terms = us; marks = marks; kept = kept; lives = lives })
-  kept_session marks kept lives is = record {
+  pub kept_session : (marks : List Bool) (kept : Screenshot) (generations : List ℕ)
+      → IsSession (record { plan = plan; terms = ts; marks = marks; kept = kept; generations = generations })
+      → IsSession (record { plan = plan; terms = us; marks = marks; kept = kept; generations = generations })
+  kept_session marks kept generations is = record {
     ten = changes.count ∙ is.ten;
     placed =
         placed_at p rule (λ old new h. let k = keeps old new h in (ap (λ l. l.screen.rows) k.live, ap (λ l. l.screen.cols) k.live)) plan ts us changes
@@ -110,10 +110,10 @@ fed_size bytes plan p before after old new is =
     (ap (λ (t : TermView). t.live.screen.rows) is.quiet ∙ is.size.0, ap (λ (t : TermView). t.live.screen.cols) is.quiet ∙ is.size.1)
 
 pub fed_session : (p : ℕ) (bytes : List ℕ) (plan : Plan) (before after : List Bool) (ts us : List (Option TermView)) (kept : Screenshot)
-    (lives : List ℕ) → IsPlan plan → None ≡ bytes_refused bytes (waiting_at ts p) → ChangesAt p (IsFed bytes plan p before after) ts us
-    → IsSession (record { plan = plan; terms = ts; marks = before; kept = kept; lives = lives })
-    → IsSession (record { plan = plan; terms = us; marks = after; kept = kept; lives = lives })
-fed_session p bytes plan before after ts us kept lives is_plan free changes is =
+    (generations : List ℕ) → IsPlan plan → None ≡ bytes_refused bytes (waiting_at ts p) → ChangesAt p (IsFed bytes plan p before after) ts us
+    → IsSession (record { plan = plan; terms = ts; marks = before; kept = kept; generations = generations })
+    → IsSession (record { plan = plan; terms = us; marks = after; kept = kept; generations = generations })
+fed_session p bytes plan before after ts us kept generations is_plan free changes is =
     let rule = IsFed bytes plan p before after in
     let old = taken bytes (term_at ts p) free in
     let new = given_to rule old.0 (term_at us p) (subst (λ (o : Option TermView). Both rule o (term_at us p)) old.1 changes.here) in

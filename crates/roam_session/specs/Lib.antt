@@ -1,7 +1,7 @@
 pub mod Panes
 pub mod Sessions
 pub mod Marks
-pub mod Lives
+pub mod Generations
 pub mod Refusals
 pub mod Faces
 pub mod Stands

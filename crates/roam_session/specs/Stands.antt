@@ -17,7 +17,7 @@ use Rattle.roam_layout.specs.Layouts.{Plan, panes}
 use Rattle.roam_session.specs.Panes.{Pane}
 use Rattle.roam_session.specs.Sessions.{Entry, SessionSize, session}
 use Rattle.roam_session.specs.Marks.{marks_after}
-use Rattle.roam_session.specs.Lives.{AreCounted}
+use Rattle.roam_session.specs.Generations.{AreCounted}
 
 -- what contracts see of a session: its layout, a terminal or none at each number from 0 to 9, the marks of 200 rows, the face that was
 -- kept, and how many panes of each number from 0 to 9 were ever made, modulo 2 ^ 64
@@ -26,7 +26,7 @@ pub record SessionView : Type 0 where
   pub terms : List (Option TermView)
   pub marks : List Bool
   pub kept : Screenshot
-  pub lives : List ℕ
+  pub generations : List ℕ
 
 -- the terminal at a number
 abbrev pub term_at : List (Option TermView) → ℕ → Option TermView
@@ -36,9 +36,9 @@ term_at terms k = slice_index_or terms k None
 abbrev pub waiting_at : List (Option TermView) → ℕ → Option (List ℕ)
 waiting_at terms p = option_map (λ (t : TermView). t.waiting) (term_at terms p)
 
--- the life of a pane that is there: the count of its number
-abbrev pub life_at : SessionView → ℕ → Option ℕ
-life_at s p = option_map (λ (t : TermView). slice_index s.lives p) (term_at s.terms p)
+-- the generation of a pane that is there: the count of its number
+abbrev pub generation_at : SessionView → ℕ → Option ℕ
+generation_at s p = option_map (λ (t : TermView). slice_index s.generations p) (term_at s.terms p)
 
 -- ---- what is true of every session
 
@@ -110,7 +110,7 @@ Agrees (Some t) (Some p) = IsOf t p
 pub record Stands (s : SessionView) (size : SessionSize) (log : List Entry) : Type 0 where
   pub plan : s.plan ≡ (session size log).plan
   pub panes : (k : ℕ) → Agrees (term_at s.terms k) ((session size log).pane k)
-  pub lives : AreCounted s.lives size log
+  pub generations : AreCounted s.generations size log
 
 -- an entry makes one session of another: for every log that the old one stood for, the new one stands for it followed by the entry
 abbrev pub Appends : SessionView → SessionView → Entry → Type 0

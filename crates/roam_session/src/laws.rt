@@ -3,7 +3,7 @@ ghost use Rattle.std.specs.Prelude.{◌≡◌, List, [], ◌∷◌, ◌++◌};
 ghost use Rattle.roam_screens.specs.Screenshot.{IsScreenshot};
 ghost use Rattle.roam_layout.specs.Layouts.{IsSessionSize};
 ghost use Rattle.roam_session.specs.Faces.{face};
-ghost use Rattle.roam_session.specs.Lives.{LivesAreCounted, LivesLast};
+ghost use Rattle.roam_session.specs.Generations.{GenerationsAreCounted, GenerationsLast};
 ghost use Rattle.roam_session.specs.Marks.{MarksAreAdded};
 ghost use Rattle.roam_session.specs.Sessions.{SessionSize, Entry, session, after_entry};
 
@@ -23,8 +23,8 @@ pub fn marks_are_added()
     ensures added { MarksAreAdded }
 {}
 
-/// A pane keeps its life while it is there, and each pane that begins adds one to the count of its number.
-pub fn lives_tell_panes_apart()
-    ensures counted { LivesAreCounted }
-    ensures last { LivesLast }
+/// A pane keeps its generation while it is there, and each pane that begins adds one to the count of its number.
+pub fn generations_tell_panes_apart()
+    ensures counted { GenerationsAreCounted }
+    ensures last { GenerationsLast }
 {}

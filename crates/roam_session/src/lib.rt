@@ -2,8 +2,8 @@
 #![tactic(auto)]
 
 mod faces;
+mod generations;
 pub mod laws;
-mod lives;
 mod marks;
 mod pictures;
 mod queues;

@@ -7,8 +7,8 @@ ghost use Rattle.roam_layout.specs.Layouts.{IsSessionSize, Laid, Refused, outcom
 ghost use Rattle.roam_session.specs.Sessions.{SessionSize, Entry, Given, Did, Drained, key_in};
 ghost use Rattle.roam_session.specs.Refusals.{refuses_bytes, output_at, stops, none_refused, fault_of};
 ghost use Rattle.roam_session.specs.Faces.{face};
-ghost use Rattle.roam_session.specs.Stands.{Stands, Appends, KeptIn, MarksRows, face_now, keeping, life_at, term_at, waiting_at};
-ghost use Rattle.roam_session.specs.Lives.{CountsLives, life_of};
+ghost use Rattle.roam_session.specs.Stands.{Stands, Appends, KeptIn, MarksRows, face_now, keeping, generation_at, term_at, waiting_at};
+ghost use Rattle.roam_session.specs.Generations.{CountsGenerations, generation_of};
 ghost use Rattle.roam_session.specs.Places.{focus_at, rect_at};
 ghost use Rattle.roam_session.specs.Marks.{is_concerned};
 ghost use Rattle.roam_grid.specs.Marks.{all_on, also_marked};
@@ -17,11 +17,11 @@ ghost use Rattle.roam_session.specs.Queues.{ChangesAt, IsKeyed, IsWithin, IsCopi
 ghost use Rattle.roam_term.specs.Limits.{most_output};
 
 use crate::faces::{blank_of, face_of};
-use crate::lives::count_lives;
+use crate::generations::count_generations;
 use crate::marks::mark_laid;
 use crate::pictures::PanePictures;
 use crate::steps::{perform, prepare};
-use crate::{lives, queues};
+use crate::{generations, queues};
 use roam_acts::{Act, Key};
 use roam_cells::Fault;
 use roam_layout::Layout;
@@ -38,7 +38,7 @@ pub struct Session {
     terms: Vec<Option<Term>>,
     marks: [bool; 200],
     kept: RowShot,
-    lives: [u64; 10],
+    generations: [u64; 10],
 }
 
 impl Model for Session {
@@ -50,10 +50,10 @@ impl Model for Session {
 
     ghost coded = { Prim.hlevel (codes, plan_code) };
 
-    ghost view = { λ s. record { plan = s.layout; terms = s.terms.items; marks = s.marks; kept = s.kept; lives = s.lives } };
+    ghost view = { λ s. record { plan = s.layout; terms = s.terms.items; marks = s.marks; kept = s.kept; generations = s.generations } };
 
     ghost invariant = { λ s.
-        IsSession (record { plan = s.layout; terms = s.terms.items; marks = s.marks; kept = s.kept; lives = s.lives }) };
+        IsSession (record { plan = s.layout; terms = s.terms.items; marks = s.marks; kept = s.kept; generations = s.generations }) };
 }
 
 // The key of an act by a key.
@@ -100,7 +100,7 @@ impl Session {
             terms,
             marks: [true; 200],
             kept,
-            lives: [0, 1, 0, 0, 0, 0, 0, 0, 0, 0],
+            generations: [0, 1, 0, 0, 0, 0, 0, 0, 0, 0],
         })
     }
 
@@ -110,7 +110,7 @@ impl Session {
         ensures plan { self.new.plan ≡ self.old.plan }
         ensures marks { self.new.marks ≡ self.old.marks }
         ensures kept { self.new.kept ≡ self.old.kept }
-        ensures lives { self.new.lives ≡ self.old.lives }
+        ensures lives { self.new.generations ≡ self.old.generations }
         ensures keyed { OnOk result (ChangesAt self.old.plan.focus (IsKeyed key.now) self.old.terms self.new.terms) }
         ensures err { OnErr result (self.new ≡ self.old) }
     {
@@ -126,7 +126,7 @@ impl Session {
             (term_at self.old.terms k) (term_at self.new.terms k)) }
         ensures marks { OnOk result (self.new.marks ≡ also_marked (is_concerned act.now self.old.plan self.new.plan) self.old.marks) }
         ensures kept { self.new.kept ≡ self.old.kept }
-        ensures lives { OnOk result (CountsLives self.old.plan self.new.plan self.old.lives self.new.lives) }
+        ensures lives { OnOk result (CountsGenerations self.old.plan self.new.plan self.old.generations self.new.generations) }
         ensures refused { IfErr result (λ fault. (fault ≡ Fault.OutOfMemory) ⊎ (outcome_of self.old.plan act.now ≡ Refused fault)) }
         ensures exact { (fault : Fault) → outcome_of self.old.plan act.now ≡ Refused fault → IsErrOf result fault }
         ensures err { OnErr result (self.new ≡ self.old) }
@@ -137,7 +137,7 @@ impl Session {
         let mut steps = prepare(alloc, &self.terms, self.layout.rects(), next.rects())?;
         perform(&mut self.terms, &mut steps);
         mark_laid(&mut self.marks, act, &self.layout, &next);
-        count_lives(&mut self.lives, &self.layout, &next);
+        count_generations(&mut self.generations, &self.layout, &next);
         self.layout = next;
         Ok(())
     }
@@ -218,12 +218,12 @@ impl Session {
     }
 
     /// Which making of a pane of this number is there, counted from 1 modulo 2^64; `None` where no such pane is there. It takes no memory.
-    pub fn life(&self, pane: u8) -> Option<u64>
-        ensures life { result ≡ life_at self.now pane }
+    pub fn generation(&self, pane: u8) -> Option<u64>
+        ensures life { result ≡ generation_at self.now pane }
         ensures stands { (size : SessionSize) (log : List Entry)
-            → Stands self.now size log → life_at self.now pane ≡ life_of size log pane }
+            → Stands self.now size log → generation_at self.now pane ≡ generation_of size log pane }
     {
-        lives::life(&self.terms, &self.lives, pane)
+        generations::generation(&self.terms, &self.generations, pane)
     }
 
     /// Where a pane is, rows and columns from 1; `None` where no pane of this number is there. It takes no memory.

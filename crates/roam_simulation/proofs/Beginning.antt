@@ -2,12 +2,12 @@
 use Rattle.std.proofs.Common.{◌≡◌, ℕ, ◌<◌, ◌≤◌, ◌^◌, List, [], length, Option, Some, None, true, refl, sym, subst}
 use Rattle.roam_layout.specs.Layouts.{IsSessionSize}
 use Rattle.roam_session.specs.Sessions.{SessionSize}
-use Rattle.roam_world.specs.Lists.{IsIn}
-use Rattle.roam_world.specs.Clients.{nobody}
-use Rattle.roam_world.specs.Servers.{new_server}
-use Rattle.roam_world.specs.Numbers.{screen}
-use Rattle.roam_world.specs.Laws.{ShowsTrueScreens, TakesActsInOrder}
-use Rattle.roam_world.specs.Worlds.{World, new_world}
+use Rattle.roam_model.specs.Lists.{IsIn}
+use Rattle.roam_model.specs.Clients.{nobody}
+use Rattle.roam_model.specs.Servers.{new_server}
+use Rattle.roam_model.specs.Numbers.{screen}
+use Rattle.roam_model.specs.Laws.{ShowsTrueScreens, TakesActsInOrder}
+use Rattle.roam_model.specs.Worlds.{World, new_world}
 use Rattle.roam_hub.specs.Clients.{ClientView}
 use Rattle.roam_hub.specs.Servers.{ServerView, Stands as ServerStands}
 use Rattle.roam_simulation.specs.Worlds.{WorldView, start_in, Fills, Stands, StandsFor, ShowsSession}

@@ -5,15 +5,15 @@ use Rattle.std.specs.Option.{option_map}
 use Rattle.std.proofs.lemmas.Option.{slice_get-map}
 use Rattle.roam_cells.specs.declared.faults.Fault.{Fault}
 use Rattle.roam_wire.specs.Datagrams.{DatagramValue, IsDatagram, datagram_text}
-use Rattle.roam_world.specs.Texts.{Address}
-use Rattle.roam_world.specs.Servers.{moment}
-use Rattle.roam_world.specs.ServerArrivals.{after_note, after_acts, new_acts, room_for}
-use Rattle.roam_world.specs.Clients.{moment_of}
-use Rattle.roam_world.specs.ClientArrivals.{Hearing, after_fragment, after_whole}
-use Rattle.roam_world.specs.Limits.{Limits}
-use Rattle.roam_world.specs.Worlds.{World, ToServer, ToClient, Reply, Taken, Heard, Failed, Stopped, datagram_at, with_server, with_kept}
-use Rattle.roam_world.specs.Steps.{refused, fragment, unread, all_taken, no_room, no_memory_at_act, no_memory, bad_change, whole}
-use Rattle.roam_world.proofs.Runs.{was_sent}
+use Rattle.roam_model.specs.Texts.{Address}
+use Rattle.roam_model.specs.Servers.{moment}
+use Rattle.roam_model.specs.ServerArrivals.{after_note, after_acts, new_acts, room_for}
+use Rattle.roam_model.specs.Clients.{moment_of}
+use Rattle.roam_model.specs.ClientArrivals.{Hearing, after_fragment, after_whole}
+use Rattle.roam_model.specs.Limits.{Limits}
+use Rattle.roam_model.specs.Worlds.{World, ToServer, ToClient, Reply, Taken, Heard, Failed, Stopped, datagram_at, with_server, with_kept}
+use Rattle.roam_model.specs.Steps.{refused, fragment, unread, all_taken, no_room, no_memory_at_act, no_memory, bad_change, whole}
+use Rattle.roam_model.proofs.Runs.{was_sent}
 use Rattle.roam_hub.specs.declared.addresses.Stop.{Stop}
 use Rattle.roam_hub.specs.declared.clients.Heard.{Heard as HeardAs}
 use Rattle.roam_hub.specs.Clients.{ClientView, view_of, hearing_in, IsTextOf, IsNoDatagram, Hears}

@@ -7,9 +7,9 @@ use Rattle.roam_cells.specs.declared.faults.Fault.TheVariants.{Busy, NoPane, Too
 use Rattle.roam_session.specs.Sessions.{Given, Drained}
 use Rattle.roam_session.specs.Refusals.{bytes_refused, output_at}
 use Rattle.roam_term.specs.Limits.{longest_piece, most_output}
-use Rattle.roam_world.specs.Servers.{after_input}
-use Rattle.roam_world.specs.Worlds.{World, PaneBytes, Drain, Reply, Done, Refused, Failed, with_server}
-use Rattle.roam_world.specs.Steps.{refused, taken, no_pane, too_many, gone}
+use Rattle.roam_model.specs.Servers.{after_input}
+use Rattle.roam_model.specs.Worlds.{World, PaneBytes, Drain, Reply, Done, Refused, Failed, with_server}
+use Rattle.roam_model.specs.Steps.{refused, taken, no_pane, too_many, gone}
 use Rattle.roam_hub.specs.Servers.{ServerView, Feeds, refused as feed_refused, taken as feed_taken, Drains, no_pane as drains_none, gone as drains_gone}
 use Rattle.roam_simulation.specs.Worlds.{IsWant, WorldView, Stands, Steps}
 use Rattle.roam_simulation.proofs.Slots.{stands_served, stands_serving}

@@ -3,9 +3,9 @@ use Rattle.std.proofs.Common.{◌≡◌, ℕ, Bool, List, subst}
 use Rattle.roam_wire.specs.declared.versions.Version.{Version}
 use Rattle.roam_acts.specs.declared.acts.Act.{Act}
 use Rattle.roam_session.specs.Sessions.{SessionSize}
-use Rattle.roam_world.specs.Texts.{Address}
-use Rattle.roam_world.specs.Worlds.{World, Event, PaneBytes, Typed, ServerTick, ClientTick, ToServer, ToClient, Start, Drain, Reply}
-use Rattle.roam_world.specs.Steps.{PaneBytesStep, DrainStep, TypedStep, ServerTickStep, ClientTickStep, ToServerStep, ToClientStep, StartStep, refused, taken, no_pane, too_many, gone, empty_slot, full, spent, typed, no_memory, ticked, quiet, sent, not_sent, fragment, unread, all_taken, no_room, no_memory_at_act, bad_change, whole, used, started, watching, unfit, wstep}
+use Rattle.roam_model.specs.Texts.{Address}
+use Rattle.roam_model.specs.Worlds.{World, Event, PaneBytes, Typed, ServerTick, ClientTick, ToServer, ToClient, Start, Drain, Reply}
+use Rattle.roam_model.specs.Steps.{PaneBytesStep, DrainStep, TypedStep, ServerTickStep, ClientTickStep, ToServerStep, ToClientStep, StartStep, refused, taken, no_pane, too_many, gone, empty_slot, full, spent, typed, no_memory, ticked, quiet, sent, not_sent, fragment, unread, all_taken, no_room, no_memory_at_act, bad_change, whole, used, started, watching, unfit, wstep}
 use Rattle.roam_simulation.specs.Worlds.{WorldView, IsRefusal, Stands, StandsFor, Steps}
 
 stays-pane_bytes : (w : World) (p : ℕ) (bytes : List ℕ) (r : Reply) (w' : World) → PaneBytesStep w p bytes r w' → IsRefusal r → w' ≡ w

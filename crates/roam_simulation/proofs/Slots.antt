@@ -3,11 +3,11 @@ use Rattle.std.proofs.Common.{◌≡◌, ℕ, zero, suc, ◌<◌, ◌≤◌, ◌
 use Rattle.std.specs.Prelude.{nat_eq}
 use Rattle.std.proofs.lemmas.Bool.Decides.{nat_tests}
 use Rattle.std.proofs.lemmas.Option.{slice_get-get_or}
-use Rattle.roam_world.specs.Lists.{IsIn, with_value}
-use Rattle.roam_world.specs.Clients.{Client}
-use Rattle.roam_world.specs.Servers.{Server}
-use Rattle.roam_world.specs.Worlds.{World, with_server, with_client}
-use Rattle.roam_world.proofs.Members.{IsIn-append_left, IsIn-append_right, IsIn-push_cases, on_put, put_same}
+use Rattle.roam_model.specs.Lists.{IsIn, with_value}
+use Rattle.roam_model.specs.Clients.{Client}
+use Rattle.roam_model.specs.Servers.{Server}
+use Rattle.roam_model.specs.Worlds.{World, with_server, with_client}
+use Rattle.roam_model.proofs.Members.{IsIn-append_left, IsIn-append_right, IsIn-push_cases, on_put, put_same}
 use Rattle.roam_hub.specs.Clients.{ClientView, Stands as ClientStands}
 use Rattle.roam_hub.specs.Servers.{ServerView, Stands as ServerStands}
 use Rattle.roam_simulation.specs.Worlds.{WorldView, start_in, Fills, StartsStand, Stands}

@@ -4,11 +4,11 @@ use Rattle.std.specs.Prelude.{nat_eq, ◌||◌}
 use Rattle.std.specs.List.{list_any}
 use Rattle.std.proofs.lemmas.Bool.Decides.{nat_tests}
 use Rattle.roam_cells.specs.declared.faults.Fault.TheVariants.{OutOfMemory}
-use Rattle.roam_world.specs.Lists.{IsIn, with_value}
+use Rattle.roam_model.specs.Lists.{IsIn, with_value}
 use Rattle.roam_wire.specs.declared.versions.Version.{Version}
-use Rattle.roam_world.specs.Clients.{new_client}
-use Rattle.roam_world.specs.Worlds.{World, Start, Done, Failed, Refused, after_start}
-use Rattle.roam_world.specs.Steps.{used, started, unfit, is_unfit, no_memory}
+use Rattle.roam_model.specs.Clients.{new_client}
+use Rattle.roam_model.specs.Worlds.{World, Start, Done, Failed, Refused, after_start}
+use Rattle.roam_model.specs.Steps.{used, started, unfit, is_unfit, no_memory}
 use Rattle.roam_hub.specs.Clients.{ClientView, Stands as ClientStands}
 use Rattle.roam_simulation.specs.Worlds.{WorldView, StartsStand, Stands, Steps}
 use Rattle.roam_simulation.proofs.Slots.{starts_new}

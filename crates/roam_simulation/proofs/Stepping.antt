@@ -3,9 +3,9 @@ use Rattle.std.proofs.Common.{◌≡◌, ℕ, ◌+◌, ◌<◌, List, [], ◌∷
 use Rattle.std.specs.Prelude.{map}
 use Rattle.std.proofs.lemmas.List.{map-append, take_more}
 use Rattle.roam_session.specs.Sessions.{SessionSize}
-use Rattle.roam_world.specs.Worlds.{World, Event, PaneBytes, Typed, ServerTick, ClientTick, ToServer, ToClient, Start, Drain, Reply, new_world}
-use Rattle.roam_world.specs.Steps.{wstep, Run}
-use Rattle.roam_world.specs.Laws.{IsEvent, AreEvents, LeavesNoGap}
+use Rattle.roam_model.specs.Worlds.{World, Event, PaneBytes, Typed, ServerTick, ClientTick, ToServer, ToClient, Start, Drain, Reply, new_world}
+use Rattle.roam_model.specs.Steps.{wstep, Run}
+use Rattle.roam_model.specs.Laws.{IsEvent, AreEvents, LeavesNoGap}
 use Rattle.roam_simulation.specs.declared.events.Event.{Event as EventIn}
 use Rattle.roam_simulation.specs.Events.{event_of}
 use Rattle.roam_simulation.specs.Worlds.{WorldView, IsNoGap, IsReached, StandsFor, Steps}

@@ -10,17 +10,17 @@ use Rattle.roam_cells.specs.declared.faults.Fault.TheVariants.{OutOfMemory, Spen
 use Rattle.roam_acts.specs.declared.acts.Act.{Act}
 use Rattle.roam_wire.specs.Cutting.{texts_of}
 use Rattle.roam_wire.specs.Datagrams.{DatagramValue, datagram_text}
-use Rattle.roam_world.specs.Moments.{is_spent}
-use Rattle.roam_world.specs.Numbers.{acts_of}
-use Rattle.roam_world.specs.Texts.{Address}
-use Rattle.roam_world.specs.Servers.{moment}
-use Rattle.roam_world.specs.Ticks.{Parcel, sent_by, sends, number_after, screen_to, is_tick_spent}
-use Rattle.roam_world.specs.Clients.{moment_of}
-use Rattle.roam_world.specs.Sendings.{datagrams_from, after_quiet}
-use Rattle.roam_world.specs.Worlds.{World, ServerTick, ClientTick, Sent, Refused, Failed, with_kept, after_server_tick, after_client_sent}
-use Rattle.roam_world.specs.Steps.{spent, ticked, no_memory, empty_slot, quiet, sent}
-use Rattle.roam_world.specs.Laws.{TakesActsInOrder}
-use Rattle.roam_world.specs.Limits.{Limits}
+use Rattle.roam_model.specs.Moments.{is_spent}
+use Rattle.roam_model.specs.Numbers.{acts_of}
+use Rattle.roam_model.specs.Texts.{Address}
+use Rattle.roam_model.specs.Servers.{moment}
+use Rattle.roam_model.specs.Ticks.{Parcel, sent_by, sends, number_after, screen_to, is_tick_spent}
+use Rattle.roam_model.specs.Clients.{moment_of}
+use Rattle.roam_model.specs.Sendings.{datagrams_from, after_quiet}
+use Rattle.roam_model.specs.Worlds.{World, ServerTick, ClientTick, Sent, Refused, Failed, with_kept, after_server_tick, after_client_sent}
+use Rattle.roam_model.specs.Steps.{spent, ticked, no_memory, empty_slot, quiet, sent}
+use Rattle.roam_model.specs.Laws.{TakesActsInOrder}
+use Rattle.roam_model.specs.Limits.{Limits}
 use Rattle.roam_cells.specs.declared.addresses.Addr.{Addr}
 use Rattle.roam_hub.specs.Clients.{ClientView, view_of, Sends, quiet as sends_quiet, spent as sends_spent, sent as sends_sent, no_memory as sends_no_memory}
 use Rattle.roam_hub.specs.Servers.{ServerView, Ticks, spent as ticks_spent, ticked as ticks_ticked, no_memory as ticks_no_memory, is_ack_spent, is_number_spent, parcels_of, parcel_text}

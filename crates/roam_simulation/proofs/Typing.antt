@@ -3,9 +3,9 @@ use Rattle.std.proofs.Common.{◌≡◌, ℕ, ◌<◌, length, set, Some, None, 
 use Rattle.std.specs.Prelude.{Result}
 use Rattle.roam_cells.specs.declared.faults.Fault.{Fault}
 use Rattle.roam_acts.specs.declared.acts.Act.{Act}
-use Rattle.roam_world.specs.Clients.{after_act}
-use Rattle.roam_world.specs.Worlds.{World, Typed, Refused, with_client}
-use Rattle.roam_world.specs.Steps.{empty_slot, watching, full, spent, typed, no_memory}
+use Rattle.roam_model.specs.Clients.{after_act}
+use Rattle.roam_model.specs.Worlds.{World, Typed, Refused, with_client}
+use Rattle.roam_model.specs.Steps.{empty_slot, watching, full, spent, typed, no_memory}
 use Rattle.roam_hub.specs.Clients.{ClientView, view_of, Types, watching as types_watching, full as types_full, spent as types_spent, typed as types_typed, no_memory as types_no_memory}
 use Rattle.roam_simulation.specs.Worlds.{IsWant, WorldView, start_in, Stands, Steps}
 use Rattle.roam_simulation.proofs.Inputs.{done_by}

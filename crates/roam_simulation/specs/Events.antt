@@ -2,7 +2,7 @@
 use Rattle.std.specs.Prelude.{◌<◌, Result, Ok, Err}
 use Rattle.roam_cells.specs.declared.faults.Fault.{Fault}
 use Rattle.roam_acts.specs.Acts.{IsInRange}
-use Rattle.roam_world.specs.Worlds.{Event as EventOf, PaneBytes, Typed, ServerTick, ClientTick, ToServer, ToClient, Start, Drain, Reply as ReplyOf, Done, Sent, Taken, Heard, Refused, Failed, Stopped}
+use Rattle.roam_model.specs.Worlds.{Event as EventOf, PaneBytes, Typed, ServerTick, ClientTick, ToServer, ToClient, Start, Drain, Reply as ReplyOf, Done, Sent, Taken, Heard, Refused, Failed, Stopped}
 use Rattle.roam_hub.specs.Clients.{hearing_in}
 use Rattle.roam_hub.specs.Servers.{address_of}
 use Rattle.roam_simulation.specs.declared.events.Event.{Event}

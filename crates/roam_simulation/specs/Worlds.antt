@@ -4,13 +4,13 @@ use Rattle.roam_acts.specs.Senders.{IsFull, IsSpent}
 use Rattle.roam_cells.specs.declared.faults.Fault.TheVariants.{BadChange, OutOfMemory}
 use Rattle.roam_wire.specs.Datagrams.{DatagramValue, datagram_text}
 use Rattle.roam_session.specs.Sessions.{SessionSize}
-use Rattle.roam_world.specs.Lists.{IsIn}
-use Rattle.roam_world.specs.Clients.{Client}
-use Rattle.roam_world.specs.ClientArrivals.{IsGap}
-use Rattle.roam_world.specs.Worlds.{World, Event, PaneBytes, Typed, ServerTick, ClientTick, ToServer, ToClient, Start, Drain, Reply, Done, Sent, Taken, Heard, Refused, Failed, Stopped, datagram_at}
-use Rattle.roam_world.specs.Steps.{is_unfit, wstep}
-use Rattle.roam_world.specs.Laws.{Reaches, TakesActsInOrder}
-use Rattle.roam_world.specs.Numbers.{screen}
+use Rattle.roam_model.specs.Lists.{IsIn}
+use Rattle.roam_model.specs.Clients.{Client}
+use Rattle.roam_model.specs.ClientArrivals.{IsGap}
+use Rattle.roam_model.specs.Worlds.{World, Event, PaneBytes, Typed, ServerTick, ClientTick, ToServer, ToClient, Start, Drain, Reply, Done, Sent, Taken, Heard, Refused, Failed, Stopped, datagram_at}
+use Rattle.roam_model.specs.Steps.{is_unfit, wstep}
+use Rattle.roam_model.specs.Laws.{Reaches, TakesActsInOrder}
+use Rattle.roam_model.specs.Numbers.{screen}
 use Rattle.roam_hub.specs.Clients.{ClientView, Stands as ClientStands}
 use Rattle.roam_hub.specs.Servers.{ServerView, Stands as ServerStands}
 

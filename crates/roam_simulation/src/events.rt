@@ -1,5 +1,5 @@
 //! What happens in a world, and how it is answered.
-ghost use Rattle.roam_world.specs.Laws.{IsEvent};
+ghost use Rattle.roam_model.specs.Laws.{IsEvent};
 ghost use Rattle.roam_simulation.specs.Events.{IsHandedIn, event_of};
 
 use roam_acts::{Act, Key};

@@ -10,7 +10,7 @@ use Rattle.std.proofs.lemmas.Bool.Decides.{nat_tests}
 use Rattle.std.proofs.Math.Bool.{and-false, and-true}
 use Rattle.std.proofs.Math.Seq.{drop-length, take-length}
 use Rattle.roam_cells.specs.declared.addresses.Addr.{Addr}
-use Rattle.roam_frames.specs.Frames.{IsCarried, framed, framed_all}
+use Rattle.roam_stream_framing.specs.Frames.{IsCarried, framed, framed_all}
 use Rattle.roam_sockets.specs.Lanes.{Goes, GoesOne, Handed, Hands, SendsEach, all_to, is_any_waiting, is_kept, is_waiting}
 use Rattle.roam_sockets.specs.Pace.{gone_at, may_go, most_a_moment}
 use Rattle.roam_sockets.specs.declared.lanes.Lane.{Lane}

@@ -6,7 +6,7 @@ use Rattle.std.proofs.lemmas.Grind.{common_steps}
 use Rattle.std.proofs.lemmas.List.{get_or-set_same, length-set}
 use Rattle.std.proofs.lemmas.Option.{gets, slice_get-get_or}
 use Rattle.std.specs.List.{All}
-use Rattle.roam_frames.specs.Queues.{IsLost, IsQueued}
+use Rattle.roam_stream_framing.specs.Queues.{IsLost, IsQueued}
 use Rattle.roam_sockets.specs.Clients.{HasNone, HasNoneAt, IsLostAt, IsQueuedAt, place_behind}
 use Rattle.mio.specs.declared.net.uds.stream.UnixStream.{UnixStream}
 use Rattle.roam_sockets.specs.declared.clients.ClientPeer.{ClientPeer}

@@ -3,10 +3,10 @@ use Rattle.std.specs.Prelude.{◌≡◌, ◌≢◌, ◌⊎◌, ℕ, ◌+◌, ◌
 use Rattle.mio.specs.declared.net.uds.stream.UnixStream.{UnixStream}
 use Rattle.std.specs.List.{All, AllZip, Contains, filter, range_with_len}
 use Rattle.roam_cells.specs.declared.addresses.Addr.{Addr}
-use Rattle.roam_frames.specs.declared.frames.Front.TheVariants.{Part}
-use Rattle.roam_frames.specs.Frames.{front_of}
-use Rattle.roam_frames.specs.Queues.{IsLost, IsQueued, Queued, nothing_queued}
-use Rattle.roam_frames.specs.Streams.{Answer, HasAnswered, HasStopped}
+use Rattle.roam_stream_framing.specs.declared.frames.Front.TheVariants.{Part}
+use Rattle.roam_stream_framing.specs.Frames.{front_of}
+use Rattle.roam_stream_framing.specs.Queues.{IsLost, IsQueued, Queued, nothing_queued}
+use Rattle.roam_stream_framing.specs.Streams.{Answer, HasAnswered, HasStopped}
 use Rattle.roam_sockets.specs.Addresses.{address_of}
 use Rattle.roam_sockets.specs.declared.clients.ClientPeer.{ClientPeer}
 use Rattle.roam_sockets.specs.declared.clients.Clients.{Clients}

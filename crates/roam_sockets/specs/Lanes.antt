@@ -2,9 +2,9 @@
 use Rattle.std.specs.Prelude.{◌≡◌, ◌≢◌, ◌⊎◌, ◌↔◌, ℕ, ◌+◌, ◌≤◌, ◌<◌, ◌==◌, ◌||◌, ◌&&◌, Bool, true, false, List, [], ◌∷◌, ◌++◌, length, map, slice_get, slice_set, nat_lt, Option, Some, None, IsTrue}
 use Rattle.std.specs.List.{All, filter, list_any}
 use Rattle.roam_cells.specs.declared.addresses.Addr.{Addr}
-use Rattle.roam_frames.specs.declared.frames.Front.TheVariants.{Whole}
-use Rattle.roam_frames.specs.Frames.{IsCarried, framed, framed_all, front_of}
-use Rattle.roam_frames.specs.Queues.{IsLost, IsQueued, Queued, nothing_queued}
+use Rattle.roam_stream_framing.specs.declared.frames.Front.TheVariants.{Whole}
+use Rattle.roam_stream_framing.specs.Frames.{IsCarried, framed, framed_all, front_of}
+use Rattle.roam_stream_framing.specs.Queues.{IsLost, IsQueued, Queued, nothing_queued}
 use Rattle.roam_sockets.specs.Pace.{gone_at, may_go, most_a_moment}
 use Rattle.roam_sockets.specs.declared.lanes.Lane.{Lane}
 

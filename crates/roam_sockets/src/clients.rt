@@ -10,7 +10,7 @@ use crate::waits::Waits;
 use mio::net::{UnixListener, UnixStream};
 use roam_cells::{Addr, Fault};
 use roam_faults::RunFault;
-use roam_frames::{Carrier, Stream};
+use roam_stream_framing::{Carrier, Stream};
 use std::alloc::Global;
 use std::fs::{Files, remove_file};
 use std::net::Net;

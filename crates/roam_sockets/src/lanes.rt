@@ -5,7 +5,7 @@ ghost use Rattle.roam_sockets.specs.Lanes.{AreReady, Flushes, GoesOne, Handed, H
 
 use crate::pace::Pace;
 use roam_cells::Addr;
-use roam_frames::{Queue, first_in};
+use roam_stream_framing::{Queue, first_in};
 use std::alloc::Global;
 
 /// A socket that takes datagrams to addresses.

@@ -21,15 +21,15 @@ use Rattle.roam_wire.proofs.Arrive.{well}
 use Rattle.roam_wire.proofs.Cuts.{joined-fragments}
 use Rattle.roam_wire.proofs.Heads.{one_datagram}
 use Rattle.roam_wire.proofs.Texts.{one_down}
-use Rattle.roam_world.specs.Versions.{is_same_version, IsSeenBy, applied_by}
-use Rattle.roam_world.specs.Lists.{IsIn}
-use Rattle.roam_world.specs.Texts.{SaysDown, update_in, is_to_server}
-use Rattle.roam_world.specs.Servers.{Record}
-use Rattle.roam_world.specs.Clients.{Kept, Client, moment_of}
-use Rattle.roam_world.specs.ClientArrivals.{Hearing, arriving, arriving_gathered, after_fragment, after_whole}
-use Rattle.roam_world.specs.Arrival.{Arrival, turned_away, noted, completed}
-use Rattle.roam_world.proofs.Versions.{is_same-refl, difference_leads}
-use Rattle.roam_world.proofs.Gathered.{gathered_all, AllOf, Comes, all_gathered_anew, IsPart, IsSame, is_part}
+use Rattle.roam_model.specs.Versions.{is_same_version, IsSeenBy, applied_by}
+use Rattle.roam_model.specs.Lists.{IsIn}
+use Rattle.roam_model.specs.Texts.{SaysDown, update_in, is_to_server}
+use Rattle.roam_model.specs.Servers.{Record}
+use Rattle.roam_model.specs.Clients.{Kept, Client, moment_of}
+use Rattle.roam_model.specs.ClientArrivals.{Hearing, arriving, arriving_gathered, after_fragment, after_whole}
+use Rattle.roam_model.specs.Arrival.{Arrival, turned_away, noted, completed}
+use Rattle.roam_model.proofs.Versions.{is_same-refl, difference_leads}
+use Rattle.roam_model.proofs.Gathered.{gathered_all, AllOf, Comes, all_gathered_anew, IsPart, IsSame, is_part}
 use Rattle.roam_hub.specs.declared.clients.Heard.{Heard}
 use Rattle.roam_hub.specs.Clients.{ClientView, Stands, IsTextOf, hearing_in, Hears}
 use Rattle.roam_hub.specs.Clients.Hears.{no_datagram, refused, fragment, unread, bad_change, whole, no_memory}

@@ -27,18 +27,18 @@ use Rattle.roam_wire.proofs.Cuts.{sendable_in}
 use Rattle.roam_wire.proofs.Heads.{again}
 use Rattle.roam_session.specs.Sessions.{SessionSize, Entry}
 use Rattle.roam_session.specs.Faces.{face}
-use Rattle.roam_world.specs.Versions.{seen_by, IsSeenBy, difference_by}
-use Rattle.roam_world.specs.Lists.{IsIn}
-use Rattle.roam_world.specs.Moments.{is_spent, is_overdue}
-use Rattle.roam_world.specs.Numbers.{screen}
-use Rattle.roam_world.specs.Texts.{Address, datagram_with, datagrams_of}
-use Rattle.roam_world.specs.Servers.{Record, no_record, Server, moment}
-use Rattle.roam_world.specs.Ticks.{makes, cuts_after, number_after, screen_to, is_live, is_offered, holds_after, sends, down_from, down_to, fragments_to, datagrams_to, is_record_spent, Parcel as WorldParcel, parcel, parcels_to, sent_by, is_tick_spent}
-use Rattle.roam_world.proofs.Versions.{change_short}
-use Rattle.roam_world.proofs.Members.{IsIn-map, IsIn-flat_map, IsIn-enumerate, slice_get-within}
-use Rattle.roam_world.proofs.Places.{map_here, flat_here}
-use Rattle.roam_world.proofs.Keeps.{not_past, or_left, or_right}
-use Rattle.roam_world.proofs.ServerKeeps.{to_record}
+use Rattle.roam_model.specs.Versions.{seen_by, IsSeenBy, difference_by}
+use Rattle.roam_model.specs.Lists.{IsIn}
+use Rattle.roam_model.specs.Moments.{is_spent, is_overdue}
+use Rattle.roam_model.specs.Numbers.{screen}
+use Rattle.roam_model.specs.Texts.{Address, datagram_with, datagrams_of}
+use Rattle.roam_model.specs.Servers.{Record, no_record, Server, moment}
+use Rattle.roam_model.specs.Ticks.{makes, cuts_after, number_after, screen_to, is_live, is_offered, holds_after, sends, down_from, down_to, fragments_to, datagrams_to, is_record_spent, Parcel as WorldParcel, parcel, parcels_to, sent_by, is_tick_spent}
+use Rattle.roam_model.proofs.Versions.{change_short}
+use Rattle.roam_model.proofs.Members.{IsIn-map, IsIn-flat_map, IsIn-enumerate, slice_get-within}
+use Rattle.roam_model.proofs.Places.{map_here, flat_here}
+use Rattle.roam_model.proofs.Keeps.{not_past, or_left, or_right}
+use Rattle.roam_model.proofs.ServerKeeps.{to_record}
 use Rattle.roam_cells.specs.declared.addresses.Addr.{Addr}
 use Rattle.roam_hub.specs.Servers.{RecordView, ServerView, Stands, address_of, parcel_text, is_ack_spent, is_number_spent, Ticks}
 use Rattle.roam_hub.specs.Servers.Ticks.{spent, ticked, no_memory}

@@ -15,14 +15,14 @@ use Rattle.roam_wire.proofs.Cuts.{fragments_of-step}
 use Rattle.roam_layout.specs.Layouts.{IsSessionSize}
 use Rattle.roam_session.specs.Sessions.{SessionSize, Entry}
 use Rattle.roam_session.specs.Faces.{face}
-use Rattle.roam_world.specs.Versions.{seen_by, IsSeenBy}
-use Rattle.roam_world.specs.Lists.{IsIn}
-use Rattle.roam_world.specs.Texts.{datagram_with, datagrams_of}
-use Rattle.roam_world.specs.Servers.{Record, Server, moment}
-use Rattle.roam_world.specs.Ticks.{number_after, screen_to, Parcel as WorldParcel, sent_by}
-use Rattle.roam_world.specs.Clients.{Client, shown_screen}
-use Rattle.roam_world.proofs.Versions.{seen_is}
-use Rattle.roam_world.proofs.Places.{map_here, enumerate_here, some_at}
+use Rattle.roam_model.specs.Versions.{seen_by, IsSeenBy}
+use Rattle.roam_model.specs.Lists.{IsIn}
+use Rattle.roam_model.specs.Texts.{datagram_with, datagrams_of}
+use Rattle.roam_model.specs.Servers.{Record, Server, moment}
+use Rattle.roam_model.specs.Ticks.{number_after, screen_to, Parcel as WorldParcel, sent_by}
+use Rattle.roam_model.specs.Clients.{Client, shown_screen}
+use Rattle.roam_model.proofs.Versions.{seen_is}
+use Rattle.roam_model.proofs.Places.{map_here, enumerate_here, some_at}
 use Rattle.roam_hub.specs.declared.clients.Heard.{Heard}
 use Rattle.roam_hub.specs.Servers.{is_number_spent}
 use Rattle.roam_hub.specs.Clients.{ClientView}

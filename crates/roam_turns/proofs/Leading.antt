@@ -11,7 +11,7 @@ use Rattle.roam_paint.specs.Painting.{text_between, blanking_text}
 use Rattle.roam_cells.specs.declared.addresses.Addr.{Addr}
 use Rattle.roam_turns.specs.declared.outer.Noted.{Noted}
 use Rattle.roam_turns.specs.Calls.{Parcel, PortCall, ClientCall}
-use Rattle.roam_turns.specs.Calls.PortCall.{Now, Received, NothingReceived, Sent, PaneLives, PaneGave, PaneGaveNothing, PaneTook, Showed, Asked}
+use Rattle.roam_turns.specs.Calls.PortCall.{Now, Received, NothingReceived, Sent, PaneGenerations, PaneGave, PaneGaveNothing, PaneTook, Showed, Asked}
 use Rattle.roam_turns.specs.Painting.{IsNoted, IsBehind, DisplaysNoted, Fits, Shows, Leads, Led, text_for}
 use Rattle.roam_turns.specs.Parts.{Call, ReceivesUpTo}
 use Rattle.roam_turns.specs.Parts.Call.{Port, Core}
@@ -28,7 +28,7 @@ shown_both (Port (Now t) ∷ xs) ys = shown_both xs ys
 shown_both (Port (Received room from bytes) ∷ xs) ys = shown_both xs ys
 shown_both (Port (NothingReceived room) ∷ xs) ys = shown_both xs ys
 shown_both (Port (Sent to bytes went) ∷ xs) ys = shown_both xs ys
-shown_both (Port (PaneLives pane life) ∷ xs) ys = shown_both xs ys
+shown_both (Port (PaneGenerations pane generation) ∷ xs) ys = shown_both xs ys
 shown_both (Port (PaneGave pane room bytes) ∷ xs) ys = shown_both xs ys
 shown_both (Port (PaneGaveNothing pane room) ∷ xs) ys = shown_both xs ys
 shown_both (Port (PaneTook pane bytes n) ∷ xs) ys = shown_both xs ys

@@ -15,14 +15,14 @@ use Rattle.roam_sync.proofs.Ends.{held_rises, had_rises, newest_greatest, floor_
 use Rattle.roam_sync.proofs.Numbers.{among_filter, low_from, rising-filter, no_longer}
 use Rattle.roam_sync.proofs.Rounds.{not_above}
 use Rattle.roam_sync.proofs.TrueStates.{found_true}
-use Rattle.roam_world.specs.Versions.{applied_by}
-use Rattle.roam_world.specs.Numbers.{IsScreenOf}
-use Rattle.roam_world.specs.Servers.{Record, moment}
-use Rattle.roam_world.specs.Ticks.{is_live}
-use Rattle.roam_world.specs.Clients.{Client}
-use Rattle.roam_world.specs.Worlds.{World}
-use Rattle.roam_world.specs.Holds.{Tells, Acks, Holds, Counts}
-use Rattle.roam_world.proofs.Screens.{one_screen}
+use Rattle.roam_model.specs.Versions.{applied_by}
+use Rattle.roam_model.specs.Numbers.{IsScreenOf}
+use Rattle.roam_model.specs.Servers.{Record, moment}
+use Rattle.roam_model.specs.Ticks.{is_live}
+use Rattle.roam_model.specs.Clients.{Client}
+use Rattle.roam_model.specs.Worlds.{World}
+use Rattle.roam_model.specs.Holds.{Tells, Acks, Holds, Counts}
+use Rattle.roam_model.proofs.Screens.{one_screen}
 use Rattle.roam_turns.specs.Hops.{IsReady, number_by, IsOffered, IsReadyForTicks}
 
 both_true : (a b : Bool) → (a && b) ≡ true → (a ≡ true) × (b ≡ true)

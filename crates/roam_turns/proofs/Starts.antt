@@ -7,13 +7,13 @@ use Rattle.std.proofs.lemmas.Bool.Decides.{nat_tests}
 use Rattle.roam_cells.specs.declared.faults.Fault.{Fault}
 use Rattle.roam_screens.specs.Screenshot.{Screenshot}
 use Rattle.roam_acts.specs.declared.acts.Act.{Act}
-use Rattle.roam_world.specs.Versions.{applied_by}
+use Rattle.roam_model.specs.Versions.{applied_by}
 use Rattle.roam_wire.specs.declared.versions.Version.{Version}
 use Rattle.roam_sync.specs.declared.receivers.Step.{Step}
 use Rattle.roam_sync.specs.declared.receivers.Step.TheVariants as step
 use Rattle.roam_sync.specs.Receivers.{Receiving, step_for}
 use Rattle.roam_sync.specs.Links.{Update, Delivers}
-use Rattle.roam_world.specs.Texts.{update_in}
+use Rattle.roam_model.specs.Texts.{update_in}
 use Rattle.roam_hub.specs.declared.clients.Heard.{Heard}
 use Rattle.roam_hub.specs.Clients.{ClientView, Types, Hears, Sends}
 use Rattle.roam_hub.specs.Clients.Types.{watching, full, spent as typed_spent, typed, no_memory as typed_no_memory}

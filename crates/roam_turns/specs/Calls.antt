@@ -34,7 +34,7 @@ pub data PortCall : Type 0 where
   Received : ℕ → Addr → List ℕ → PortCall
   NothingReceived : ℕ → PortCall
   Sent : Addr → List ℕ → Bool → PortCall
-  PaneLives : ℕ → Option ℕ → PortCall
+  PaneGenerations : ℕ → Option ℕ → PortCall
   PaneGave : ℕ → ℕ → List ℕ → PortCall
   PaneGaveNothing : ℕ → ℕ → PortCall
   PaneTook : ℕ → List ℕ → ℕ → PortCall
@@ -62,7 +62,7 @@ Parcel = Addr × List ℕ
 -- went; a tick at a moment.
 pub data ServerCall : Type 0 where
   ToServer : Addr → List ℕ → ℕ → Result ℕ Stop → ServerCall
-  Life : ℕ → Option ℕ → ServerCall
+  Generation : ℕ → Option ℕ → ServerCall
   Room : ℕ → Option ℕ → ServerCall
   PaneBytes : ℕ → List ℕ → Result (Unit {0}) Fault → ServerCall
   Output : ℕ → ℕ → Option (List ℕ) → ServerCall

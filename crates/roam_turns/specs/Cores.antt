@@ -4,22 +4,22 @@ use Rattle.std.specs.Option.{option_map}
 use Rattle.std.specs.declared.alloc.Global.{Global}
 use Rattle.roam_term.specs.Limits.{most_output}
 use Rattle.roam_cells.specs.declared.faults.Fault.{Fault}
-use Rattle.roam_session.specs.Lives.{life_of}
+use Rattle.roam_session.specs.Generations.{generation_of}
 use Rattle.roam_session.specs.Refusals.{output_at}
-use Rattle.roam_world.specs.Servers.{Server as ServerOf}
+use Rattle.roam_model.specs.Servers.{Server as ServerOf}
 use Rattle.roam_hub.specs.Servers.{ServerView, Stands as ServerStands, Feeds, Drains, Comes, Ticks, address_of}
 use Rattle.roam_hub.specs.Clients.{ClientView, Types, Hears, Sends}
 use Rattle.roam_cells.specs.declared.addresses.Addr.{Addr}
 use Rattle.roam_turns.specs.Calls.{ServerCall, ClientCall, parcels_of, texts_in}
-use Rattle.roam_turns.specs.Calls.ServerCall.{ToServer, Life, Room, PaneBytes, Output, Drain, ServerTick}
+use Rattle.roam_turns.specs.Calls.ServerCall.{ToServer, Generation, Room, PaneBytes, Output, Drain, ServerTick}
 use Rattle.roam_turns.specs.Calls.ClientCall.{Typed, ToClient, ClientTick}
 
 -- for every server that it stood for: what the call answers, and which server it stands for then
 abbrev pub server_step : ServerView → ServerCall → ServerView → Type 0
 server_step old (ToServer from bytes now answer) new = (s : ServerOf) → ServerStands old s
     → Comes s (address_of from) bytes now answer new
-server_step old (Life pane answer) new = (new ≡ old)
-    × ((s : ServerOf) → ServerStands old s → answer ≡ life_of s.size s.log pane)
+server_step old (Generation pane answer) new = (new ≡ old)
+    × ((s : ServerOf) → ServerStands old s → answer ≡ generation_of s.size s.log pane)
 server_step old (Room pane answer) new = (new ≡ old)
     × ((s : ServerOf) → ServerStands old s
     → answer ≡ option_map (λ (waiting : List ℕ). most_output - length waiting) (output_at s.size s.log pane))

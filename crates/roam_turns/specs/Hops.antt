@@ -10,12 +10,12 @@ use Rattle.roam_sync.specs.Receivers.{pairs, state_at, from_floor}
 use Rattle.roam_wire.specs.Headers.{header_at}
 use Rattle.roam_layout.specs.Layouts.{IsSessionSize}
 use Rattle.roam_session.specs.Faces.{face}
-use Rattle.roam_world.specs.Versions.{seen_by}
-use Rattle.roam_world.specs.Lists.{IsIn}
-use Rattle.roam_world.specs.Servers.{Record, Server, moment}
-use Rattle.roam_world.specs.Ticks.{makes, number_after, is_offered}
-use Rattle.roam_world.specs.Clients.{Client, shown_number, shown_screen}
-use Rattle.roam_world.specs.Worlds.{World}
+use Rattle.roam_model.specs.Versions.{seen_by}
+use Rattle.roam_model.specs.Lists.{IsIn}
+use Rattle.roam_model.specs.Servers.{Record, Server, moment}
+use Rattle.roam_model.specs.Ticks.{makes, number_after, is_offered}
+use Rattle.roam_model.specs.Clients.{Client, shown_number, shown_screen}
+use Rattle.roam_model.specs.Worlds.{World}
 use Rattle.roam_hub.specs.Servers.{ServerView, Stands as ServerStands}
 use Rattle.roam_hub.specs.Clients.{ClientView, Stands as ClientStands}
 use Rattle.roam_hub.specs.declared.clients.Heard.{Heard}

@@ -5,7 +5,7 @@ use Rattle.roam_turns.specs.declared.memory.RecordedCall.{RecordedCall}
 use Rattle.roam_turns.specs.declared.memory.RecordedCall.TheVariants as wrote
 use Rattle.roam_turns.specs.declared.memory.MemoryPorts.{MemoryPorts}
 use Rattle.roam_turns.specs.Calls.{PortCall}
-use Rattle.roam_turns.specs.Calls.PortCall.{Now, Received, NothingReceived, Sent, PaneLives, PaneGave, PaneGaveNothing, PaneTook, Showed}
+use Rattle.roam_turns.specs.Calls.PortCall.{Now, Received, NothingReceived, Sent, PaneGenerations, PaneGave, PaneGaveNothing, PaneTook, Showed}
 
 -- a call as it was written down
 abbrev pub call_of : RecordedCall → PortCall
@@ -13,7 +13,7 @@ call_of (wrote.Now moment) = Now moment
 call_of (wrote.Received room from bytes) = Received room from bytes.items
 call_of (wrote.NothingReceived room) = NothingReceived room
 call_of (wrote.Sent to bytes went) = Sent to bytes.items went
-call_of (wrote.PaneLives pane life) = PaneLives pane life
+call_of (wrote.PaneGenerations pane generation) = PaneGenerations pane generation
 call_of (wrote.PaneGave pane room bytes) = PaneGave pane room bytes.items
 call_of (wrote.PaneGaveNothing pane room) = PaneGaveNothing pane room
 call_of (wrote.PaneTook pane bytes n) = PaneTook pane bytes.items n

@@ -8,8 +8,8 @@ use Rattle.roam_cells.specs.declared.addresses.Addr.{Addr}
 use Rattle.roam_hub.specs.declared.addresses.Stop.{Stop}
 use Rattle.roam_hub.specs.declared.clients.Heard.{Heard}
 use Rattle.roam_turns.specs.Calls.{Parcel, PortCall, ServerCall, ClientCall}
-use Rattle.roam_turns.specs.Calls.PortCall.{Now, Sent, PaneLives, PaneGave, PaneGaveNothing, PaneTook, Showed}
-use Rattle.roam_turns.specs.Calls.ServerCall.{ToServer, Life, Room, PaneBytes, Output, Drain, ServerTick}
+use Rattle.roam_turns.specs.Calls.PortCall.{Now, Sent, PaneGenerations, PaneGave, PaneGaveNothing, PaneTook, Showed}
+use Rattle.roam_turns.specs.Calls.ServerCall.{ToServer, Generation, Room, PaneBytes, Output, Drain, ServerTick}
 use Rattle.roam_turns.specs.Calls.ClientCall.{Typed, ToClient, ClientTick}
 use Rattle.roam_turns.specs.declared.outer.Noted.{Noted}
 use Rattle.roam_turns.specs.Painting.{IsNoted, text_for}
@@ -36,8 +36,8 @@ abbrev pub IsToServer : ℕ → Addr → List ℕ → ServerCall → Type 0
 IsToServer now from bytes call = (answer : Result ℕ Stop) × (call ≡ ToServer from bytes now answer)
 
 -- the ports are told which making of a pane is there, as the server answers it
-abbrev pub TellsLife : ℕ → List (Call ServerCall) → Type 0
-TellsLife pane calls = (life : Option ℕ) × (calls ≡ Core (Life pane life) ∷ Port (PaneLives pane life) ∷ [])
+abbrev pub TellsGeneration : ℕ → List (Call ServerCall) → Type 0
+TellsGeneration pane calls = (generation : Option ℕ) × (calls ≡ Core (Generation pane generation) ∷ Port (PaneGenerations pane generation) ∷ [])
 
 -- there is room for the answers to a full piece: 12 bytes for each of 1,024
 abbrev pub TakesPiece : Option ℕ → Type 0
@@ -73,14 +73,14 @@ ServerTicks now calls =
     (answer : Result (List Parcel) Fault) × (sent : List PortCall)
     × (calls ≡ Core (ServerTick now answer) ∷ map Port sent) × Sends (sent_in answer) sent
 
--- the server's turn: the moment; at most 32 datagrams of up to 2,048 bytes; the lives of panes 1 to 9 are told, then these panes are asked,
--- then they are filled; a tick
+-- the server's turn: the moment; at most 32 datagrams of up to 2,048 bytes; the generations of panes 1 to 9 are told, then these panes are
+-- asked, then they are filled; a tick
 pub record ServeTurn (calls : List (Call ServerCall)) : Type 0 where
   pub now : ℕ
   pub rest : List (Call ServerCall)
   pub all : calls ≡ Port (Now now) ∷ rest
   pub parts : Then (ReceivesUpTo (IsToServer now) 2048 32)
-      (Then (Each TellsLife 1 9) (Then (Each AsksPane 1 9) (Then (Each FillsPane 1 9) (ServerTicks now)))) rest
+      (Then (Each TellsGeneration 1 9) (Then (Each AsksPane 1 9) (Then (Each FillsPane 1 9) (ServerTicks now)))) rest
 
 -- ---- the turn of a client start
 

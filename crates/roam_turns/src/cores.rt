@@ -5,7 +5,7 @@ ghost use Rattle.roam_screens.specs.Screenshot.{Screenshot};
 ghost use Rattle.roam_screens.specs.Shown.{shown_by};
 ghost use Rattle.roam_session.specs.Queues.{IsWithin};
 ghost use Rattle.roam_turns.specs.Calls.{Tells, ServerCall, ClientCall, copied_bytes, parcels_of, texts_in};
-ghost use Rattle.roam_turns.specs.Calls.ServerCall.{ToServer, Life, Room, PaneBytes, Output, Drain, ServerTick};
+ghost use Rattle.roam_turns.specs.Calls.ServerCall.{ToServer, Generation, Room, PaneBytes, Output, Drain, ServerTick};
 ghost use Rattle.roam_turns.specs.Calls.ClientCall.{Typed, ToClient, ClientTick};
 ghost use Rattle.roam_session.specs.Stands.{waiting_at};
 ghost use Rattle.roam_turns.specs.Cores.{server_step, client_step};
@@ -34,9 +34,9 @@ pub trait ServerCore {
         ensures step { step self.old (ToServer from bytes.now now result) self.new };
 
     /// Which making of a pane of this number is there, if any.
-    fn life(&mut self, pane: u8) -> Option<u64>
-        ensures tells { Tells (made self.old) (made self.new) (Life pane result ∷ []) }
-        ensures step { step self.old (Life pane result) self.new };
+    fn generation(&mut self, pane: u8) -> Option<u64>
+        ensures tells { Tells (made self.old) (made self.new) (Generation pane result ∷ []) }
+        ensures step { step self.old (Generation pane result) self.new };
 
     /// How many more bytes may wait for the program of a pane that is there.
     fn room(&mut self, pane: u8) -> Option<usize>
@@ -121,8 +121,8 @@ impl ServerCore for Server {
         Server::datagram(self, alloc, from, bytes, now)
     }
 
-    fn life(&mut self, pane: u8) -> Option<u64> {
-        Server::life(self, pane)
+    fn generation(&mut self, pane: u8) -> Option<u64> {
+        Server::generation(self, pane)
     }
 
     fn room(&mut self, pane: u8) -> Option<usize> {

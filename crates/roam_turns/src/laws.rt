@@ -1,5 +1,5 @@
 //! Laws of the definitions, each the contract of a function that does nothing when it runs.
-ghost use Rattle.roam_world.specs.Laws.{Always};
+ghost use Rattle.roam_model.specs.Laws.{Always};
 ghost use Rattle.roam_turns.specs.Hops.{IsReadyForTicks, OneHop};
 
 /// One hop. Where a tick of a server makes a number and offers it to a client start that is ready for it, and just the parcels to that

@@ -1,7 +1,7 @@
 //! Ports over memory, which tell their calls.
 ghost use Rattle.std.specs.Prelude.{◌≡◌, ◌≤◌, ◌⊎◌, ◌∷◌, ◌++◌, [], is_ok, if◌then◌else◌, not, length, min, take, vec_capacity, vec_len, OnErr, IfOk, IfSome, Some, None};
 ghost use Rattle.roam_turns.specs.Calls.{Tells, received_call, pane_gave};
-ghost use Rattle.roam_turns.specs.Calls.PortCall.{Now, Sent, PaneLives, PaneTook, Showed};
+ghost use Rattle.roam_turns.specs.Calls.PortCall.{Now, Sent, PaneGenerations, PaneTook, Showed};
 ghost use Rattle.roam_turns.specs.Giving.{next_call, goes_well, first_where, rest_where, is_first, gives_piece, receive_of, piece_of, Notes, Counts};
 ghost use Rattle.roam_turns.specs.Recording.{call_of, datagrams_of, pieces_of, told_of};
 
@@ -26,7 +26,7 @@ pub enum RecordedCall {
     Sent(Addr, Vec<u8>, bool),
 
     /// Which making of a pane is there, if any.
-    PaneLives(u8, Option<u64>),
+    PaneGenerations(u8, Option<u64>),
 
     /// What the program of a pane wrote, into room for so many bytes.
     PaneGave(u8, usize, Vec<u8>),
@@ -131,8 +131,8 @@ impl MemoryPorts {
         self.appetite = bytes;
     }
 
-    /// The call of this number fails, counted from 1 and from now on; none does at 0. A moment is told whatever fails, and the lives of
-    /// panes aren't counted.
+    /// The call of this number fails, counted from 1 and from now on; none does at 0. A moment is told whatever fails, and the generations
+    /// of panes aren't counted.
     pub fn fail_at(&mut self, call: u64)
         ensures fails { self.new ≡ record self.old { calls = 0; fails_at = call } }
     {
@@ -237,11 +237,11 @@ impl Ports for MemoryPorts {
         went
     }
 
-    fn pane_lives(&mut self, pane: u8, life: Option<u64>)
+    fn pane_generations(&mut self, pane: u8, generation: Option<u64>)
         ensures notes { Notes self.old self.new }
-        ensures tells { Tells (told_of self.old) (told_of self.new) (PaneLives pane life ∷ []) }
+        ensures tells { Tells (told_of self.old) (told_of self.new) (PaneGenerations pane generation ∷ []) }
     {
-        self.record(Ok(RecordedCall::PaneLives(pane, life)));
+        self.record(Ok(RecordedCall::PaneGenerations(pane, generation)));
     }
 
     fn pane_in(&mut self, pane: u8, buf: &mut [u8]) -> Option<usize>

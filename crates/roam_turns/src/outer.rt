@@ -161,8 +161,8 @@ impl Outer {
         Some(painting.text)
     }
 
-    /// Notes a screen under a number, as one that was told in another way than by a text for this terminal; tells whether it is noted. Where
-    /// that number is noted already nothing changes, and where memory is wanting.
+    /// Notes a screen under a number, as one that was told in another way than by a text for this terminal; tells whether it is noted.
+    /// Where that number is noted already nothing changes, and where memory is wanting.
     pub fn see(&mut self, alloc: Global, number: u64, screen: &Shown<'_>) -> bool
         ensures noted { result ≡ true → self.new ≡ Some (record { number = number; screen = shown_by screen.now }) }
         ensures stays { result ≡ false → self.new ≡ self.old }

@@ -2,7 +2,7 @@
 ghost use Rattle.std.specs.Prelude.{◌≡◌, ◌≤◌, ℕ, length, List, [], ◌∷◌, Option, None, IfSome, true};
 ghost use Rattle.std.specs.Io.KnownBytes.{Appends, Keeps};
 ghost use Rattle.roam_turns.specs.Calls.{PortCall, Tells, received_call, pane_gave};
-ghost use Rattle.roam_turns.specs.Calls.PortCall.{Now, Sent, PaneLives, PaneTook, Showed};
+ghost use Rattle.roam_turns.specs.Calls.PortCall.{Now, Sent, PaneGenerations, PaneTook, Showed};
 
 use roam_hub::Addr;
 
@@ -39,10 +39,10 @@ pub trait Ports {
 
     /// Tells which making of a pane, 1 to 9, is there, or that none is: a program that came to another one is let go, and nothing more of
     /// it is read.
-    fn pane_lives(&mut self, pane: u8, life: Option<u64>)
+    fn pane_generations(&mut self, pane: u8, generation: Option<u64>)
         ensures written { Keeps (written self.old) (written self.new) }
         ensures notice { notice self.new ≡ notice self.old }
-        ensures tells { Tells (told self.old) (told self.new) (PaneLives pane life ∷ []) };
+        ensures tells { Tells (told self.old) (told self.new) (PaneGenerations pane generation ∷ []) };
 
     /// Bytes that the program of pane 1 to 9 wrote: how many bytes of `buf` they fill from the front.
     fn pane_in(&mut self, pane: u8, buf: &mut [u8]) -> Option<usize>

@@ -1,7 +1,7 @@
 //! One turn of the server.
 ghost use Rattle.std.specs.Prelude.{◌↔◌, IsTrue};
 ghost use Rattle.roam_turns.specs.Parts.{Makes, Each, ReceivesUpTo};
-ghost use Rattle.roam_turns.specs.Turns.{TellsLife, TakesPiece, AsksPane, FillsPane, IsToServer, ServerTicks, ServeTurn};
+ghost use Rattle.roam_turns.specs.Turns.{TellsGeneration, TakesPiece, AsksPane, FillsPane, IsToServer, ServerTicks, ServeTurn};
 
 use crate::cores::ServerCore;
 use crate::ports::Ports;
@@ -36,20 +36,20 @@ fn receive_all<C: ServerCore, P: Ports>(alloc: Global, server: &mut C, ports: &m
 }
 
 // Tells the ports which making of a pane is there.
-fn tell_life<C: ServerCore, P: Ports>(server: &mut C, ports: &mut P, pane: u8)
-    ensures tells { Makes C.step (TellsLife pane) (P.told ports.old) (P.told ports.new)
+fn tell_generation<C: ServerCore, P: Ports>(server: &mut C, ports: &mut P, pane: u8)
+    ensures tells { Makes C.step (TellsGeneration pane) (P.told ports.old) (P.told ports.new)
         (C.made server.old) (C.made server.new) server.old server.new }
 {
-    let life = server.life(pane);
-    ports.pane_lives(pane, life);
+    let generation = server.generation(pane);
+    ports.pane_generations(pane, generation);
 }
 
-fn tell_lives<C: ServerCore, P: Ports>(server: &mut C, ports: &mut P)
-    ensures tells { Makes C.step (Each TellsLife 1 9) (P.told ports.old) (P.told ports.new)
+fn tell_generations<C: ServerCore, P: Ports>(server: &mut C, ports: &mut P)
+    ensures tells { Makes C.step (Each TellsGeneration 1 9) (P.told ports.old) (P.told ports.new)
         (C.made server.old) (C.made server.new) server.old server.new }
 {
     for number in 1..PANES_END {
-        tell_life(server, ports, number);
+        tell_generation(server, ports, number);
     }
 }
 
@@ -137,7 +137,7 @@ pub fn serve_turn<C: ServerCore, P: Ports>(alloc: Global, server: &mut C, ports:
 {
     let now = ports.now();
     receive_all(alloc, server, ports, now);
-    tell_lives(server, ports);
+    tell_generations(server, ports);
     ask_panes(server, ports);
     fill_panes(server, ports);
     tick_and_send(alloc, server, ports, now);

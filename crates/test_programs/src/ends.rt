@@ -2,7 +2,7 @@
 ghost use Rattle.std.specs.Prelude.{◌≤◌, length, IfOk};
 
 use roam_cells::Fault;
-use roam_command::asks_why;
+use roam_cli::asks_why;
 use roam_faults::{RunFault, end};
 use std::alloc::Global;
 use std::cell::Cell;

@@ -1,6 +1,7 @@
-//! What `roam rows` prints: the rows that leave by ECMA-48, the VT220 and this project's profile, and what becomes of records that are none.
+//! What `roam rows` prints: the rows that leave by ECMA-48, the VT220 and this project's profile, and what becomes of records that are
+//! none.
 use crate::streams::{Cut, Narrow};
-use roam_left_rows::{RowsFault, run_rows};
+use roam_scrollback_stream::{RowsFault, run_rows};
 use std::alloc::{AllocError, Global};
 use std::test::*;
 
@@ -234,15 +235,15 @@ fn records_that_are_none(rt: HostRuntime) {
 }
 
 // What these records tell, where bytes go through the filter or don't.
-fn told_of(alloc: Global, asked: &str, as_meant: bool) -> Result<Vec<u8>, RowsFault> {
+fn told_of(alloc: Global, asked: &str, normalize: bool) -> Result<Vec<u8>, RowsFault> {
     let mut out = Vec::new(alloc);
     let mut reader = Cut::new(asked.as_bytes(), 1, 1);
-    run_rows(alloc, as_meant, &mut reader, &mut out)?;
+    run_rows(alloc, normalize, &mut reader, &mut out)?;
     Ok(out)
 }
 
-fn are_told(alloc: Global, asked: &str, as_meant: bool, told: &str) -> bool {
-    matches!(told_of(alloc, asked, as_meant), Ok(out) if out.as_slice() == told.as_bytes())
+fn are_told(alloc: Global, asked: &str, normalize: bool, told: &str) -> bool {
+    matches!(told_of(alloc, asked, normalize), Ok(out) if out.as_slice() == told.as_bytes())
 }
 
 #[test]

@@ -1,5 +1,5 @@
 //! What the words ask for, and the texts of `clap` that a user reads.
-use roam_command::{Refusal, Request, Server, Source, Wire, read_words};
+use roam_cli::{Refusal, Request, Server, Source, Wire, read_words};
 use std::alloc::{AllocError, Global};
 use std::test::*;
 
@@ -126,15 +126,15 @@ fn texts_of_words(rt: HostRuntime) {
 const ASKED: &str = "\
 roam show --rows 2 --cols 8|show 2 8
 roam rows|rows
-roam rows --as-meant|rows as meant
+roam rows --normalize|rows normalized
 roam rows --rows 2|nothing
 roam world|world
 roam serve --dir d --port 4000 --session 5E55 --turns 9|serve d 4000 24149 9
 roam serve --dir d --port 4000 --session 5E55|serve d 4000 24149 18446744073709551615
 roam serve --dir d|serve d - - 18446744073709551615
 roam serve --dir d --session 5E55|serve d - 24149 18446744073709551615
-roam serve --dir d --as-meant --turns 9|serve d - - 9 as meant
-roam serve --dir d --as-meant 1|nothing
+roam serve --dir d --normalize --turns 9|serve d - - 9 normalized
+roam serve --dir d --normalize 1|nothing
 roam serve --dir d --port 4000|nothing
 roam serve --port 4000 --session 5E55|nothing
 roam attach --turns 18446744073709551615 --keys k --client ffffffffffffffff --session 0 --port 1|\
@@ -189,8 +189,15 @@ fn text_of_source(alloc: Global, source: &Source<'_>) -> Result<String, AllocErr
 fn text_of(alloc: Global, request: &Request<'_>) -> Result<String, AllocError> {
     match request {
         Request::Show { rows, cols } => format!(in alloc; "show {rows} {cols}"),
-        Request::Rows { as_meant } => {
-            String::from_str(alloc, if *as_meant { "rows as meant" } else { "rows" })
+        Request::Rows { normalize } => {
+            String::from_str(
+                alloc,
+                if *normalize {
+                    "rows normalized"
+                } else {
+                    "rows"
+                },
+            )
         }
         Request::World => String::from_str(alloc, "world"),
         Request::Serve {
@@ -198,11 +205,11 @@ fn text_of(alloc: Global, request: &Request<'_>) -> Result<String, AllocError> {
             port,
             session,
             turns,
-            as_meant,
+            normalize,
         } => {
             let port = text_or_none(alloc, &port.map(u64::from))?;
             let session = text_or_none(alloc, session)?;
-            let how = if *as_meant { " as meant" } else { "" };
+            let how = if *normalize { " normalized" } else { "" };
             format!(in alloc; "serve {folder} {port} {session} {turns}{how}")
         }
         Request::Attach {

@@ -1,7 +1,7 @@
 //! What `roam world` prints: scripts with the answers that the rules ask for, and what becomes of a run that fails.
 use crate::streams::{Cut, Narrow};
 use roam_faults::RunFault;
-use roam_play::run_world;
+use roam_world_run::run_world;
 use std::alloc::{AllocError, Global};
 use std::test::*;
 

@@ -72,7 +72,7 @@ fn is_term(alloc: Global, called: bool) -> bool {
     }
 }
 
-// Bytes of a pane, keys, what waits, marks, lives.
+// Bytes of a pane, keys, what waits, marks, generations.
 fn call_panes(session: &mut Session) -> Result<bool, Fault> {
     let mut out = [0; 64];
     for piece in [WHOLE.as_bytes(), BROKEN, ENDS.as_bytes()] {
@@ -83,7 +83,7 @@ fn call_panes(session: &mut Session) -> Result<bool, Fault> {
     Ok(
         count > 0
             && session.marks().get(0).copied() == Some(true)
-            && session.life(1) == Some(1)
+            && session.generation(1) == Some(1)
             && session.room(1) == Some(65_536),
     )
 }
@@ -117,7 +117,7 @@ fn call_server(server: &mut Server) -> Result<bool, Fault> {
     server.pane_bytes(1, b"\x1B[c")?;
     let count = server.output(1, &mut out)?;
     server.drain(1, count)?;
-    Ok(count == 8 && server.room(1) == Some(65_536) && server.life(2) == None)
+    Ok(count == 8 && server.room(1) == Some(65_536) && server.generation(2) == None)
 }
 
 fn is_server(alloc: Global, called: bool) -> bool {

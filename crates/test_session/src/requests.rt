@@ -4,10 +4,10 @@
 //! piece of 1,025 letters; `drain PANE COUNT`, at most as many as wait; or an act; `times COUNT` before one asks it so often. One that is
 //! to be refused has the refusal before it, as `no pane: drain 2 0`. `kept` keeps the face, before which all rows are marked. Other lines
 //! tell what is so: `waits PANE |TEXT|`, `room PANE COUNT` and `length PANE COUNT` of its bytes that wait; `none PANE`, that there is
-//! none; `lives`, the lives of the panes from 1 on; `marked`, the rows that are marked, from 1; `digits`, that each pane of nine shows its
-//! number. Behind `shows` come rows of the face from the first, whose blanks at the end may be left out, the cursor, and its `extent`. A
-//! size that is refused has the refusal in its place. Control characters and spaces at the end are written as their pictures (U+2400 to
-//! U+2420).
+//! none; `generations`, the generations of the panes from 1 on; `marked`, the rows that are marked, from 1; `digits`, that each pane of
+//! nine shows its number. Behind `shows` come rows of the face from the first, whose blanks at the end may be left out, the cursor, and its
+//! `extent`. A size that is refused has the refusal in its place. Control characters and spaces at the end are written as their pictures
+//! (U+2400 to U+2420).
 use crate::memory::face_of;
 use crate::words::{bytes_of, halves, reads_numbers, short, word_of};
 use roam_acts::read_act;
@@ -99,12 +99,12 @@ fn is_none(session: &Session, pane: u8) -> bool {
     session.output(pane, &mut [0; 64]) == Err(Fault::NoPane)
         && session.output_len(pane).is_none()
         && session.room(pane).is_none()
-        && session.life(pane).is_none()
+        && session.generation(pane).is_none()
 }
 
 fn live(session: &Session, words: &str) -> bool {
     for (k, word) in words.split(' ').enumerate() {
-        if session.life((k % 9) as u8 + 1) != word.parse::<u64>().ok() {
+        if session.generation((k % 9) as u8 + 1) != word.parse::<u64>().ok() {
             return false;
         }
     }

@@ -1,8 +1,8 @@
 //! Whole runs of a start whose terminal comes to a door in memory, where nobody answers.
 use roam_hub::{Addr, Client};
 use roam_outer_terminal::{End, Opaque};
+use roam_shared_client::{Door, Listening, SharedClient, run_shared};
 use roam_sockets::loopback;
-use roam_terminals::{Door, Listening, SharedStart, run_shared};
 use roam_turns::{MemoryPorts, Ports};
 use std::alloc::Global;
 use std::io;
@@ -66,8 +66,8 @@ impl<'a> Ports for MemoryDoor<'a> {
         self.ports.send(to, bytes)
     }
 
-    fn pane_lives(&mut self, pane: u8, life: Option<u64>) {
-        self.ports.pane_lives(pane, life);
+    fn pane_generations(&mut self, pane: u8, generation: Option<u64>) {
+        self.ports.pane_generations(pane, generation);
     }
 
     fn pane_in(&mut self, pane: u8, buf: &mut [u8]) -> Option<usize> {
@@ -119,7 +119,7 @@ struct Run {
 impl Run {
     // Whether it goes so.
     fn is_so(&self, alloc: Global) -> Result<bool, Fail> {
-        let mut shared = SharedStart::new(alloc, Client::new(alloc, 1, 0xA1)?);
+        let mut shared = SharedClient::new(alloc, Client::new(alloc, 1, 0xA1)?);
         let mut door = Listening::new(MemoryDoor {
             ports: MemoryPorts::new(alloc),
             coming: self.text.map(|text| TypedStream::new(text)),

@@ -4,7 +4,7 @@
 //! `gone PATH` see whether there is one; `bound FOLDER` binds the sockets of a server there, and leaves their files; `refused FOLDER` may
 //! not bind them, `-` being a folder without a name.
 use roam_faults::RunFault;
-use roam_serving::{OwnStart, ServerPorts};
+use roam_serve::{OwnStart, ServerPorts};
 use roam_sockets::Moments;
 use std::fs::{create_dir, exists, remove_file, write};
 use std::os::unix::fs::symlink;
@@ -14,7 +14,7 @@ use std::test::*;
 pub fn ports_for<'a>(
     rt: &'a HostRuntime,
     folder: &str,
-    as_meant: bool,
+    normalize: bool,
 ) -> Result<ServerPorts<&'a HostRuntime>, RunFault> {
     ServerPorts::bind(
         rt,
@@ -26,7 +26,7 @@ pub fn ports_for<'a>(
             session: 1,
             id: 0xFF,
         },
-        as_meant,
+        normalize,
     )
 }
 

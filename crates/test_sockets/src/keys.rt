@@ -2,7 +2,7 @@
 use roam_acts::Act;
 use roam_cells::Fault;
 use roam_faults::RunFault;
-use roam_typing::{Typist, acts_of};
+use roam_terminal_input::{Typist, acts_of};
 use std::alloc::Global;
 use std::test::*;
 

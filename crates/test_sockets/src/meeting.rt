@@ -10,11 +10,11 @@ ghost use Rattle.roam_turns.specs.Painting.{IsBehind};
 
 use crate::programs::Programs;
 use roam_acts::{Act, Key, read_act};
-use roam_attaching::{ClientPorts, Connection};
+use roam_attach::{ClientPorts, Connection};
 use roam_hub::{Addr, Client, Server};
-use roam_pane_list::{ListedPane, PaneList};
+use roam_pane_protocol::{ListedPane, PaneList};
 use roam_screens::Seen;
-use roam_serving::{OwnStart, ServerPorts};
+use roam_serve::{OwnStart, ServerPorts};
 use roam_sockets::{Moments, loopback};
 use roam_turns::{Outer, attach_turn, serve_turn};
 use std::alloc::Global;
@@ -52,9 +52,9 @@ pub fn shows(client: &Client, c: char) -> bool {
     }
 }
 
-/// The first program asks for pane 2 of a life to be closed.
-fn asks(alloc: Global, programs: &mut Programs, life: u64) -> bool {
-    match format!(in alloc; "close 2 {life}\n") {
+/// The first program asks for pane 2 of a generation to be closed.
+fn asks(alloc: Global, programs: &mut Programs, generation: u64) -> bool {
+    match format!(in alloc; "close 2 {generation}\n") {
         Ok(line) => programs.first_writes(line.as_str()),
         Err(_) => false,
     }
@@ -77,7 +77,7 @@ impl<'a> ServerEnd<'a> {
     fn listed(&self, pane: u8) -> Option<ListedPane> {
         let rect = self.server.rect(pane)?;
         Some(ListedPane {
-            life: self.server.life(pane)?,
+            generation: self.server.generation(pane)?,
             row: rect.row,
             col: rect.col,
             rows: rect.rows,
@@ -180,14 +180,14 @@ impl<'a> Meeting<'a> {
         };
         let is_typed = self.types(alloc, moment, &next, &split);
         self.turns(alloc, moment + 10, None);
-        let Some(life) = self.home.server.life(2) else {
+        let Some(generation) = self.home.server.generation(2) else {
             return false;
         };
         self.home.tells();
-        let is_asked = asks(alloc, programs, life);
+        let is_asked = asks(alloc, programs, generation);
         self.home.tells();
         self.turns(alloc, moment + 20, None);
-        is_typed && is_asked && self.home.server.life(2).is_none()
+        is_typed && is_asked && self.home.server.generation(2).is_none()
     }
 
     fn closes(&mut self, alloc: Global, programs: &mut Programs) -> bool

@@ -1,11 +1,11 @@
 //! The sockets of a server, as text: what its ports and two programs do, and what stands in its folder.
 //!
 //! A line begins with `first` or `second`, one of the programs, with what it does; with `files`, with what is seen of them; with `pane` and
-//! its number: `lives N` or `goes`, `gives TEXT` or `gives nothing`, `takes TEXT` or `takes nothing of TEXT`; with `told`, panes 1 and 2,
-//! each with its life, its first row and its rows or `none`, of which a program that follows them is told (pane 2 is in focus where it is
-//! there), and how many client starts edit and watch, where that is known; with `beside` and a moment, at which what stands beside the
-//! panes' terminals is told; with `clips` and a moment, at which texts for the clipboard are, or with `asks` and one, at which questions
-//! are; with `moment N is M`: where a clock tells N, the moment is M.
+//! its number: `generations N` or `goes`, `gives TEXT` or `gives nothing`, `takes TEXT` or `takes nothing of TEXT`; with `told`, panes 1
+//! and 2, each with its generation, its first row and its rows or `none`, of which a program that follows them is told (pane 2 is in focus
+//! where it is there), and how many client starts edit and watch, where that is known; with `beside` and a moment, at which what stands
+//! beside the panes' terminals is told; with `clips` and a moment, at which texts for the clipboard are, or with `asks` and one, at which
+//! questions are; with `moment N is M`: where a clock tells N, the moment is M.
 //! `wait ends` where something came before 20 seconds have passed, `wait lasts` where nothing comes, 50 milliseconds, `wait passes`,
 //! whatever comes. `files are removed` by the ports. `start asks ACT, ACT` or `is quiet`: a datagram of the server's own start comes, with
 //! these acts, or none.
@@ -13,8 +13,8 @@ use crate::acts::has;
 use crate::files::{first_untrue, is_so, ports_for};
 use crate::programs::Programs;
 use roam_faults::RunFault;
-use roam_pane_list::{ListedPane, PaneList};
-use roam_serving::ServerPorts;
+use roam_pane_protocol::{ListedPane, PaneList};
+use roam_serve::ServerPorts;
 use roam_turns::Ports;
 use std::alloc::Global;
 use std::test::*;
@@ -25,10 +25,10 @@ const LONG: u64 = 20_000;
 
 const SHORT: u64 = 50;
 
-fn lives(ports: &mut ServerPorts<&HostRuntime>, pane: u8, life: &str) -> bool {
-    match life.parse::<u64>() {
-        Ok(life) => {
-            ports.pane_lives(pane, Some(life));
+fn generations(ports: &mut ServerPorts<&HostRuntime>, pane: u8, generation: &str) -> bool {
+    match generation.parse::<u64>() {
+        Ok(generation) => {
+            ports.pane_generations(pane, Some(generation));
             true
         }
         Err(_) => false,
@@ -54,10 +54,10 @@ fn is_pane(ports: &mut ServerPorts<&HostRuntime>, pane: u8, words: &str) -> bool
     let (verb, rest) = words.split_once(' ').unwrap_or((words, ""));
     match verb {
         "goes" => {
-            ports.pane_lives(pane, None);
+            ports.pane_generations(pane, None);
             true
         }
-        "lives" => lives(ports, pane, rest),
+        "lives" => generations(ports, pane, rest),
         "gives" => gives(ports, pane, rest),
         "takes" => takes(ports, pane, rest),
         _ => false,
@@ -78,10 +78,10 @@ fn pane_of(words: &str) -> Option<Option<ListedPane>> {
     if words == "none" {
         return Some(None);
     }
-    let (life, place) = words.split_once(' ')?;
+    let (generation, place) = words.split_once(' ')?;
     let (row, rows) = place.split_once(' ')?;
     Some(Some(ListedPane {
-        life: life.parse::<u64>().ok()?,
+        generation: generation.parse::<u64>().ok()?,
         row: row.parse::<u16>().ok()?,
         col: 1,
         rows: rows.parse::<u16>().ok()?,
@@ -101,7 +101,7 @@ fn panes(first: Option<ListedPane>, second: Option<ListedPane>) -> PaneList {
 /// Puts how many client starts edit, and how many watch.
 fn counted(panes: &mut PaneList, words: &str) -> Option<()> {
     let (starts, watchers) = words.split_once(' ')?;
-    panes.set_starts(starts.parse::<u16>().ok()?);
+    panes.set_clients(starts.parse::<u16>().ok()?);
     panes.set_watchers(watchers.parse::<u16>().ok()?);
     Some(())
 }
@@ -154,9 +154,9 @@ fn is_now(ports: &mut ServerPorts<&HostRuntime>, words: &str) -> bool {
 }
 
 // At this moment what stands beside the panes' terminals is told.
-fn is_beside(ports: &mut ServerPorts<&HostRuntime>, words: &str) -> bool {
+fn is_metadata(ports: &mut ServerPorts<&HostRuntime>, words: &str) -> bool {
     let is_moment = is_now(ports, words);
-    ports.tell_beside();
+    ports.tell_metadata();
     is_moment
 }
 
@@ -168,9 +168,9 @@ fn are_clips(ports: &mut ServerPorts<&HostRuntime>, words: &str) -> bool {
 }
 
 // At this moment what the panes' programs ask is told.
-fn are_asks(ports: &mut ServerPorts<&HostRuntime>, words: &str) -> bool {
+fn are_queries(ports: &mut ServerPorts<&HostRuntime>, words: &str) -> bool {
     let is_moment = is_now(ports, words);
-    ports.tell_asks();
+    ports.tell_queries();
     is_moment
 }
 
@@ -233,9 +233,9 @@ fn is_done(
     match who {
         "pane" => Ok(is_numbered(ports, words)),
         "told" => Ok(is_told(rt.alloc(), ports, words)),
-        "beside" => Ok(is_beside(ports, words)),
+        "beside" => Ok(is_metadata(ports, words)),
         "clips" => Ok(are_clips(ports, words)),
-        "asks" => Ok(are_asks(ports, words)),
+        "asks" => Ok(are_queries(ports, words)),
         "moment" => Ok(is_moment(ports, words)),
         "files" => are_files(rt, ports, words),
         "start" => Ok(is_start(rt.alloc(), ports, words)),
@@ -259,19 +259,19 @@ fn first_undone<'a>(
     Ok(None)
 }
 
-// The ports in a folder, of a server whose panes' bytes go on as they are meant where `as meant` stands behind it.
+// The ports in a folder, of a server whose panes' bytes go on as they are meant where `as normalized` stands behind it.
 fn ports_of<'a>(
     rt: &'a HostRuntime,
     words: &str,
 ) -> Result<ServerPorts<&'a HostRuntime>, RunFault> {
-    match words.strip_suffix(" as meant") {
+    match words.strip_suffix(" normalized") {
         Some(folder) => ports_for(rt, folder, true),
         None => ports_for(rt, words, false),
     }
 }
 
-// The first line that isn't so of a story: of files alone, or, behind a line `ports FOLDER`, or one with `as meant`, of the sockets there
-// too.
+// The first line that isn't so of a story: of files alone, or, behind a line `ports FOLDER`, or one with `as normalized`, of the sockets
+// there too.
 fn first_wrong<'a>(rt: &HostRuntime, story: &'a str) -> Result<Option<&'a str>, Fail> {
     let (ready, rest) = story.split_once("\nports ").unwrap_or((story, ""));
     let wrong = first_untrue(rt, ready)?;
@@ -306,34 +306,35 @@ fn first_wrong_of<'a>(rt: &HostRuntime, stories: &'a str) -> Result<Option<&'a s
 /// One peer at a time: that the first program left is read before what the second wrote. Those that left before they were taken are let go
 /// at once.
 ///
-/// Bytes as they are meant: whole, cut, more of them than the buffer has room for; what is held back of one life never comes in another.
+/// Bytes as they are meant: whole, cut, more of them than the buffer has room for; what is held back of one generation never comes in
+/// another.
 ///
 /// A program follows the panes: one pane, two, one of them sized and the other moved, closed and made anew in one turn, closed; and how
 /// many client starts there are.
 ///
 /// What stands beside a pane's terminal is told to who asked for it: as it is, and then what is new, each 20 ms at most, and bells once a
-/// second at most; of another life of the pane what is new in it.
+/// second at most; of another generation of the pane what is new in it.
 ///
 /// Texts for the clipboard are told to who asked for them, the newest, once a second at most: none that was said before, and none for a
-/// question; of another life of the pane those of it.
+/// question; of another generation of the pane those of it.
 ///
-/// They are told beside the rest, in either order; who didn't ask for them is told what he was, and so is the keeper of shells.
+/// They are told beside the rest, in either order; who didn't ask for them is told what he was, and so is the pty host.
 ///
 /// What a pane's program asks of its terminal is told to who asked for that, at once, as it comes: none that was asked before, each once
-/// and in its order; of another life of the pane what is asked in it.
+/// and in its order; of another generation of the pane what is asked in it.
 ///
 /// Frames, where bytes go as they are meant: one is held together until it ends, or for 150 ms; what comes before it isn't held, nor what
 /// comes behind one that was held for so long; one that begins within another is no other. Of one for which there is no room at once its
-/// beginning goes alone, and the moment stands still until its end goes, 50 ms at most. Of another life of the pane none is left.
+/// beginning goes alone, and the moment stands still until its end goes, 50 ms at most. Of another generation of the pane none is left.
 ///
 /// Programs follow and close. Two are told each what is new for it; a line that asks for no close, for one of a pane that is gone, or of
 /// the last pane; of two closes the second waits until a turn was taken with the first, and a pane that is still there then may be closed
 /// again. What a start asks for stands behind what wasn't acknowledged, and a start that was let go takes that with it.
 ///
-/// A program says that it is the keeper of shells, and then another one: the first is let go, and the second is told what is new.
+/// A program says that it is the pty host, and then another one: the first is let go, and the second is told what is new.
 ///
-/// Sixty-three programs follow the panes, beside whom a place is the keeper's: another one is told and let go, but if it is the keeper; one
-/// that comes when 65 are there isn't told anything.
+/// Sixty-three programs follow the panes, beside whom a place is the pty host's: another one is told and let go, but if it is the pty host;
+/// one that comes when 65 are there isn't told anything.
 ///
 /// Ninety-six client starts are there, and another one is let go.
 ///
@@ -421,7 +422,7 @@ pane 1 gives third
 files are removed
 
 folder meant
-ports meant as meant
+ports meant normalized
 first connects meant/p1
 pane 1 lives 1
 pane 1 gives nothing
@@ -461,7 +462,7 @@ first reads 1 1 1 12 80 1/2 14 1 10 80 1/
 told 1 1 12, 2 14 10
 first reads 2 gone/2 14 1 10 80 2/
 told 1 1 12, 2 14 10, 3 0
-first reads starts 3 of 64/watchers 0 of 16/
+first reads clients 3 of 64/watchers 0 of 16/
 told 1 1 23, none, 3 1
 first reads 1 1 1 23 80 1/2 gone/focus 1/watchers 1 of 16/
 files are removed
@@ -470,13 +471,13 @@ files gone follows/panes
 folder keepers
 ports keepers
 first connects keepers/panes
-first types keeper/
+first types host/
 told 1 1 23, none
 first reads 1 1 1 23 80 1/focus 1/
 second connects keepers/panes
 told 1 1 23, none
 second reads 1 1 1 23 80 1/focus 1/
-second types keeper/
+second types host/
 told 1 1 23, none
 first is let go
 told 1 1 22, none
@@ -495,7 +496,7 @@ told 1 1 23, none
 first reads 1 1 1 23 80 1/focus 1/
 first is let go
 first connects places/panes
-first types keeper/
+first types host/
 told 1 1 23, none
 first reads 1 1 1 23 80 1/focus 1/
 first waits
@@ -549,7 +550,7 @@ told 1 1 23, none
 second reads 1 1 1 23 80 1/focus 1/
 wait ends
 wait lasts
-second types beside/
+second types metadata/
 wait ends
 files are removed
 
@@ -562,7 +563,7 @@ pane 1 gives \u{1b}[?2004h\u{1b}]0;\u{e9}\u{7}
 first writes \u{7}
 pane 1 gives \u{7}
 second connects besides/panes
-second types beside/
+second types metadata/
 told 1 1 23, none
 second reads 1 1 1 23 80 1/focus 1/
 beside 0
@@ -604,7 +605,7 @@ pane 1 lives 1
 first writes \u{1b}]52;c;YQ==\u{7}
 pane 1 gives \u{1b}]52;c;YQ==\u{7}
 second connects clips/panes
-second types clips/
+second types clipboard/
 told 1 1 23, none
 second reads 1 1 1 23 80 1/focus 1/
 clips 0
@@ -644,7 +645,7 @@ ports both
 first connects both/p1
 pane 1 lives 1
 second connects both/panes
-second types clips/beside/
+second types clipboard/metadata/
 told 1 1 23, none
 second reads 1 1 1 23 80 1/focus 1/
 beside 0
@@ -657,7 +658,7 @@ clips 20
 second reads bell 1 1/clip 1 1 YQ==/
 second leaves
 second connects both/panes
-second types beside/
+second types metadata/
 told 1 1 23, none
 second reads 1 1 1 23 80 1/focus 1/
 beside 2000
@@ -667,7 +668,7 @@ pane 1 gives \u{1b}]52;c;Yg==\u{7}\u{7}
 beside 4000
 clips 4000
 second reads bell 1 1/
-second types clips/keeper/
+second types clipboard/host/
 told 1 1 23, none
 clips 6000
 first writes \u{1b}]52;c;Yw==\u{7}
@@ -683,38 +684,38 @@ pane 1 lives 1
 first writes \u{1b}[>q
 pane 1 gives \u{1b}[>q
 second connects asked/panes
-second types asks/beside/
+second types queries/metadata/
 told 1 1 23, none
 second reads 1 1 1 23 80 1/focus 1/
 asks 0
 second waits
 first writes \u{1b}]11;?\u{7}\u{1b}[c
 pane 1 gives \u{1b}]11;?\u{7}\u{1b}[c
-second reads asks 1 1 background bell/
+second reads query 1 1 background bell/
 asks 1
 second waits
 first writes a\u{1b}[?2026h
 pane 1 gives a\u{1b}[?2026h
 first writes \u{1b}[?2026$p
 pane 1 gives \u{1b}[?2026$p
-second reads asks 1 1 frames set/
+second reads query 1 1 frames set/
 first writes \u{1b}[>q\u{1b}]10;?\u{1b}\\\u{1b}[>q
 pane 1 gives \u{1b}[>q\u{1b}]10;?\u{1b}\\\u{1b}[>q
-second reads asks 1 1 version/asks 1 1 foreground/asks 1 1 version/
+second reads query 1 1 version/query 1 1 foreground/query 1 1 version/
 first writes \u{1b}[?2004$p
 pane 1 gives \u{1b}[?2004$p
-second reads asks 1 1 pastes/
+second reads query 1 1 pastes/
 pane 1 lives 2
 first connects asked/p1
 asks 2
 second waits
 first writes \u{1b}[>q
 pane 1 gives \u{1b}[>q
-second reads asks 1 2 version/
+second reads query 1 2 version/
 files are removed
 
 folder frames
-ports frames as meant
+ports frames normalized
 first connects frames/p1
 pane 1 lives 1
 asks 0

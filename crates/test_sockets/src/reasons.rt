@@ -5,10 +5,10 @@
 //! acts; `sockets` of a server can't be bound in the folder, or, `alone`, in one that is to be the user's alone.
 use crate::scenes::Scene;
 use crate::systems::System;
-use roam_attaching::{Attach, Home, Typed, tell_end, tell_failed};
+use roam_attach::{Attach, Home, Typed, tell_end, tell_failed};
 use roam_faults::RunFault;
 use roam_outer_terminal::End;
-use roam_serving::{Serve, run_serve, tell_unbound};
+use roam_serve::{Serve, run_serve, tell_unbound};
 use roam_wire::Version;
 use std::test::*;
 
@@ -96,7 +96,7 @@ fn is_unbound(rt: &HostRuntime, folder: &str, port: Option<u16>, line: &str) -> 
         port,
         session: None,
         turns: 1,
-        as_meant: false,
+        normalize: false,
     };
     let system = system_of(rt);
     tell_unbound(&system, &serve);
@@ -151,7 +151,7 @@ pub fn is_asked_port_untold(rt: &HostRuntime, port: Option<u16>) -> bool {
         port,
         session: Some(1),
         turns: 1,
-        as_meant: false,
+        normalize: false,
     };
     let system = system_of(rt);
     let ended = run_serve(&system, &serve);
@@ -167,7 +167,7 @@ pub fn is_unserved(rt: &HostRuntime, folder: &str) -> bool {
         port: Some(0),
         session: Some(1),
         turns: 3,
-        as_meant: false,
+        normalize: false,
     };
     let system = System::new(rt, Scene::new(rt.alloc(), line, None, None));
     let ended = run_serve(&system, &serve);

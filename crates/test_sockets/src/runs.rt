@@ -15,14 +15,12 @@ use crate::reasons::{
     are_ends_told, first_untold, is_asked_port_untold, is_port_told, is_unserved,
 };
 use crate::stories::first_wrong_story;
-use roam_attaching::{
-    Attach, ClientPorts, Connection, Home, Typed, client_for, follow, run_attach,
-};
+use roam_attach::{Attach, ClientPorts, Connection, Home, Typed, client_for, follow, run_attach};
 use roam_faults::RunFault;
 use roam_outer_terminal::End;
-use roam_serving::{Serve, run_serve};
+use roam_serve::{Serve, run_serve};
 use roam_sockets::Moments;
-use roam_typing::Typist;
+use roam_terminal_input::Typist;
 use roam_wire::Version;
 use std::alloc::{AllocError, Global};
 use std::fs::{DirBuilder, create_dir, remove_file, write};
@@ -70,7 +68,7 @@ fn serves(rt: &HostRuntime, folder: &str, port: Option<u16>, word: &str) -> bool
         port,
         session: port.map(|_| 1),
         turns: 3,
-        as_meant: false,
+        normalize: false,
     };
     match run_serve(rt, &serve) {
         Ok(()) => word == "well",

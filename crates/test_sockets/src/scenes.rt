@@ -9,11 +9,11 @@ use crate::doors::TypedStream;
 use crate::meeting::{ServerEnd, shows};
 use crate::programs::{Programs, are};
 use mio::net::UnixListener;
-use roam_attaching::Connection;
+use roam_attach::Connection;
 use roam_hub::{Addr, Client};
 use roam_outer_terminal::Opaque;
+use roam_shared_client::{Listening, SharedClient};
 use roam_sockets::{Moments, loopback};
-use roam_terminals::{Listening, SharedStart};
 use std::alloc::Global;
 use std::fmt::Display;
 use std::fs::{exists, metadata, read};
@@ -38,7 +38,7 @@ const HOME: Addr = Addr {
 /// A client start with a terminal in memory, and where its server is.
 #[derive(Drop)]
 struct Visitor<'a> {
-    shared: SharedStart<Opaque<TypedStream<'static>>>,
+    shared: SharedClient<Opaque<TypedStream<'static>>>,
     ports: Listening<Connection<&'a HostRuntime>>,
     home: Addr,
 }
@@ -50,7 +50,7 @@ fn visitor_of<'a>(
     home: Addr,
 ) -> Option<Visitor<'a>> {
     let client = Client::new(rt.alloc(), BY_CHANCE, id).ok()?;
-    let mut shared = SharedStart::new(rt.alloc(), client);
+    let mut shared = SharedClient::new(rt.alloc(), client);
     let typing = Opaque::new(TypedStream::new("char 62\nsplit right\n"));
     shared.add(rt.alloc(), typing).ok()?;
     Some(Visitor {

@@ -4,7 +4,7 @@
 //! not (`unknown`); or with `shows TEXT` or `shows nothing for TEXT`; `reads TEXT`, which the outer terminal reads next, where `10 s` and
 //! `11 s` stand for the notices of as many seconds; `hears`: a datagram comes to the client start; `is` and what is so then.
 use mio::net::UdpSocket;
-use roam_attaching::{ClientPorts, Connection};
+use roam_attach::{ClientPorts, Connection};
 use roam_outer_terminal::End;
 use roam_sockets::{Moments, loopback};
 use roam_turns::Ports;

@@ -9,10 +9,10 @@ use crate::files::first_untrue;
 use crate::meeting::{ServerEnd, server_end};
 use crate::scenes::Scene;
 use crate::systems::System;
-use roam_attaching::{Attach, Home, Typed, run_attach};
+use roam_attach::{Attach, Home, Typed, run_attach};
 use roam_faults::RunFault;
 use roam_outer_terminal::End;
-use roam_serving::{Serve, run_serve};
+use roam_serve::{Serve, run_serve};
 use roam_sockets::listen;
 use roam_wire::Version;
 use std::fs::{create_dir, write};
@@ -71,7 +71,7 @@ fn first_of_serving<'a>(rt: &'a HostRuntime, story: &Story<'a>) -> Result<Option
         port: Some(0),
         session: None,
         turns: TURNS,
-        as_meant: story.verb == "means",
+        normalize: story.verb == "means",
     };
     let ended = run_serve(&system, &serve);
     let is_well = ended.is_ok() && story.end == "well";
@@ -211,18 +211,18 @@ alone whole/session
 holds whole/session 101010101010101/
 first connects whole/panes
 first sees 1 1 1 23 80 1
-first types beside/clips/asks/
+first types metadata/clipboard/queries/
 second connects whole/p1
 second writes a
 start calls
-first sees starts 1 of 64
+first sees clients 1 of 64
 start shows a
 second sees b
 first sees focus 2
 first types close 2 1 1/
 first sees 2 gone
 start comes whole
-first sees starts 3 of 64
+first sees clients 3 of 64
 start shows a
 second sees b
 second writes \u{1b}[?3hd\u{7}
@@ -231,7 +231,7 @@ start shows a
 second writes \u{1b}]52;c;YQ==\u{7}
 first sees clip 1 1 YQ==
 second writes \u{1b}[>q
-first sees asks 1 1 version
+first sees query 1 1 version
 ends well
 gone whole/p1
 gone whole/panes

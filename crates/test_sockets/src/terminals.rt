@@ -9,8 +9,8 @@ use crate::programs::Programs;
 use mio::net::{UnixListener, UnixStream};
 use roam_hub::Client;
 use roam_outer_terminal::Opaque;
+use roam_shared_client::{Listening, SharedClient};
 use roam_sockets::{listen, loopback};
-use roam_terminals::{Listening, SharedStart};
 use roam_turns::MemoryPorts;
 use std::alloc::Global;
 use std::fs::create_dir;
@@ -20,7 +20,7 @@ use std::test::*;
 #[derive(Drop)]
 struct Place {
     listener: UnixListener,
-    shared: SharedStart<Opaque<UnixStream>>,
+    shared: SharedClient<Opaque<UnixStream>>,
     ports: Listening<MemoryPorts>,
     server: Echoing,
 }
@@ -32,7 +32,7 @@ fn place_at(rt: &HostRuntime, path: &str) -> Result<Option<Place>, Fail> {
     let client = Client::new(rt.alloc(), 1, 0xA1)?;
     Ok(Some(Place {
         listener,
-        shared: SharedStart::new(rt.alloc(), client),
+        shared: SharedClient::new(rt.alloc(), client),
         ports: Listening::new(MemoryPorts::new(rt.alloc())),
         server: Echoing::new(rt.alloc())?,
     }))
@@ -134,7 +134,7 @@ fn first_wrong<'a>(rt: &HostRuntime, path: &str, lines: &'a str) -> Result<Optio
 
 /// The screen numbered 0 opens each terminal. Acts of one line are typed all or none, none of a terminal that only watches; a line that
 /// asks for nothing ends its terminal alone, and one that isn't ended is let go with it; lines that came whole are typed however soon their
-/// terminal left; `repaint` opens the terminal that says it. What is guessed of a first key isn't shown.
+/// terminal left; `repaint` opens the terminal that says it. What is predicted of a first key isn't shown.
 const LINES: &str = "\
 first connects shared/terminals
 second connects shared/terminals
@@ -192,7 +192,7 @@ terminals 0
 second connects shared/terminals
 round
 second reads \x1Bc\x1B[?25l\x1B[0m\x1B[1;1H\x1B[?25h
-second types guess always/char 63/guess never/end/
+second types predict always/char 63/predict never/end/
 round
 acts 8
 round
@@ -260,9 +260,9 @@ second connects told/terminals
 round
 first reads \x1Bc\x1B[?25l\x1B[0m\x1B[1;1H\x1B[?25h
 second reads \x1Bc\x1B[?25l\x1B[0m\x1B[1;1H\x1B[?25h
-first types told/
+first types events/
 round
-first reads /told/
+first reads /events/
 round
 first reads taken 1/size 24 80/anew 24/\x1Bc\x1B[?25l\x1B[0m\x1B[1;1H\x1B[?25h
 first types part 2 4/
@@ -278,7 +278,7 @@ first types char 61/
 round
 acts 1
 first waits
-first types told/
+first types events/
 round
 first reads refused 6 bad act/
 first is let go
@@ -289,9 +289,9 @@ second is let go
 first connects told/terminals
 round
 first reads \x1Bc\x1B[?25l\x1B[0m\x1B[1;1H\x1B[?25h
-first types told/watch/char 61/
+first types events/watch/char 61/
 round
-first reads /told/
+first reads /events/
 round
 first reads taken 2/size 24 80/anew 24/\x1Bc\x1B[?25l\x1B[0m\x1B[1;1H\x1B[?25h
 round
@@ -303,14 +303,14 @@ first reads refused 4 bad act/
 first is let go
 terminals 0";
 
-/// What a key shows is guessed once one before it was confirmed, and not before: it is painted before its server is heard.
-const GUESSED: &str = "\
+/// What a key shows is predicted once one before it was confirmed, and not before: it is painted before its server is heard.
+const PREDICTED: &str = "\
 first connects guessed/terminals
 round
 first reads \x1Bc\x1B[?25l\x1B[0m\x1B[1;1H\x1B[?25h
 meets
 first sees [1]
-first types guess always/char 61/
+first types predict always/char 61/
 round
 round
 first waits
@@ -330,9 +330,9 @@ second connects silent/terminals
 round
 first reads \x1Bc\x1B[?25l\x1B[0m\x1B[1;1H\x1B[?25h
 second reads \x1Bc\x1B[?25l\x1B[0m\x1B[1;1H\x1B[?25h
-first types told/
+first types events/
 round
-first reads /told/
+first reads /events/
 round
 first reads taken 1/size 24 80/anew 24/\x1Bc\x1B[?25l\x1B[0m\x1B[1;1H\x1B[?25h
 at 9999
@@ -394,7 +394,7 @@ fn terminals_share_a_start(rt: HostRuntime) -> Result<(), Fail> {
         ("many", "many/terminals", MANY),
         ("pasted", "pasted/terminals", PASTED),
         ("told", "told/terminals", TOLD),
-        ("guessed", "guessed/terminals", GUESSED),
+        ("guessed", "guessed/terminals", PREDICTED),
         ("silent", "silent/terminals", SILENT),
         ("full", "full/terminals", FULL),
     ];

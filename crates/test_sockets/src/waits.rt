@@ -1,6 +1,6 @@
 //! A wait ends where something comes: a client start, what it writes, or a datagram; of a start's, an answer, or what was reported.
 use mio::net::UnixStream;
-use roam_attaching::Connection;
+use roam_attach::Connection;
 use roam_sockets::{Clients, Moments, Udp, Waits, listen, loopback};
 use std::fs::create_dir;
 use std::io::Write;

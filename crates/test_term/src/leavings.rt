@@ -1,6 +1,6 @@
 //! The rows that leave a terminal, beside a history that keeps them all, and from which rows autowrap went on.
 use roam_cells::{Cell, Fault};
-use roam_leaving::{LeftLines, RowSource, push_line};
+use roam_scrollback::{LeftLines, RowSource, push_line};
 use roam_term::Term;
 use std::alloc::{AllocError, Global};
 use std::test::*;

@@ -1,4 +1,4 @@
-//! Tests of the turns, over ports in memory and the program's own server and client starts; and of guesses over screens.
+//! Tests of the turns, over ports in memory and the program's own server and client starts; and of predictions over screens.
 //!
 //! They lie here and not beside the code, since a crate with tests is proved twice by the gate.
 #![tactic(auto)]
@@ -6,13 +6,13 @@
 #[cfg(test)]
 mod failing;
 #[cfg(test)]
-mod guess_uses;
-#[cfg(test)]
-mod guesses;
-#[cfg(test)]
 mod parts;
 #[cfg(test)]
 mod plays;
+#[cfg(test)]
+mod prediction_uses;
+#[cfg(test)]
+mod predictions;
 #[cfg(test)]
 mod refusing;
 #[cfg(test)]

@@ -4,11 +4,11 @@
 //! terminal, what is written to it, the line that asks for a part, and one that masks some of it or nothing, with bars between; then comes
 //! the text of the part, with a slash for what stands between two cells.
 use roam_cells::Fault;
-use roam_parts::{Part, part_of};
-use roam_records::{Looking, Record, TakenLines, record_text, screen_text};
+use roam_display_records::{Looking, Record, TakenLines, record_text, screen_text};
 use roam_screens::RowShot;
 use roam_term::Term;
-use roam_typing::{Showing, read_showing};
+use roam_terminal_input::{Showing, read_showing};
+use roam_viewport::{Part, part_of};
 use std::alloc::Global;
 use std::test::*;
 
@@ -142,7 +142,7 @@ fn is_record(alloc: Global, told: Record<'_>, text: &str) -> Result<bool, Fault>
 fn records_are_told(rt: HostRuntime) -> Result<(), Fail> {
     let alloc = rt.alloc();
     let records = [
-        (Record::Told, "\ntold\n"),
+        (Record::Events, "\nevents\n"),
         (Record::Size(24, 80), "size 24 80\n"),
         (Record::Place(0, 131), "part 0 131\n"),
         (Record::Paint(b"\x1b[1Ha\n"), "paint 6\n\x1b[1Ha\n"),

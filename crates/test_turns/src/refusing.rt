@@ -38,7 +38,7 @@ impl ServerCore for Refuser {
         })
     }
 
-    fn life(&mut self, _pane: u8) -> Option<u64> {
+    fn generation(&mut self, _pane: u8) -> Option<u64> {
         Some(1)
     }
 

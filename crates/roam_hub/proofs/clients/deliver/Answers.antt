@@ -1,6 +1,6 @@
 use Rattle.std.proofs.Common.{◌∙◌, List, ℕ, ap, sym}
 use Rattle.std.specs.Prelude.{Err}
-use Rattle.roam_world.specs.Versions.{applied_by}
+use Rattle.roam_model.specs.Versions.{applied_by}
 use Rattle.roam_hub.specs.Ends.{version_in, receiving_in}
 use Rattle.roam_wire.specs.Instructions.{down_value}
 use Rattle.std.proofs.lemmas.Result.{err_from_is_err_and}

@@ -2,7 +2,7 @@ use Rattle.std.proofs.Common.{◌≡◌, ◌∙◌, Some, sym, ap}
 use Rattle.std.specs.Prelude.{slice_get}
 use Rattle.std.specs.Map.Iter.{deref_pair}
 use Rattle.std.specs.Option.{option_map}
-use Rattle.roam_world.specs.ServerArrivals.{is_same}
+use Rattle.roam_model.specs.ServerArrivals.{is_same}
 use Rattle.roam_hub.proofs.Recording.{counted_more, few_more}
 use Rattle.roam_hub.proofs.known.alike.Goals as goal
 

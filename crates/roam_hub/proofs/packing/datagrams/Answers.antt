@@ -3,7 +3,7 @@ use Rattle.std.proofs.lemmas.List.{length-map, map-append}
 use Rattle.std.specs.declared.alloc.Global.{Global}
 use Rattle.roam_wire.specs.Cutting.{texts_of}
 use Rattle.roam_wire.specs.Datagrams.{datagram_text}
-use Rattle.roam_world.specs.Texts.{datagram_with}
+use Rattle.roam_model.specs.Texts.{datagram_with}
 use Rattle.roam_hub.proofs.PackingTexts.{at_most, IsPacking, IsNext, nothing_left, pack_start, pack_more, pack_next, pack_end, fragment_sendable}
 use Rattle.roam_hub.proofs.packing.datagrams.Goals as goal
 

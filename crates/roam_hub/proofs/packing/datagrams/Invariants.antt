@@ -1,6 +1,6 @@
 use Rattle.roam_wire.specs.Cutting.{texts_of}
 use Rattle.std.proofs.Common.{length}
-use Rattle.roam_world.specs.Texts.{datagram_with}
+use Rattle.roam_model.specs.Texts.{datagram_with}
 use Rattle.roam_hub.proofs.PackingTexts.{IsPacking}
 use Rattle.roam_hub.proofs.packing.datagrams.Given as goal
 

@@ -6,14 +6,14 @@ use Rattle.roam_outer_terminal.proofs.hearing.overlay_for.Goals as goal
 
 pub returns-in-Always : goal.returns-in-Always
 returns-in-Always c =
-    let wanted : adaptive_of c.args.guessing ≡ Some false = search rules in
+    let wanted : adaptive_of c.args.predicting ≡ Some false = search rules in
     let heard : c.args.watches ≡ false = search rules in
-    record { set = is_set c.args.guessing c.args.watches false c.new_overlay.result heard wanted c.new_overlay.ensures.fresh }
+    record { set = is_set c.args.predicting c.args.watches false c.new_overlay.result heard wanted c.new_overlay.ensures.fresh }
 
 pub returns-in-Adaptive : goal.returns-in-Adaptive
 returns-in-Adaptive c =
-    let wanted : adaptive_of c.args.guessing ≡ Some true = search rules in
+    let wanted : adaptive_of c.args.predicting ≡ Some true = search rules in
     let heard : c.args.watches ≡ false = search rules in
     record {
-      set = is_set c.args.guessing c.args.watches true c.new_overlay-in-Adaptive.result heard wanted c.new_overlay-in-Adaptive.ensures.fresh;
+      set = is_set c.args.predicting c.args.watches true c.new_overlay-in-Adaptive.result heard wanted c.new_overlay-in-Adaptive.ensures.fresh;
     }

@@ -9,7 +9,7 @@ returns-in-Some c =
     let before : Screenshot = c.judged.inside.screen in
     let same : before ≡ screen_or c.args.seen.now c.args.screen.now = search rules in
     record {
-      sees = sees_by before _ c.args.screen.now c.args.moment c.args.guesses.now c.seen.new.self same c.seen.ensures.either
+      sees = sees_by before _ c.args.screen.now c.args.moment c.args.predictions.now c.seen.new.self same c.seen.ensures.either
           c.seen.ensures.goes_on c.seen.ensures.ends;
     }
 
@@ -17,6 +17,6 @@ pub returns-in-None : goal.returns-in-None
 returns-in-None c =
     let same : c.args.screen.now ≡ screen_or c.args.seen.now c.args.screen.now = search rules in
     record {
-      sees = sees_by c.args.screen.now _ c.args.screen.now c.args.moment c.args.guesses.now c.seen-in-None.new.self same
+      sees = sees_by c.args.screen.now _ c.args.screen.now c.args.moment c.args.predictions.now c.seen-in-None.new.self same
           c.seen-in-None.ensures.either c.seen-in-None.ensures.goes_on c.seen-in-None.ensures.ends;
     }

@@ -1,5 +1,5 @@
 use Rattle.std.proofs.Common.{◌≡◌, false, refl, rules}
-use Rattle.roam_guess.specs.Laws.{Ended}
+use Rattle.roam_prediction.specs.Laws.{Ended}
 use Rattle.roam_overlay.specs.Overlays.{is_number}
 use Rattle.roam_overlay.specs.Overlays.Keeps.{unkept}
 use Rattle.roam_overlay.proofs.overlay.see.Goals as goal

@@ -1,5 +1,5 @@
-use Rattle.roam_world.proofs.Runs.{holds-reached}
-use Rattle.roam_world.proofs.Sendable.{counts-reached}
+use Rattle.roam_model.proofs.Runs.{holds-reached}
+use Rattle.roam_model.proofs.Sendable.{counts-reached}
 use Rattle.roam_turns.proofs.Readiness.{ready_in}
 use Rattle.roam_turns.proofs.laws.histories_make_ready.Goals as goal
 

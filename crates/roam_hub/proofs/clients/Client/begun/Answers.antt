@@ -1,5 +1,5 @@
-use Rattle.roam_world.specs.Numbers.{first_screen}
-use Rattle.roam_world.specs.Clients.{nobody, new_kept}
+use Rattle.roam_model.specs.Numbers.{first_screen}
+use Rattle.roam_model.specs.Clients.{nobody, new_kept}
 use Rattle.roam_hub.proofs.clients.Client.begun.Goals as goal
 
 pub returns-clause-stands : goal.returns-clause-stands

@@ -9,11 +9,11 @@ use Rattle.roam_wire.specs.Cutting.{fragments_of, texts_of}
 use Rattle.roam_wire.specs.Datagrams.{datagram_text}
 use Rattle.roam_wire.specs.Versions.{most_bytes}
 use Rattle.roam_wire.specs.Instructions.{UpValue, up_text}
-use Rattle.roam_world.specs.Moments.{is_spent}
-use Rattle.roam_world.specs.Texts.{kind_from, datagrams_of}
-use Rattle.roam_world.proofs.Sendable.{up_length, acts_length}
+use Rattle.roam_model.specs.Moments.{is_spent}
+use Rattle.roam_model.specs.Texts.{kind_from, datagrams_of}
+use Rattle.roam_model.proofs.Sendable.{up_length, acts_length}
 use Rattle.roam_hub.specs.Ends.{version_in, receiving_in}
-use Rattle.roam_world.specs.Sendings.{is_client_spent, datagrams_from}
+use Rattle.roam_model.specs.Sendings.{is_client_spent, datagrams_from}
 use Rattle.roam_hub.specs.Clients.{ClientView}
 use Rattle.roam_hub.proofs.StartSending.{text_sent, first_fits, short_in, from_watcher}
 use Rattle.roam_hub.proofs.clients.Client.instruction.Goals as goal

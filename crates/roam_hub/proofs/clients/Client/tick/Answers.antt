@@ -2,7 +2,7 @@ use Rattle.std.proofs.Common.{◌≡◌, ℕ, max, ◌∙◌, ap, sym, subst, fa
 use Rattle.std.specs.Prelude.{Err}
 use Rattle.std.proofs.lemmas.Result.{err_from_is_err_and}
 use Rattle.roam_wire.specs.Datagrams.{datagram_text}
-use Rattle.roam_world.specs.Sendings.{is_client_due, is_client_spent, last_waiting, datagrams_from}
+use Rattle.roam_model.specs.Sendings.{is_client_due, is_client_spent, last_waiting, datagrams_from}
 use Rattle.roam_hub.specs.Clients.{ClientView}
 use Rattle.roam_hub.specs.contracts.clients.Client.{the_view}
 use Rattle.roam_hub.proofs.StartSending.{sent_alike, not_due, not_sent, all_sent, as_many, fits_on}

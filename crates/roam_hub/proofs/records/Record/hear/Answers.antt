@@ -7,13 +7,13 @@ use Rattle.roam_cells.specs.declared.faults.Fault.TheVariants.{OutOfMemory}
 use Rattle.roam_acts.specs.Takers.{fresh_of}
 use Rattle.roam_sync.specs.declared.senders.Held.{Held}
 use Rattle.roam_sync.specs.Senders.{Sending, newest}
-use Rattle.roam_world.specs.Moments.{owed_from}
+use Rattle.roam_model.specs.Moments.{owed_from}
 use Rattle.roam_acts.specs.declared.acts.Act.{Act}
 use Rattle.roam_acts.specs.Acts.{IsInRange}
 use Rattle.roam_wire.specs.Datagrams.{datagram_value}
 use Rattle.roam_wire.specs.Gatherers.{Whole}
 use Rattle.roam_wire.specs.Instructions.{UpValue, IsUpOf, up_value, up_text}
-use Rattle.roam_world.specs.Texts.{is_watching}
+use Rattle.roam_model.specs.Texts.{is_watching}
 use Rattle.roam_hub.specs.Servers.{RecordView, address_of}
 use Rattle.roam_hub.specs.Ends.{version_of, sending_of}
 use Rattle.roam_hub.specs.Records.{Notes, NotHeard, fitting, other, Fits, IsOther, TakesActs}

@@ -9,9 +9,9 @@ use Rattle.roam_wire.specs.Versions.{most_bytes}
 use Rattle.roam_wire.specs.Cutting.{fragments_of, texts_of}
 use Rattle.roam_wire.specs.Datagrams.{datagram_text}
 use Rattle.roam_wire.specs.Instructions.{down_text}
-use Rattle.roam_world.specs.Moments.{is_spent}
-use Rattle.roam_world.specs.Texts.{datagrams_of}
-use Rattle.roam_world.specs.Ticks.{down_from}
+use Rattle.roam_model.specs.Moments.{is_spent}
+use Rattle.roam_model.specs.Texts.{datagrams_of}
+use Rattle.roam_model.specs.Ticks.{down_from}
 use Rattle.roam_hub.specs.Ends.{version_of, sending_of}
 use Rattle.roam_hub.specs.Servers.{RecordView}
 use Rattle.roam_hub.specs.Records.{datagrams_for, is_instruction_spent}

@@ -1,6 +1,6 @@
 use Rattle.std.proofs.Common.{ap}
 use Rattle.roam_wire.specs.Gatherers.{GathererValue}
-use Rattle.roam_world.specs.Numbers.{first_screen}
+use Rattle.roam_model.specs.Numbers.{first_screen}
 use Rattle.roam_hub.specs.Ends.{version_of, sending_of}
 use Rattle.roam_hub.proofs.Recording.{new_record}
 use Rattle.roam_hub.proofs.records.Record.new.Goals as goal

@@ -1,5 +1,5 @@
 use Rattle.std.proofs.Common.{arith}
-use Rattle.roam_world.specs.Numbers.{first_screen}
+use Rattle.roam_model.specs.Numbers.{first_screen}
 use Rattle.roam_hub.proofs.Serving.{stands_new}
 use Rattle.roam_hub.proofs.Sharing.{have_first}
 use Rattle.roam_hub.proofs.servers.Server.new.Goals as goal

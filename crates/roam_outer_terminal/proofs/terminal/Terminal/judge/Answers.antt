@@ -10,7 +10,7 @@ returns-in-Some-default-New-clause-judged g c =
     let screen = c.in-Some-default-New.screen.now in
     let noted : Noted = record { number = number; screen = screen } in
     let there : c.args.self.now.outer ≡ Some noted = search rules in
-    let was : c.args.self.now.guessing ≡ Some c.in-Some.overlay = search rules in
+    let was : c.args.self.now.predicting ≡ Some c.in-Some.overlay = search rules in
     judged noted c.in-Some.overlay c.judge.new.self there was refl
     (subst (λ n. Judges number screen n c.args.now c.in-Some.overlay c.judge.new.self) c.acknowledged.ensures.acknowledged
     c.judge.ensures.judged)

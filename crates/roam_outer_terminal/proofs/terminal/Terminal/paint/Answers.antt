@@ -17,8 +17,8 @@ returns-clause-paints g c =
     let taken = c.take_back-taken.ensures.taken in
     let outer : judged.outer ≡ painted.outer = ap (λ t. t.outer) c.judge.ensures.others in
     let waiting : judged.waiting ≡ painted.waiting = ap (λ t. t.waiting) c.judge.ensures.others in
-    let guessing : new.guessing ≡ judged.guessing = ap (λ t. t.guessing) c.lay.ensures.others in
-    let was : painted.guessing ≡ old.guessing = search rules in
+    let predicting : new.predicting ≡ judged.predicting = ap (λ t. t.predicting) c.lay.ensures.others in
+    let was : painted.predicting ≡ old.predicting = search rules in
     let leads : LeadsSized mid.outer judged.waiting judged.outer =
     subst (λ x. LeadsSized mid.outer judged.waiting x) (sym outer)
     (subst (λ w. LeadsSized mid.outer w painted.outer) (sym waiting) c.paint_noted.ensures.leads) in
@@ -30,9 +30,9 @@ returns-clause-paints g c =
           (noted_kept old.over old.outer mid.outer c.take_back-taken.result taken) c.paint_noted.ensures.noted;
       stays = subst (λ x. (new.outer ≡ x) ⊎ (new.outer ≡ None)) outer c.lay.ensures.outer;
       leads = c.lay.ensures.leads old.over old.outer mid.outer taken leads;
-      judged = subst (λ x. IsJudged now client painted.outer old.guessing x) (sym guessing)
-          (subst (λ x. IsJudged now client painted.outer x judged.guessing) was
-          (subst (λ m. IsJudged m client painted.outer painted.guessing judged.guessing) c.moment.ensures.moment c.judge.ensures.judged));
-      over = subst (λ x. IsOver now x new.outer new.over) (sym guessing) (c.lay.ensures.over now c.wanted-wanted.ensures.over);
+      judged = subst (λ x. IsJudged now client painted.outer old.predicting x) (sym predicting)
+          (subst (λ x. IsJudged now client painted.outer x judged.predicting) was
+          (subst (λ m. IsJudged m client painted.outer painted.predicting judged.predicting) c.moment.ensures.moment c.judge.ensures.judged));
+      over = subst (λ x. IsOver now x new.outer new.over) (sym predicting) (c.lay.ensures.over now c.wanted-wanted.ensures.over);
       others = search rules;
     }

@@ -1,10 +1,10 @@
 use Rattle.std.proofs.Common.{◌≡◌, true, false, refl, sym, ap, subst, rules}
-use Rattle.roam_typing.specs.Entries.{acts_in}
-use Rattle.roam_typing.specs.Lines.{IsFirst}
-use Rattle.roam_typing.specs.declared.entries.Entry.TheVariants.{Told, Repaint, Watch, Look, LookStyled, Show}
+use Rattle.roam_terminal_input.specs.Entries.{acts_in}
+use Rattle.roam_terminal_input.specs.Lines.{IsFirst}
+use Rattle.roam_terminal_input.specs.declared.entries.Entry.TheVariants.{Events, Repaint, Watch, Look, LookStyled, Show}
 use Rattle.roam_outer_terminal.specs.Hearing.{TakesEntry, TypesLine, may_take, taking_of}
 use Rattle.roam_outer_terminal.specs.Hearing.TakesEntry.{taken}
-use Rattle.roam_outer_terminal.specs.Terminals.{Guesses, IsSet}
+use Rattle.roam_outer_terminal.specs.Terminals.{Predictions, IsSet}
 use Rattle.roam_outer_terminal.proofs.TakenLines.{acts_taken, paste_taken, word_taken, word_types}
 use Rattle.roam_outer_terminal.proofs.terminal.Terminal.take_entry.Goals as goal
 
@@ -26,22 +26,22 @@ returns-in-Paste-clause-takes g c =
     (λ l. TypesLine true l c.args.self.now c.type_acts-in-Paste.new.self c.args.client.now c.type_acts-in-Paste.new.client c.type_acts-in-Paste.result)
     c.deref-in-Paste.ensures.value c.type_acts-in-Paste.ensures.types))
 
-pub returns-in-Guess-clause-takes : goal.returns-in-Guess-clause-takes
-returns-in-Guess-clause-takes g c =
-    let kept : c.set_guessing.new.self.lines.kept ≡ c.args.self.now.lines.kept = ap (λ t. t.lines.kept) c.set_guessing.ensures.others in
-    let is = c.in-Guess.is in
+pub returns-in-Prediction-clause-takes : goal.returns-in-Prediction-clause-takes
+returns-in-Prediction-clause-takes g c =
+    let kept : c.set_predicting.new.self.lines.kept ≡ c.args.self.now.lines.kept = ap (λ t. t.lines.kept) c.set_predicting.ensures.others in
+    let is = c.in-Prediction.is in
     let old = c.args.self.now in
-    taken (sym (ap (taking_of old.watches) is)) (ap (λ e. may_take e old.lines.count old.telling) is)
+    taken (sym (ap (taking_of old.watches) is)) (ap (λ e. may_take e old.lines.count old.display_state) is)
     (λ line rest first. c.took_line.ensures.took line rest (subst (λ l. IsFirst l line rest) (sym kept) first))
     (word_types old.watches c.args.entry.now c.args.client.now (ap acts_in is))
-    (subst (λ e. Guesses old.watches e c.args.client.now old.guessing c.took_line.new.self.guessing) (sym is)
-    (subst (IsSet c.in-Guess.guessing old.watches) (sym (ap (λ t. t.guessing) c.took_line.ensures.others)) c.set_guessing.ensures.set))
+    (subst (λ e. Predictions old.watches e c.args.client.now old.predicting c.took_line.new.self.predicting) (sym is)
+    (subst (IsSet c.in-Prediction.predicting old.watches) (sym (ap (λ t. t.predicting) c.took_line.ensures.others)) c.set_predicting.ensures.set))
     (search rules)
 
-pub returns-in-Told-clause-takes : goal.returns-in-Told-clause-takes
-returns-in-Told-clause-takes g c =
-    subst (λ e. TakesEntry e c.args.self.now c.begin_records.new.self c.args.client.now c.args.client.now c.begin_records.result) (sym c.in-Told.is)
-    (word_taken c.args.self.now c.begin_records.new.self c.args.client.now c.args.client.now c.begin_records.result Told refl (λ same. same)
+pub returns-in-Events-clause-takes : goal.returns-in-Events-clause-takes
+returns-in-Events-clause-takes g c =
+    subst (λ e. TakesEntry e c.args.self.now c.begin_records.new.self c.args.client.now c.args.client.now c.begin_records.result) (sym c.in-Events.is)
+    (word_taken c.args.self.now c.begin_records.new.self c.args.client.now c.args.client.now c.begin_records.result Events refl (λ same. same)
     (c.begin_records.ensures.begins c.args.client.now))
 
 pub returns-in-Repaint-clause-takes : goal.returns-in-Repaint-clause-takes

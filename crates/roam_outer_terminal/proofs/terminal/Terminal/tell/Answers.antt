@@ -14,29 +14,29 @@ returns-clause-tells g c =
     let noted = c.note.new.self in
     let judged = c.judge.new.self in
     let mid = c.stand_over.new.self in
-    let was = some_is old.telling c.requires.told in
+    let was = some_is old.display_state c.requires.told in
     let outer : mid.outer ≡ noted.outer = ap (λ t. t.outer) c.stand_over.ensures.over ∙ ap (λ t. t.outer) c.judge.ensures.others in
     let judged_outer : judged.outer ≡ noted.outer = ap (λ t. t.outer) c.judge.ensures.others in
-    let guessing : mid.guessing ≡ judged.guessing = ap (λ t. t.guessing) c.stand_over.ensures.over in
-    let before : noted.guessing ≡ old.guessing = ap (λ t. t.guessing) c.note.ensures.others in
+    let predicting : mid.predicting ≡ judged.predicting = ap (λ t. t.predicting) c.stand_over.ensures.over in
+    let before : noted.predicting ≡ old.predicting = ap (λ t. t.predicting) c.note.ensures.others in
     let over : mid.over ≡ c.wanted-wanted.result = ap (λ t. t.over) c.stand_over.ensures.over in
-    let telling : mid.telling ≡ Some was.0 = search rules in
+    let display_state : mid.display_state ≡ Some was.0 = search rules in
     record {
       ready = c.requires.ready;
       before = was.0;
       was = was.1;
       mid = mid;
       noted = subst (λ o. (o ≡ Some (shown_of client)) ⊎ (o ≡ old.outer)) (sym outer) c.note.ensures.noted;
-      judged = subst (λ x. IsJudged now client mid.outer old.guessing x) (sym guessing)
-          (subst (λ o. IsJudged now client o old.guessing judged.guessing) (sym outer)
-          (subst (λ x. IsJudged now client noted.outer x judged.guessing) before
-          (subst (λ m. IsJudged m client noted.outer noted.guessing judged.guessing) c.moment.ensures.moment c.judge.ensures.judged)));
-      over = subst (λ x. IsOver now x mid.outer mid.over) (sym guessing)
-          (subst (λ o. IsOver now judged.guessing o mid.over) (judged_outer ∙ sym outer)
-          (subst (λ o. IsOver now judged.guessing judged.outer o) (sym over) c.wanted-wanted.ensures.over));
+      judged = subst (λ x. IsJudged now client mid.outer old.predicting x) (sym predicting)
+          (subst (λ o. IsJudged now client o old.predicting judged.predicting) (sym outer)
+          (subst (λ x. IsJudged now client noted.outer x judged.predicting) before
+          (subst (λ m. IsJudged m client noted.outer noted.predicting judged.predicting) c.moment.ensures.moment c.judge.ensures.judged)));
+      over = subst (λ x. IsOver now x mid.outer mid.over) (sym predicting)
+          (subst (λ o. IsOver now judged.predicting o mid.over) (judged_outer ∙ sym outer)
+          (subst (λ o. IsOver now judged.predicting judged.outer o) (sym over) c.wanted-wanted.ensures.over));
       others = search rules;
       tells = subst (λ a. TellsIt a was.0 mid c.tell_all.new.self) c.acknowledged.ensures.acknowledged
-          (c.tell_all.ensures.told was.0 telling);
+          (c.tell_all.ensures.told was.0 display_state);
     }
 
 pub returns-clause-behind : goal.returns-clause-behind
@@ -46,9 +46,9 @@ returns-clause-behind g c = λ h.
     let n = client.kept.receiver.newest.number in
     let s = client.kept.receiver.newest.state in
     let mid = c.stand_over.new.self in
-    let was = some_is old.telling c.requires.told in
-    let telling : mid.telling ≡ Some was.0 = search rules in
-    let told = c.tell_all.ensures.told was.0 telling in
+    let was = some_is old.display_state c.requires.told in
+    let display_state : mid.display_state ≡ Some was.0 = search rules in
+    let told = c.tell_all.ensures.told was.0 display_state in
     let outer : c.tell_all.new.self.outer ≡ c.note.new.self.outer =
     ap (λ t. t.outer) told.is ∙ (ap (λ t. t.outer) c.stand_over.ensures.over ∙ ap (λ t. t.outer) c.judge.ensures.others) in
     subst (λ o. IsBehind o n s) (sym outer) (behind_noted old.outer c.note.new.self.outer n s c.note.ensures.noted h)

@@ -11,7 +11,7 @@ pub returns-in-Some : goal.returns-in-Some
 returns-in-Some g c =
     let old = c.args.self.now in
     let seen = seen_by c.args.silence old in
-    let untold : is_some old.telling ≡ false = search rules in
+    let untold : is_some old.display_state ≡ false = search rules in
     let over : is_over seen ≡ false = search rules in
     let due : due_of seen ≡ Some c.in-Some.seconds = search rules in
     let empty : is_empty old.waiting ≡ true = search rules in
@@ -25,7 +25,7 @@ returns-in-Some g c =
 pub returns-then-is_some : goal.returns-then-is_some
 returns-then-is_some g c =
     let old = c.args.self.now in
-    let is : is_some old.telling ≡ true = search rules in
+    let is : is_some old.display_state ≡ true = search rules in
     let seen : c.tell.new.self ≡ seen_by c.args.silence old = search rules in
     record {
       tells = says is

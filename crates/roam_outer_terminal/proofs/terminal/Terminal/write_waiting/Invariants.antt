@@ -1,6 +1,6 @@
 use Rattle.std.proofs.Common.{◌≡◌, ◌≤◌, length}
 use Rattle.std.specs.Io.KnownBytes.{Keeps}
-use Rattle.roam_frames.specs.Carriers.{Writes}
+use Rattle.roam_stream_framing.specs.Carriers.{Writes}
 use Rattle.roam_outer_terminal.specs.Writing.{has_gone}
 use Rattle.roam_outer_terminal.proofs.terminal.Terminal.write_waiting.Given as goal
 

@@ -1,6 +1,6 @@
 use Rattle.std.proofs.Common.{◌≡◌, ℕ, ◌<◌, ◌≤◌, ◌-◌, length}
 use Rattle.std.specs.Prelude.{slice_get}
-use Rattle.roam_pane_list.specs.Clips.{clips_at}
+use Rattle.roam_pane_protocol.specs.Clips.{clips_at}
 use Rattle.roam_pane_sockets.specs.Clips.{pane_clips}
 use Rattle.roam_pane_sockets.proofs.panes.Panes.clip_counts.Given as goal
 

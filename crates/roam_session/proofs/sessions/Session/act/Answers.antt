@@ -5,7 +5,7 @@ use Rattle.roam_cells.specs.declared.faults.Fault.TheVariants.{OutOfMemory, Busy
 use Rattle.roam_grid.specs.Marks.{also_marked}
 use Rattle.roam_layout.specs.Rects.{rect_in}
 use Rattle.roam_layout.specs.Layouts.{Laid, Refused, outcome_of, panes}
-use Rattle.roam_session.specs.Lives.{CountsLives}
+use Rattle.roam_session.specs.Generations.{CountsGenerations}
 use Rattle.roam_session.specs.Marks.{is_concerned}
 use Rattle.roam_session.specs.Sessions.{Did, key_in}
 use Rattle.roam_session.specs.Refusals.{stops, fault_of}
@@ -53,8 +53,8 @@ returns-in-None-clause-done c =
     let no_key : key_in act ≡ None = sym c.key_in.ensures.key ∙ c.in-None.is in
     on_three c.lay_out.result (outcome_of old.plan act ≡ Laid new.plan)
     ((k : ℕ) → IsGiven (rect_in k (panes old.plan)) (rect_in k (panes new.plan)) (term_at old.terms k) (term_at new.terms k))
-    (CountsLives old.plan new.plan old.lives new.lives) (Appends old new (Did c.args.client act))
-    (λ e are lives. stands_laid old new c.args.client act no_key e are lives) c.lay_out.ensures.laid c.lay_out.ensures.given
+    (CountsGenerations old.plan new.plan old.generations new.generations) (Appends old new (Did c.args.client act))
+    (λ e are generations. stands_laid old new c.args.client act no_key e are generations) c.lay_out.ensures.laid c.lay_out.ensures.given
     c.lay_out.ensures.lives
 
 pub returns-in-None-clause-refused : goal.returns-in-None-clause-refused

@@ -15,11 +15,11 @@ returns-clause-drained c =
     let pane = c.args.pane in
     let n = c.args.n in
     let f = c.self.inside in
-    let new : SessionView = record { plan = f.layout; terms = c.drain.new.terms.items; marks = f.marks; kept = f.kept; lives = f.lives } in
+    let new : SessionView = record { plan = f.layout; terms = c.drain.new.terms.items; marks = f.marks; kept = f.kept; generations = f.generations } in
     IfOk-weaker c.drain.result (λ _. ChangesAt pane (IsDrained n) c.self.inside.terms.items new.terms)
     (λ _. Appends old new (Drained pane n))
     (λ _ changes. stands_drained old new pane n (ap (λ (s : SessionView). s.plan) c.self.view_is)
-    (ap (λ (s : SessionView). s.lives) c.self.view_is)
+    (ap (λ (s : SessionView). s.generations) c.self.view_is)
     (subst (λ (s : SessionView). ChangesAt pane (IsDrained n) s.terms new.terms) c.self.view_is changes)) c.drain.ensures.drained
 
 pub returns-clause-fault : goal.returns-clause-fault
@@ -34,7 +34,7 @@ returns-clause-marks c =
     let pane = c.args.pane in
     let n = c.args.n in
     let f = c.self.inside in
-    let new : SessionView = record { plan = f.layout; terms = c.drain.new.terms.items; marks = f.marks; kept = f.kept; lives = f.lives } in
+    let new : SessionView = record { plan = f.layout; terms = c.drain.new.terms.items; marks = f.marks; kept = f.kept; generations = f.generations } in
     IfOk-weaker c.drain.result (λ _. ChangesAt pane (IsDrained n) c.self.inside.terms.items new.terms)
     (λ _. MarksRows old new (Drained pane n))
     (λ _ changes. record {
@@ -49,8 +49,8 @@ invariant_of-self c =
     let p = c.args.pane in
     let us = c.drain.new.terms.items in
     let with_terms : List (Option TermView) → SessionView =
-    λ ts. record { plan = f.layout; terms = ts; marks = f.marks; kept = f.kept; lives = f.lives } in
+    λ ts. record { plan = f.layout; terms = ts; marks = f.marks; kept = f.kept; generations = f.generations } in
     either_way c.drain.result (ChangesAt p (IsDrained n) f.terms.items us) (us ≡ f.terms.items) (IsSession (with_terms us))
-    (λ changes. kept_session p (IsDrained n) (λ old new h. h.keeps) f.layout f.terms.items us changes f.marks f.kept f.lives
+    (λ changes. kept_session p (IsDrained n) (λ old new h. h.keeps) f.layout f.terms.items us changes f.marks f.kept f.generations
     c.self.invariant)
     (λ same. subst (λ ts. IsSession (with_terms ts)) (sym same) c.self.invariant) c.drain.ensures.drained c.drain.ensures.err

@@ -11,7 +11,7 @@ unfolding all_off
 invariant_of-self c =
     let f = c.self.inside in
     let plan = f.layout in
-    let face : c.args.shot ≡ face_now (record { plan = plan; terms = f.terms.items; marks = f.marks; kept = f.kept; lives = f.lives }) =
+    let face : c.args.shot ≡ face_now (record { plan = plan; terms = f.terms.items; marks = f.marks; kept = f.kept; generations = f.generations }) =
     c.requires.face ∙ ap face_now (sym c.self.view_is) in
     record {
       ten = c.self.invariant.ten;

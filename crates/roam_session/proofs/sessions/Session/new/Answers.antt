@@ -7,7 +7,7 @@ use Rattle.roam_session.specs.Stands.{SessionView, IsPlaced, IsQuietAt, shown_by
 use Rattle.roam_session.proofs.Agreeing.{placed_given}
 use Rattle.roam_session.proofs.Entering.{brought, stands_first}
 use Rattle.roam_session.proofs.KeepingRows.{all_kept}
-use Rattle.roam_session.proofs.Living.{first_lives}
+use Rattle.roam_session.proofs.Living.{first_generations}
 use Rattle.roam_session.proofs.Quiet.{quiet_given}
 use Rattle.roam_session.proofs.Rectangles.{sizes_in}
 use Rattle.roam_session.proofs.sessions.Session.new.Goals as goal
@@ -23,7 +23,7 @@ returns-clause-stands c =
     let plan = c.in_ok-layout.layout in
     let ts = c.in_ok-terms.terms.items in
     let us = c.perform.new.terms.items in
-    let new : SessionView = record { plan = plan; terms = us; marks = replicate 200 true; kept = c.in_ok-kept.kept; lives = first_lives } in
+    let new : SessionView = record { plan = plan; terms = us; marks = replicate 200 true; kept = c.in_ok-kept.kept; generations = first_generations } in
     stands_first new (record { rows = c.args.rows; cols = c.args.cols }) ts c.in_ok-layout.ensures.start refl c.in_ok-terms.ensures.none
     (brought [] plan [] c.rects.result.now ts c.deref.result.now us c.in_ok-steps.steps.items c.facts.ensures.plan refl
     c.rects.ensures.rects

@@ -18,11 +18,11 @@ returns-clause-given c =
     let bytes = c.args.piece.now in
     let f = c.self.inside in
     let new : SessionView =
-    record { plan = f.layout; terms = c.feed.new.terms.items; marks = c.feed.new.marks; kept = f.kept; lives = f.lives } in
+    record { plan = f.layout; terms = c.feed.new.terms.items; marks = c.feed.new.marks; kept = f.kept; generations = f.generations } in
     IfOk-weaker c.feed.result (λ _. ChangesAt pane (IsFed bytes c.self.inside.layout pane c.self.inside.marks c.feed.new.marks) c.self.inside.terms.items new.terms)
     (λ _. Appends old new (Given pane bytes))
     (λ _ changes. stands_fed old new pane bytes c.self.inside.layout c.self.inside.marks c.feed.new.marks (ap (λ (s : SessionView). s.plan) c.self.view_is)
-    (ap (λ (s : SessionView). s.lives) c.self.view_is)
+    (ap (λ (s : SessionView). s.generations) c.self.view_is)
     (subst (λ (s : SessionView). ChangesAt pane (IsFed bytes c.self.inside.layout pane c.self.inside.marks c.feed.new.marks) s.terms new.terms) c.self.view_is changes)) c.feed.ensures.fed
 
 pub returns-clause-fault : goal.returns-clause-fault
@@ -40,10 +40,10 @@ invariant_of-self c =
     let us = c.feed.new.terms.items in
     let ms = c.feed.new.marks in
     let with_all : List (Option TermView) → List Bool → SessionView =
-    λ ts marks. record { plan = f.layout; terms = ts; marks = marks; kept = f.kept; lives = f.lives } in
+    λ ts marks. record { plan = f.layout; terms = ts; marks = marks; kept = f.kept; generations = f.generations } in
     by_answer c.feed.result (bytes_refused bytes (waiting_at f.terms.items p)) (ChangesAt p (IsFed bytes f.layout p f.marks ms) f.terms.items us)
     (us ≡ f.terms.items) (ms ≡ f.marks) (IsSession (with_all us ms)) c.feed.ensures.fault
-    (λ free changes. fed_session p bytes f.layout f.marks ms f.terms.items us f.kept f.lives c.facts.ensures.plan free changes
+    (λ free changes. fed_session p bytes f.layout f.marks ms f.terms.items us f.kept f.generations c.facts.ensures.plan free changes
     c.self.invariant)
     (λ same marks.
     subst (λ m. IsSession (with_all us m)) (sym marks) (subst (λ ts. IsSession (with_all ts f.marks)) (sym same) c.self.invariant))
@@ -56,7 +56,7 @@ returns-clause-marks c =
     let pane = c.args.pane in
     let bytes = c.args.piece.now in
     let new : SessionView =
-    record { plan = f.layout; terms = c.feed.new.terms.items; marks = c.feed.new.marks; kept = f.kept; lives = f.lives } in
+    record { plan = f.layout; terms = c.feed.new.terms.items; marks = c.feed.new.marks; kept = f.kept; generations = f.generations } in
     on_taken c.feed.result (bytes_refused bytes (waiting_at f.terms.items pane))
     (ChangesAt pane (IsFed bytes f.layout pane f.marks new.marks) f.terms.items new.terms) (MarksRows old new (Given pane bytes))
     c.feed.ensures.fault

@@ -12,8 +12,8 @@ invariant_of-self c =
     let p = c.focus.result in
     let us = c.type_key.new.terms.items in
     let with_terms : List (Option TermView) → SessionView =
-    λ ts. record { plan = f.layout; terms = ts; marks = f.marks; kept = f.kept; lives = f.lives } in
+    λ ts. record { plan = f.layout; terms = ts; marks = f.marks; kept = f.kept; generations = f.generations } in
     either_way c.type_key.result (ChangesAt p (IsKeyed key) f.terms.items us) (us ≡ f.terms.items) (IsSession (with_terms us))
-    (λ changes. kept_session p (IsKeyed key) (λ old new h. h.keeps) f.layout f.terms.items us changes f.marks f.kept f.lives
+    (λ changes. kept_session p (IsKeyed key) (λ old new h. h.keeps) f.layout f.terms.items us changes f.marks f.kept f.generations
     c.self.invariant)
     (λ same. subst (λ ts. IsSession (with_terms ts)) (sym same) c.self.invariant) c.type_key.ensures.keyed c.type_key.ensures.err

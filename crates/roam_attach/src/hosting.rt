@@ -1,0 +1,277 @@
+//! A client start that stays while outer terminals come and go at its socket.
+ghost use Rattle.std.specs.Prelude.{◌≡◌, ◌≢◌, ◌⊎◌, ◌≤◌, ℕ, length, min, true, false, None, is_some, IfErr, IfSome};
+ghost use Rattle.roam_attach.specs.Ways.{Goes, IsFrom, MoreGoes, Sends, StillWaits, has_ended};
+ghost use Rattle.roam_sockets.specs.declared.moments.Moments.{Moments};
+ghost use Rattle.roam_sockets.specs.Waits.{wait_until};
+
+use crate::arriving::Arrival;
+use crate::connecting::Connection;
+use mio::net::{UnixListener, UnixStream};
+use roam_cells::Fault;
+use roam_faults::RunFault;
+use roam_hub::{Addr, Client};
+use roam_outer_terminal::{End, Opaque};
+use roam_shared_client::{Door, Listening, SharedClient, run_shared};
+use roam_sockets::{listen, wait_until};
+use roam_stream_framing::Stream;
+use roam_turns::Ports;
+use std::alloc::Global;
+use std::fs::{Files, remove_file};
+use std::net::Net;
+use std::time::Clock;
+
+/// The server sends a heartbeat after three seconds of silence, unless it has forgotten the start: so many milliseconds are longer.
+const FORGOTTEN: u64 = 4_000;
+
+/// A terminal that comes to a start that was forgotten waits for the newest screen: at most so many times so many milliseconds.
+const WAKES: u32 = 2;
+
+const WAKING: u64 = 50;
+
+/// How many bytes of a datagram are read at most.
+const DATAGRAM: usize = 2048;
+
+/// So many looks end with the machine.
+const FOR_GOOD: u64 = u64::MAX;
+
+// The socket at which outer terminals come, and the way of their start to its server.
+#[derive(Drop)]
+struct Doorway<R> {
+    listener: UnixListener,
+    // One that came while the start slept.
+    came: Option<UnixStream>,
+    clock: R,
+    connection: Connection<R>,
+    // When something came from the server last; and for how many rounds a terminal waits at most, so that it is shown no old screen.
+    heard: u64,
+    waking: u32,
+}
+
+// Whether a datagram tells nothing new: it is whole, and its change is from a number to the same one.
+fn is_heartbeat(datagram: &[u8]) -> bool {
+    match (
+        datagram.get(38..40),
+        datagram.get(42..50),
+        datagram.get(50..58),
+    ) {
+        (Some(count), Some(old), Some(new)) => count == [0, 1].as_slice() && old == new,
+        _ => false,
+    }
+}
+
+// The terminal that came before, or one that comes now.
+fn first_at<R: Clock + Drop>(
+    came: &mut Option<UnixStream>,
+    listener: &UnixListener,
+    connection: &Connection<R>,
+) -> Option<UnixStream>
+    ensures none { result ≡ None → came.new ≡ came.old }
+    ensures taken { came.new ≡ None }
+{
+    if let Some(stream) = came.take() {
+        return Some(stream);
+    }
+    let Ok((mut stream, _)) = listener.accept() else {
+        return None;
+    };
+    connection.report(&mut stream, true);
+    Some(stream)
+}
+
+impl<R: Clock + Drop> Doorway<R> {
+    // Drops a datagram that came while the start sleeps, and returns true if it has news: the server sends those again.
+    fn is_woken_by_server(&mut self) -> bool {
+        let mut buf = [0; DATAGRAM];
+        let Some((_, len)) = self.connection.receive(&mut buf) else {
+            return false;
+        };
+        self.heard = self.connection.moment();
+        match buf.get(..len) {
+            Some(datagram) => !is_heartbeat(datagram),
+            None => true,
+        }
+    }
+
+    // Looks whether a terminal came while the start sleeps.
+    fn is_woken_by_terminal(&mut self) -> bool
+        ensures came { result ≡ is_some self.new.came }
+    {
+        self.came = first_at(&mut self.came, &self.listener, &self.connection);
+        self.came.is_some()
+    }
+
+    // Notes that the start wakes for a terminal: if the server has forgotten the start, what it shows may be old.
+    fn wake(&mut self)
+        ensures others { self.new ≡ record self.old { waking = self.new.waking } }
+    {
+        let silent = self.connection.moment().saturating_sub(self.heard);
+        self.waking = if silent >= FORGOTTEN { WAKES } else { 0 };
+    }
+}
+
+// Whether a moment is before another one, if there is one.
+fn is_before(now: u64, due: Option<u64>) -> bool {
+    match due {
+        None => false,
+        Some(due) => now < due,
+    }
+}
+
+// How many milliseconds until a moment, an hour where there is none or it has come.
+fn until(due: Option<u64>, now: u64) -> u64 {
+    match due {
+        Some(due) if due > now => due - now,
+        _ => wait_until(None, now),
+    }
+}
+
+impl<R: Clock + Drop> Ports for Doorway<R> {
+    fn now(&mut self) -> u64
+        ensures set { (moment : ℕ) → self.old.connection.moments ≡ Moments.Set moment → result ≡ moment }
+        ensures moment { self.new.connection.moment ≡ result }
+    {
+        self.connection.now()
+    }
+
+    fn receive(&mut self, buf: &mut [u8]) -> Option<(Addr, usize)>
+        ensures within { IfSome result (λ r. r.1 ≤ length buf.new) }
+        ensures from { IfSome result (λ r. IsFrom self.old.connection.way r.0) }
+        ensures stirs { IfSome result (λ _. self.new.connection.waits.quiet ≡ false) }
+        ensures waiting { StillWaits self.old.connection.way self.new.connection.way }
+    {
+        let came = self.connection.receive(buf)?;
+        self.heard = self.connection.moment();
+        self.waking = 0;
+        Some(came)
+    }
+
+    fn send(&mut self, to: Addr, bytes: &[u8]) -> bool
+        ensures sends { Sends self.old.connection.moment to self.old.connection.way self.new.connection.way bytes.now result }
+    {
+        self.connection.send(to, bytes)
+    }
+
+    fn pane_generations(&mut self, pane: u8, generation: Option<u64>)
+        ensures same { self.new ≡ self.old }
+    {
+        self.connection.pane_generations(pane, generation);
+    }
+
+    fn pane_in(&mut self, pane: u8, buf: &mut [u8]) -> Option<usize>
+        ensures none { result ≡ None }
+    {
+        self.connection.pane_in(pane, buf)
+    }
+
+    fn pane_out(&mut self, pane: u8, bytes: &[u8]) -> usize
+        ensures none { result ≡ 0 }
+    {
+        self.connection.pane_out(pane, bytes)
+    }
+
+    fn show(&mut self, bytes: &[u8]) -> bool
+        ensures none { result ≡ false }
+    {
+        self.connection.show(bytes)
+    }
+}
+
+impl<R: Clock + Copy + Drop> Door<Opaque<Arrival<R>>> for Doorway<R> {
+    // A socket reports once, so there is no wait where one came: others may be there.
+    fn next(&mut self) -> Option<Opaque<Arrival<R>>>
+        ensures stirs { IfSome result (λ _. self.new.connection.waits.quiet ≡ false) }
+        ensures none { result ≡ None → self.new ≡ self.old }
+        ensures way { self.new.connection.way ≡ self.old.connection.way }
+    {
+        if self.waking > 0 {
+            return None;
+        }
+        let stream = first_at(&mut self.came, &self.listener, &self.connection)?;
+        self.connection.stir();
+        Some(Opaque::new(Arrival::new(stream, self.clock)))
+    }
+
+    fn has_ended(&mut self) -> bool
+        ensures ended { result ≡ has_ended self.old.connection.way }
+        ensures same { self.new ≡ self.old }
+    {
+        self.connection.has_ended()
+    }
+
+    fn rest(&mut self, longest: u64, due: Option<u64>)
+        ensures waited { IfSome self.new.connection.waits.longest (λ long. (longest ≢ 0)
+            × (long ≡ min longest (wait_until due self.old.connection.moment))) }
+        ensures goes { Goes ⟦<UnixStream as Stream>⟧.answers self.old.connection.moment self.old.connection.way self.new.connection.way }
+        // It waits where nothing came, but where more goes at once.
+        ensures busy { longest ≢ 0 → self.old.connection.waits.quiet ≡ true → self.new.connection.waits.longest ≡ None
+            → MoreGoes ⟦<UnixStream as Stream>⟧.answers self.old.connection.way self.new.connection.way }
+    {
+        let wait = longest.min(wait_until(due, self.connection.moment()));
+        if longest == 0 {
+            self.connection.stir();
+        }
+        self.connection.rest(wait);
+    }
+
+    // Until something is due the start waits as ever. From then on it says nothing, so the server stops sending after a minute without
+    // news.
+    fn sleep(&mut self, longest: u64, due: Option<u64>) {
+        if self.waking > 0 {
+            self.waking -= 1;
+            self.connection.rest(longest.min(WAKING));
+            return;
+        }
+        let begun = self.connection.moment();
+        for _ in 0..FOR_GOOD {
+            let now = self.connection.now();
+            if self.is_woken_by_terminal() {
+                self.wake();
+                return;
+            }
+            let is_light = is_before(now, due);
+            if !is_light && (self.is_woken_by_server() || self.connection.has_ended()) {
+                return;
+            }
+            let passed = now.saturating_sub(begun);
+            if passed >= longest {
+                return;
+            }
+            self.connection.rest(until(due, now).min(longest - passed));
+            if is_light && is_before(self.connection.now(), due) {
+                return;
+            }
+        }
+    }
+}
+
+/// Is the start of all outer terminals that connect to a socket, for so many rounds at most. `Bind` where the socket can't be bound.
+pub(crate) fn host<R: Files + Net, C: Clock + Copy + Drop>(
+    rt: &R,
+    alloc: Global,
+    path: &str,
+    rounds: u64,
+    client: Client,
+    connection: Connection<C>,
+    clock: C,
+    to: Addr,
+) -> Result<End, RunFault>
+    ensures faults { IfErr result (λ fault. fault ≡ RunFault.Bind) }
+{
+    let Some(mut listener) = listen(rt, path) else {
+        return Err(RunFault::Bind);
+    };
+    connection.report(&mut listener, false);
+    let mut shared = SharedClient::new(alloc, client);
+    let mut door = Listening::new(Doorway {
+        listener,
+        came: None,
+        clock,
+        connection,
+        heard: 0,
+        waking: 0,
+    });
+    let end = run_shared(alloc, &mut shared, &mut door, to, rounds);
+    // A file that somebody removed before is no matter.
+    let _ = remove_file(rt, path);
+    Ok(end)
+}

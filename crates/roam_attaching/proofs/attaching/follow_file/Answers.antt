@@ -1,8 +1,0 @@
-use Rattle.roam_attaching.proofs.Running.{told}
-use Rattle.roam_attaching.proofs.attaching.follow_file.Goals as goal
-
-pub returns : goal.returns
-returns g c = record {
-  faults = told _ _ _ _ _ _ _ _ _ _ c.follow.result c.holding-typist.ensures.stands c.follow.ensures.faults
-      c.follow.ensures.broken_off;
-}

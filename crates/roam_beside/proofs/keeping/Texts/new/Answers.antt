@@ -1,5 +1,0 @@
-use Rattle.roam_beside.proofs.KeepingSteps.{keeps-nothing}
-use Rattle.roam_beside.proofs.keeping.Texts.new.Goals as goal
-
-pub returns-clause-keeps : goal.returns-clause-keeps
-returns-clause-keeps c = keeps-nothing c.new.result.items

@@ -1,5 +1,0 @@
-use Rattle.roam_beside.proofs.Runs.{still-far}
-use Rattle.roam_beside.proofs.silence.still_run.Goals as goal
-
-pub returns-clause-still : goal.returns-clause-still
-returns-clause-still c = still-far c.args.piece.now c.near_run-near.result c.far_run.result c.near_run-near.ensures.still c.far_run.ensures.still

@@ -1,9 +1,0 @@
-pub mod Settings
-pub mod InOrder
-pub mod Texts
-pub mod Utterances
-pub mod Keeping
-pub mod Questions
-pub mod Asking
-pub mod Silence
-pub mod Beside

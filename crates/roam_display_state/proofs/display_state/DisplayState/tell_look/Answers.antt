@@ -1,0 +1,12 @@
+use Rattle.std.proofs.Common.{◌≡◌, rules, ◌∷◌, [], refl, ◌∙◌}
+use Rattle.roam_display_records.specs.Looks.{screen_text}
+use Rattle.roam_display_records.specs.declared.records.Record.TheVariants.{Screen}
+use Rattle.roam_display_state.specs.DisplayState.TellsLook.{looked}
+use Rattle.roam_display_state.proofs.display_state.DisplayState.tell_look.Goals as goal
+
+pub returns-then-say : goal.returns-then-say
+returns-then-say g c =
+    let text : c.deref.result.now ≡ screen_text c.in-Some.looking (g.S.Seen.screen c.args.shot.now) = search rules in
+    record {
+      tells = (Screen c.deref.result ∷ [], looked c.in-Some.looking c.deref.result (search rules) text refl (search rules), search rules);
+    }

@@ -1,0 +1,123 @@
+-- What a terminal is told in records, and what is kept of it (this project's profile).
+use Rattle.std.specs.Borrow.{Bor}
+use Rattle.std.specs.Prelude.{◌≡◌, ℕ, Bool, true, false, ◌&&◌, ◌==◌, List, [], ◌∷◌, ◌++◌, length, Option, Some, None, nat_lt, if◌then◌else◌}
+use Rattle.roam_paint.specs.Painting.{text_between}
+use Rattle.roam_viewport.specs.Parts.{part_of}
+use Rattle.roam_viewport.specs.declared.parts.Part.{Part}
+use Rattle.roam_display_records.specs.Looks.{screen_text}
+use Rattle.roam_display_records.specs.Taken.{TakenView, acknowledged_of, done_after, nothing_taken, risen, took}
+use Rattle.roam_display_records.specs.declared.looks.Looking.{Looking}
+use Rattle.roam_display_records.specs.declared.records.Record.{Record}
+use Rattle.roam_display_records.specs.declared.records.Record.TheVariants.{Size, Place, Paint, Anew, Screen, Taken}
+use Rattle.roam_screens.specs.Screenshot.{Screenshot}
+use Rattle.roam_scroll_paint.specs.Leads.{Leads}
+use Rattle.roam_turns.specs.Painting.{ShowsSized}
+use Rattle.roam_terminal_input.specs.declared.showings.Showing.{Showing}
+use Rattle.roam_terminal_input.specs.declared.showings.Showing.TheVariants as showing
+use Rattle.roam_display_state.specs.Scopes.{part_for, place_told, scope_after}
+use Rattle.roam_display_state.specs.declared.scopes.Scope.{Scope}
+use Rattle.roam_display_state.specs.declared.scopes.Scope.TheVariants.{Whole, Exactly, Following}
+
+-- how many parts of a terminal may be masked at once
+abbrev pub most_masks : ℕ
+most_masks = 4
+
+-- which part of the screen is shown; which cells of the terminal aren't painted; what it shows, where that is known; the size and the place
+-- that were told last; the screen that it asked for; and the lines that were taken
+pub record DisplayStateView : Type 0 where
+  pub scope : Scope
+  pub masks : List Part
+  pub view : Option Screenshot
+  pub sized : Option (ℕ × ℕ)
+  pub placed : Option (ℕ × ℕ)
+  pub looking : Option Looking
+  pub taken : TakenView
+
+-- nothing is told yet: the whole screen is to be shown
+abbrev pub nothing_told : DisplayStateView
+nothing_told =
+    record { scope = Whole; masks = []; view = None; sized = None; placed = None; looking = None; taken = nothing_taken }
+
+-- ---- what is to be shown
+
+-- another part is shown from now on, or other cells are masked: what the terminal shows isn't known any more, and is painted anew
+abbrev pub shown_so : Showing → DisplayStateView → DisplayStateView
+shown_so showing.Whole t = record t { scope = Whole; view = None; placed = None }
+shown_so (showing.Exactly part) t = record t { scope = Exactly part; view = None; placed = None }
+shown_so (showing.Following rows cols) t =
+    record t { scope = Following (record { row = 0; col = 0; rows = rows; cols = cols }); view = None; placed = None }
+shown_so (showing.Mask part) t = record t { masks = t.masks ++ part ∷ []; view = None }
+shown_so showing.Unmask t = record t { masks = []; view = None }
+
+-- a fifth mask is none
+abbrev pub has_room_for : Showing → DisplayStateView → Bool
+has_room_for showing.Whole t = true
+has_room_for (showing.Exactly part) t = true
+has_room_for (showing.Following rows cols) t = true
+has_room_for (showing.Mask part) t = nat_lt (length t.masks) most_masks
+has_room_for showing.Unmask t = true
+
+-- ---- a painting
+
+-- a text leads a terminal from what it shows to a screen; where that isn't known it leads any terminal
+abbrev pub LeadsFrom : Option Screenshot → List ℕ → Screenshot → Type 0
+LeadsFrom None text s = ShowsSized None text s
+LeadsFrom (Some old) text s = Leads old s text
+
+-- where cells are masked the text writes each place that differs, and no other
+abbrev pub IsStill : List Part → Option Screenshot → List ℕ → Screenshot → Type 0
+IsStill [] before text s = Unit {0}
+IsStill (mask ∷ masks) None text s = Unit {0}
+IsStill (mask ∷ masks) (Some old) text s = text ≡ text_between old s
+
+-- two numbers were told last
+abbrev pub is_told : Option (ℕ × ℕ) → ℕ → ℕ → Bool
+is_told None first second = false
+is_told (Some told) first second = told.0 == first && told.1 == second
+
+-- the size of what is painted is told where another was told last
+abbrev pub sizes_said : Option (ℕ × ℕ) → Screenshot → List Record
+sizes_said told s = if is_told told s.rows s.cols then [] else Size s.rows s.cols ∷ []
+
+-- where a part begins is told where another place was told last
+abbrev pub places_said : Option (ℕ × ℕ) → Option (ℕ × ℕ) → List Record
+places_said told None = []
+places_said told (Some place) = if is_told told place.0 place.1 then [] else Place place.0 place.1 ∷ []
+
+-- a painting is told: one that opens the terminal first where it isn't known what that shows
+abbrev pub painting_said : Option Screenshot → Bor (List ℕ) → Record
+painting_said None text = Anew text
+painting_said (Some before) text = Paint text
+
+-- A screen is to be shown: the part of it that is wanted is painted, where it stands and of which size it is are told before, and the
+-- terminal shows it from then on; or nothing is told and nothing changes, as where nothing is new or memory is wanting.
+pub data Tells (screen : Screenshot) (said : List Record) (old new : DisplayStateView) : Type 0 where
+  nothing : said ≡ [] → new ≡ old → Tells screen said old new
+  shown : (part : Part) (view : Screenshot) (text : Bor (List ℕ)) → part ≡ part_for old.scope screen
+      → view ≡ part_of part old.masks screen → LeadsFrom old.view text.now view → IsStill old.masks old.view text.now view
+      → said
+      ≡ sizes_said old.sized view
+      ++ (places_said old.placed (place_told old.scope part) ++ painting_said old.view text ∷ [])
+      → new
+      ≡ record old {
+        scope = scope_after old.scope part;
+        view = Some view;
+        sized = Some (view.rows, view.cols);
+        placed = place_told old.scope part;
+      }
+      → Tells screen said old new
+
+-- ---- what was asked for
+
+-- a screen that was asked for is told cell by cell; or nothing is
+pub data TellsLook (screen : Screenshot) (said : List Record) (old new : DisplayStateView) : Type 0 where
+  nothing : said ≡ [] → new ≡ old → TellsLook screen said old new
+  looked : (looking : Looking) (text : Bor (List ℕ)) → old.looking ≡ Some looking → text.now ≡ screen_text looking screen
+      → said ≡ Screen text ∷ []
+      → new ≡ record old { looking = None } → TellsLook screen said old new
+
+-- so many lines are taken and all their acts acknowledged, where so many acts are: that is told where it rose; or nothing is
+pub data TellsTaken (acknowledged : ℕ) (said : List Record) (old new : DisplayStateView) : Type 0 where
+  nothing : said ≡ [] → new ≡ old → TellsTaken acknowledged said old new
+  rose : (lines : ℕ) → risen old.taken.told (done_after acknowledged old.taken) ≡ Some lines → said ≡ Taken lines ∷ []
+      → new ≡ record old { taken = acknowledged_of acknowledged old.taken } → TellsTaken acknowledged said old new

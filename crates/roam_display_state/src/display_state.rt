@@ -1,0 +1,314 @@
+//! What a terminal is told in records, and what is kept of it.
+ghost use Rattle.std.specs.Prelude.{◌≡◌, ◌++◌, ◌∷◌, [], ℕ, List, true, false, IfOk, IfSome, OnOk, is_some};
+ghost use Rattle.std.specs.Borrow.{Bor};
+ghost use Rattle.roam_viewport.specs.Parts.{part_of as part_in};
+ghost use Rattle.roam_display_records.specs.Records.{text_of};
+ghost use Rattle.roam_display_records.specs.Taken.{took};
+ghost use Rattle.roam_display_records.specs.declared.records.Record.{Record as RecordOf};
+ghost use Rattle.roam_display_state.specs.Saying.{texts_of};
+ghost use Rattle.roam_display_state.specs.Scopes.{part_for, place_told, scope_after};
+ghost use Rattle.roam_display_state.specs.DisplayState.{IsStill, LeadsFrom, Tells, TellsLook, TellsTaken, has_room_for, is_told, nothing_told, painting_said, places_said, shown_so, sizes_said};
+
+use crate::painting::{is_other, text_to};
+use crate::saying::say;
+use crate::scopes::Scope;
+use arrayvec::ArrayVec;
+use roam_cells::Fault;
+use roam_display_records::{Looking, Record, TakenLines, record_text, screen_text};
+use roam_screens::{RowShot, Seen};
+use roam_stream_framing::Outbox;
+use roam_terminal_input::Showing;
+use roam_viewport::{Part, part_of};
+use std::alloc::Global;
+use std::marker::Model;
+
+/// How many parts of a terminal may be masked at once.
+const MOST_MASKS: usize = 4;
+
+/// What a terminal is told in records: which part of the screen it shows, which lines are taken, and the screen that it asked for.
+#[derive(Drop)]
+pub struct DisplayState {
+    scope: Scope,
+    masks: ArrayVec<Part, MOST_MASKS>,
+    view: Option<RowShot>,
+    sized: Option<(u16, u16)>,
+    placed: Option<(u16, u16)>,
+    looking: Option<Looking>,
+    taken: TakenLines,
+}
+
+impl Model for DisplayState {
+    ghost use Rattle.roam_display_state.specs.DisplayState.{DisplayStateView};
+
+    ghost Value = { DisplayStateView };
+
+    ghost view = { λ t. record {
+      scope = t.scope;
+      masks = t.masks.items;
+      view = t.view;
+      sized = t.sized;
+      placed = t.placed;
+      looking = t.looking;
+      taken = t.taken;
+    } };
+}
+
+// What is to be told of a screen: the text of its records, and the part that is shown then.
+#[derive(Drop)]
+struct Painting {
+    text: Vec<u8>,
+    part: Part,
+    view: RowShot,
+}
+
+// Adds a record. Refuses want of memory.
+fn push_record(alloc: Global, text: &mut Vec<u8>, told: Record<'_>) -> Result<(), Fault>
+    ensures text { OnOk result (text.new.items ≡ text.old.items ++ text_of told.entry) }
+{
+    let more = record_text(alloc, told)?;
+    text.extend_from_slice(&more)?;
+    Ok(())
+}
+
+// Whether two numbers were told last.
+fn is_told(told: Option<(u16, u16)>, first: u16, second: u16) -> bool
+    ensures told { result ≡ is_told told first second }
+{
+    match told {
+        None => false,
+        Some(last) => last.0 == first && last.1 == second,
+    }
+}
+
+// Adds the size of what is painted, where another was told last.
+fn push_size(
+    alloc: Global,
+    text: &mut Vec<u8>,
+    told: Option<(u16, u16)>,
+    view: &RowShot,
+) -> Result<(), Fault>
+    ensures text { OnOk result (text.new.items ≡ text.old.items ++ texts_of (sizes_said told view.now)) }
+{
+    let (rows, cols) = (view.rows(), view.cols());
+    if is_told(told, rows, cols) {
+        return Ok(());
+    }
+    push_record(alloc, text, Record::Size(rows, cols))
+}
+
+// Adds where the part begins, where another place was told last.
+fn push_place(
+    alloc: Global,
+    text: &mut Vec<u8>,
+    told: Option<(u16, u16)>,
+    place: Option<(u16, u16)>,
+) -> Result<(), Fault>
+    ensures text { OnOk result (text.new.items ≡ text.old.items ++ texts_of (places_said told place)) }
+{
+    let Some((row, col)) = place else {
+        return Ok(());
+    };
+    if is_told(told, row, col) {
+        return Ok(());
+    }
+    push_record(alloc, text, Record::Place(row, col))
+}
+
+// Adds a painting, which opens the terminal first where it isn't known what that shows.
+fn push_painting(
+    alloc: Global,
+    text: &mut Vec<u8>,
+    before: &Option<RowShot>,
+    bytes: &[u8],
+) -> Result<(), Fault>
+    ensures text { OnOk result (text.new.items ≡ text.old.items ++ text_of (painting_said before.now bytes.entry)) }
+{
+    match before {
+        None => push_record(alloc, text, Record::Anew(bytes)),
+        Some(_) => push_record(alloc, text, Record::Paint(bytes)),
+    }
+}
+
+impl DisplayState {
+    /// Nothing is told yet: the whole screen is to be shown.
+    pub fn new() -> DisplayState
+        ensures nothing { result ≡ nothing_told }
+    {
+        DisplayState {
+            scope: Scope::Whole,
+            masks: ArrayVec::new(),
+            view: None,
+            sized: None,
+            placed: None,
+            looking: None,
+            taken: TakenLines::new(),
+        }
+    }
+
+    /// Whether it is known what the terminal shows.
+    pub fn is_known(&self) -> bool
+        ensures known { result ≡ is_some self.now.view }
+    {
+        self.view.is_some()
+    }
+
+    /// What the terminal shows isn't known any more: it is opened and painted anew.
+    pub fn forget(&mut self)
+        ensures forgotten { self.new ≡ record self.old { view = None } }
+    {
+        self.view = None;
+    }
+
+    /// Something else of the screen is to be shown from now on; tells whether it can be: a fifth mask can't, and changes nothing.
+    pub fn show(&mut self, showing: Showing) -> bool
+        ensures room { result ≡ has_room_for showing self.old }
+        ensures shown { result ≡ true → self.new ≡ shown_so showing self.old }
+        ensures full { result ≡ false → self.new ≡ self.old }
+    {
+        match showing {
+            Showing::Whole => self.show_scope(Scope::Whole),
+            Showing::Exactly(part) => self.show_scope(Scope::Exactly(part)),
+            Showing::Following(rows, cols) => {
+                let part = Part {
+                    row: 0,
+                    col: 0,
+                    rows,
+                    cols,
+                };
+                self.show_scope(Scope::Following(part));
+            }
+            Showing::Mask(part) => return self.mask(part),
+            Showing::Unmask => {
+                self.masks.clear();
+                self.view = None;
+            }
+        }
+        true
+    }
+
+    // Another part is shown from now on.
+    fn show_scope(&mut self, scope: Scope)
+        ensures shown { self.new ≡ record self.old { scope = scope; view = None; placed = None } }
+    {
+        self.scope = scope;
+        self.view = None;
+        self.placed = None;
+    }
+
+    // A part of the terminal is masked too, where there is room for it.
+    fn mask(&mut self, part: Part) -> bool
+        ensures room { result ≡ has_room_for (Showing.Mask part) self.old }
+        ensures masked { result ≡ true → self.new ≡ record self.old { masks = self.old.masks ++ part ∷ []; view = None } }
+        ensures full { result ≡ false → self.new ≡ self.old }
+    {
+        if self.masks.len() >= MOST_MASKS {
+            return false;
+        }
+        self.masks.push(part);
+        self.view = None;
+        true
+    }
+
+    /// The screen is asked for.
+    pub fn ask(&mut self, looking: Looking)
+        ensures asked { self.new ≡ record self.old { looking = Some looking } }
+    {
+        self.looking = Some(looking);
+    }
+
+    /// Whether a screen that was asked for isn't told yet.
+    pub fn is_asked(&self) -> bool
+        ensures asked { result ≡ is_some self.now.looking }
+    {
+        self.looking.is_some()
+    }
+
+    /// A line was taken; the last of its acts has this number, where it has acts.
+    pub fn took(&mut self, last: Option<u64>)
+        ensures took { self.new ≡ record self.old { taken = took last self.old.taken } }
+    {
+        self.taken.took(last);
+    }
+}
+
+impl DisplayState {
+    // What is to be told of a screen; none where nothing is new. Refuses want of memory.
+    fn painting(&self, alloc: Global, shot: &RowShot) -> Result<Option<Painting>, Fault>
+        ensures painting { IfOk result (λ found. IfSome found (λ p. (text : Bor (List ℕ)) × (p.part ≡ part_for self.now.scope shot.now)
+            × (p.view ≡ part_in p.part self.now.masks shot.now)
+            × LeadsFrom self.now.view text.now p.view
+            × IsStill self.now.masks self.now.view text.now p.view
+            × (p.text.items ≡ texts_of (sizes_said self.now.sized p.view
+            ++ (places_said self.now.placed (place_told self.now.scope p.part) ++ painting_said self.now.view text ∷ []))))) }
+    {
+        let part = self.scope.part(shot);
+        let view = part_of(alloc, shot, part, &self.masks)?;
+        let mut text = Vec::new(alloc);
+        push_size(alloc, &mut text, self.sized, &view)?;
+        push_place(alloc, &mut text, self.placed, self.scope.place(part))?;
+        if text.is_empty() && !is_other(&self.view, &view) {
+            return Ok(None);
+        }
+        let bytes = text_to(alloc, &self.view, &self.masks, &view)?;
+        push_painting(alloc, &mut text, &self.view, &bytes)?;
+        Ok(Some(Painting { text, part, view }))
+    }
+
+    // A part of a screen is shown from now on.
+    fn note(&mut self, part: Part, view: RowShot)
+        ensures noted { self.new ≡ record self.old {
+          scope = scope_after self.old.scope part;
+          view = Some view;
+          sized = Some (view.rows, view.cols);
+          placed = place_told self.old.scope part;
+        } }
+    {
+        self.sized = Some((view.rows(), view.cols()));
+        self.placed = self.scope.place(part);
+        self.scope = self.scope.after(part);
+        self.view = Some(view);
+    }
+
+    /// Tells of a screen what is to be shown of it, behind what waits: the part that is wanted is painted, but for what is masked. Where
+    /// nothing is new, and where memory is wanting, nothing is told and nothing changes.
+    pub fn tell_screen(&mut self, alloc: Global, waiting: &mut Outbox, shot: &RowShot)
+        ensures tells { (said : List RecordOf) × Tells shot.now said self.old self.new × (waiting.new ≡ waiting.old ++ texts_of said) }
+    {
+        let Ok(Some(painting)) = self.painting(alloc, shot) else {
+            return;
+        };
+        if waiting.push(&painting.text).is_ok() {
+            self.note(painting.part, painting.view);
+        }
+    }
+
+    /// Tells a screen that was asked for, cell by cell, behind what waits. Where none was, and where memory is wanting, nothing is told.
+    pub fn tell_look<S: Seen>(&mut self, alloc: Global, waiting: &mut Outbox, shot: &S)
+        ensures tells { (said : List RecordOf) × TellsLook (S.screen shot.now) said self.old self.new
+            × (waiting.new ≡ waiting.old ++ texts_of said) }
+    {
+        let Some(looking) = self.looking else {
+            return;
+        };
+        let Ok(text) = screen_text(alloc, looking, shot) else {
+            return;
+        };
+        if say(alloc, waiting, Record::Screen(&text)) {
+            self.looking = None;
+        }
+    }
+
+    /// So many acts are acknowledged: tells how many of the first lines are taken, with all their acts acknowledged, behind what waits,
+    /// where that rose. Where memory is wanting nothing is told.
+    pub fn tell_taken(&mut self, alloc: Global, waiting: &mut Outbox, acknowledged: u64)
+        ensures tells { (said : List RecordOf) × TellsTaken acknowledged said self.old self.new
+            × (waiting.new ≡ waiting.old ++ texts_of said) }
+    {
+        let Some(lines) = self.taken.risen(acknowledged) else {
+            return;
+        };
+        if say(alloc, waiting, Record::Taken(lines)) {
+            let _ = self.taken.acknowledged(acknowledged);
+        }
+    }
+}

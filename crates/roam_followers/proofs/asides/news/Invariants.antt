@@ -1,7 +1,0 @@
-use Rattle.std.proofs.Common.{◌≡◌, ◌-◌}
-use Rattle.std.specs.Prelude.{string_bytes}
-use Rattle.roam_followers.specs.Asides.{beside_news}
-use Rattle.roam_followers.proofs.asides.news.Given as goal
-
-abbrev pub invariant-loop-pane : goal.invariant-loop-pane
-invariant-loop-pane l = string_bytes l.text ≡ beside_news (l.pane - 1) l.told l.now l.panes.all.items

@@ -1,6 +1,0 @@
-use Rattle.std.proofs.Common.{rules}
-use Rattle.roam_followers.proofs.Asked.{types_close}
-use Rattle.roam_followers.proofs.closing.send_close.Goals as goal
-
-pub returns : goal.returns
-returns c = record { types = types_close _ _ _ _ _ _ _ (search rules) c.tick.ensures.sent }

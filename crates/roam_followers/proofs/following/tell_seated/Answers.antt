@@ -1,6 +1,0 @@
-use Rattle.roam_followers.proofs.Seated.{each_told}
-use Rattle.roam_followers.proofs.following.tell_seated.Goals as goal
-
-pub returns-clause-told : goal.returns-clause-told
-returns-clause-told g c =
-    each_told g.S.Stream.contents c.args.now.now c.args.all.now _ c.seat_keeper.new.all c.seat_keeper.ensures.seated c.tell_each-may_ask.ensures.told

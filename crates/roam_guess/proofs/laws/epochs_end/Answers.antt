@@ -1,5 +1,0 @@
-use Rattle.roam_guess.proofs.Epochs.{epochs_end}
-use Rattle.roam_guess.proofs.laws.epochs_end.Goals as goal
-
-pub returns : goal.returns
-returns c = record { ends = epochs_end }

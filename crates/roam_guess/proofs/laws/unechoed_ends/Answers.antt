@@ -1,5 +1,0 @@
-use Rattle.roam_guess.proofs.Times.{unechoed_ends}
-use Rattle.roam_guess.proofs.laws.unechoed_ends.Goals as goal
-
-pub returns : goal.returns
-returns c = record { ends = unechoed_ends }

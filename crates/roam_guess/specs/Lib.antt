@@ -1,6 +1,0 @@
-pub mod Guesses
-pub mod Overlay
-pub mod Typing
-pub mod Underlined
-pub mod Verdicts
-pub mod Laws

@@ -1,5 +1,0 @@
-use Rattle.roam_leaving.proofs.Leading.{row-text-leads}
-use Rattle.roam_leaving.proofs.laws.row_text_leads.Goals as goal
-
-pub returns : goal.returns
-returns c = record { leads = row-text-leads }

@@ -1,5 +1,0 @@
-use Rattle.roam_leaving.proofs.Standing.{continues}
-use Rattle.roam_leaving.proofs.laws.rows_are_those_that_left.Goals as goal
-
-pub returns : goal.returns
-returns c = record { rows = continues }

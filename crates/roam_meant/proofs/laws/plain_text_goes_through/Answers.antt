@@ -1,5 +1,0 @@
-use Rattle.roam_meant.proofs.Translating.{still-same}
-use Rattle.roam_meant.proofs.laws.plain_text_goes_through.Goals as goal
-
-pub returns : goal.returns
-returns c = record { same = still-same }

@@ -1,4 +1,0 @@
-pub mod Renditions
-pub mod Meanings
-pub mod Meant
-pub mod Found

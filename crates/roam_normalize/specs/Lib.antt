@@ -1,0 +1,4 @@
+pub mod Renditions
+pub mod Meanings
+pub mod Normalized
+pub mod Found

@@ -1,0 +1,107 @@
+-- What bytes mean, in bytes that this project's profile reads so.
+use Rattle.std.specs.Prelude.{ℕ, zero, suc, ◌≡◌, ◌+◌, ◌==◌, ◌&&◌, Bool, cond, nat_lt, nat_le, if◌then◌else◌, List, [], ◌∷◌, ◌++◌, length, drop}
+use Rattle.roam_normalize.specs.Meanings.{hyphen, meaning}
+
+-- the most bytes of a control sequence between CSI and its final byte that are looked at; a longer one goes through as it is
+abbrev pub most_body : ℕ
+most_body = 255
+
+-- the most bytes that are held back: ESC, 5B and so many
+abbrev pub most_held : ℕ
+most_held = 257
+
+-- a parameter byte or an intermediate byte: 20 to 3F (ECMA-48 5.4)
+abbrev pub is_body : ℕ → Bool
+is_body b = nat_le 0x20 b && nat_lt b 0x40
+
+-- a final byte: 40 to 7E (ECMA-48 5.4)
+abbrev pub is_final : ℕ → Bool
+is_final b = nat_le 0x40 b && nat_lt b 0x7F
+
+-- what stands behind ESC and 5B: the beginning of a control sequence, a whole one by its bytes, or neither
+pub data Scan : Type 0 where
+  Unfinished : Scan
+  Neither : Scan
+  Sequence : List ℕ → ℕ → Scan
+
+-- with a byte in front
+abbrev pub with_byte : ℕ → Scan → Scan
+with_byte b Unfinished = Unfinished
+with_byte b Neither = Neither
+with_byte b (Sequence body last) = Sequence (b ∷ body) last
+
+-- of bytes behind ESC and 5B, where so many may come before the final byte
+abbrev pub scan : ℕ → List ℕ → Scan
+scan room [] = Unfinished
+scan zero (b ∷ rest) = cond (is_final b) (Sequence [] b) Neither
+scan (suc room) (b ∷ rest) = if is_body b then with_byte b (scan room rest) else cond (is_final b) (Sequence [] b) Neither
+
+-- what stands first of some bytes: what may still become something else, or so many bytes and what goes out for them
+pub data Front : Type 0 where
+  Held : Front
+  Taken : ℕ → List ℕ → Front
+
+-- a byte that goes through as it is
+abbrev pub one : ℕ → Front
+one b = Taken 1 (b ∷ [])
+
+-- behind ESC and 5B
+abbrev pub sequence_front : Scan → Front
+sequence_front Unfinished = Held
+sequence_front Neither = one 0x1B
+sequence_front (Sequence body last) = Taken (length body + 3) (meaning body last)
+
+-- behind ESC; whatever comes before it, ESC begins anew
+abbrev pub escape_front : List ℕ → Front
+escape_front [] = Held
+escape_front (c ∷ rest) = cond (c == 0x5B) (sequence_front (scan most_body rest)) (one 0x1B)
+
+-- behind C2, with which the soft hyphen U+00AD begins, C2 AD; whatever comes before it, C2 begins a character (Unicode Table 3-7)
+abbrev pub lead_front : List ℕ → Front
+lead_front [] = Held
+lead_front (c ∷ rest) = cond (c == 0xAD) (Taken 2 hyphen) (one 0xC2)
+
+-- what stands first
+abbrev pub front : List ℕ → Front
+front [] = Held
+front (b ∷ rest) = if b == 0x1B then escape_front rest else if b == 0xC2 then lead_front rest else one b
+
+-- what goes out, and what is held back
+pub record Normalized : Type 0 where
+  pub out : List ℕ
+  pub held : List ℕ
+
+-- with this in front
+abbrev pub behind : List ℕ → Normalized → Normalized
+behind first m = record { out = first ++ m.out; held = m.held }
+
+-- what stands first, and what follows it
+abbrev pub onward : Front → List ℕ → (List ℕ → Normalized) → Normalized
+onward Held bytes go = record { out = []; held = bytes }
+onward (Taken count out) bytes go = behind out (go (drop count bytes))
+
+-- front by front; fuel is at least the number of bytes
+unfoldable pub normalized_from : ℕ → List ℕ → Normalized
+normalized_from zero bytes = record { out = []; held = bytes }
+normalized_from (suc n) bytes = onward (front bytes) bytes (normalized_from n)
+
+-- what some bytes mean
+unfoldable pub normalized : List ℕ → Normalized
+normalized bytes = normalized_from (length bytes) bytes
+
+-- the bytes that go out for some bytes
+abbrev pub normalized_part : List ℕ → List ℕ
+normalized_part bytes = (normalized bytes).out
+
+-- those of them that are held back, since what comes next may make something else of them
+abbrev pub held_part : List ℕ → List ℕ
+held_part bytes = (normalized bytes).held
+
+-- some bytes go through as they are, and what these mean follows
+abbrev pub GoesThrough : List ℕ → List ℕ → Type 0
+GoesThrough run rest = normalized (run ++ rest) ≡ behind run (normalized rest)
+
+-- so many bytes were taken of what stands first, and this went out for them: none, and nothing, where it is held back
+abbrev pub Goes : ℕ → List ℕ → List ℕ → List ℕ → Type 0
+Goes zero bytes old new = (front bytes ≡ Held) × (new ≡ old)
+Goes (suc n) bytes old new = (out : List ℕ) × (front bytes ≡ Taken (suc n) out) × (new ≡ old ++ out)

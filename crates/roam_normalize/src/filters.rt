@@ -1,0 +1,131 @@
+//! The filter, over pieces.
+ghost use Rattle.std.specs.Prelude.{◌≡◌, ◌≤◌, ◌++◌, [], length, IfOk, OnOk, OnErr};
+ghost use Rattle.roam_normalize.specs.Normalized.{Goes, held_part, normalized_part};
+
+use crate::fronts::{Found, find, same_run};
+use crate::meanings::push_text;
+use std::alloc::{AllocError, Global};
+use std::marker::Model;
+
+/// U+2010 HYPHEN in UTF-8.
+const HYPHEN: [u8; 3] = [0xE2, 0x80, 0x90];
+
+// What stands first goes out as it is meant, and so many bytes are taken for it: none where it is held back. Refuses want of memory.
+fn push_front(alloc: Global, out: &mut Vec<u8>, bytes: &[u8]) -> Result<usize, AllocError>
+    ensures within { IfOk result (λ count. count ≤ length bytes.now) }
+    ensures front { IfOk result (λ count. Goes count bytes.now out.old.items out.new.items) }
+{
+    match find(bytes) {
+        Found::Held => Ok(0),
+        Found::Same(count) => {
+            out.extend_from_slice(&bytes[..count])?;
+            Ok(count)
+        }
+        Found::Hyphen => {
+            out.extend_from_slice(&HYPHEN)?;
+            Ok(2)
+        }
+        Found::Changed(kind, count) => {
+            push_text(alloc, out, kind, &bytes[2..count + 2], bytes[count + 2])?;
+            Ok(count + 3)
+        }
+    }
+}
+
+/// What some bytes mean.
+#[derive(Drop)]
+struct Translation {
+    out: Vec<u8>,
+    held: Vec<u8>,
+}
+
+// A vector of these bytes.
+fn copy_of(alloc: Global, bytes: &[u8]) -> Result<Vec<u8>, AllocError>
+    ensures copy { IfOk result (λ copy. copy.items ≡ bytes.now) }
+{
+    let mut copy = Vec::new(alloc);
+    copy.extend_from_slice(bytes)?;
+    Ok(copy)
+}
+
+// All is read that can be: these bytes went out, and these are held back. Refuses want of memory.
+fn ended(alloc: Global, out: Vec<u8>, held: &[u8]) -> Result<Translation, AllocError>
+    ensures out { IfOk result (λ t. t.out.items ≡ out.items) }
+    ensures held { IfOk result (λ t. t.held.items ≡ held.now) }
+{
+    let held = copy_of(alloc, held)?;
+    Ok(Translation { out, held })
+}
+
+// What some bytes mean. Refuses want of memory.
+fn translate(alloc: Global, bytes: &[u8]) -> Result<Translation, AllocError>
+    ensures out { IfOk result (λ t. t.out.items ≡ normalized_part bytes.now) }
+    ensures held { IfOk result (λ t. t.held.items ≡ held_part bytes.now) }
+{
+    let mut out = Vec::new(alloc);
+    let mut at = 0;
+    while at < bytes.len() {
+        let rest = &bytes[at..];
+        let same = same_run(rest);
+        out.extend_from_slice(&rest[..same])?;
+        at += same;
+        let taken = push_front(alloc, &mut out, &bytes[at..])?;
+        if taken == 0 {
+            return ended(alloc, out, &bytes[at..]);
+        }
+        at += taken;
+    }
+    ended(alloc, out, &[])
+}
+
+/// Lets a program's bytes through as they are meant, piece by piece.
+#[derive(Drop)]
+pub struct Filter {
+    alloc: Global,
+    held: Vec<u8>,
+}
+
+impl Model for Filter {
+    ghost use Rattle.std.specs.Prelude.{ℕ, List};
+
+    ghost Value = { List ℕ };
+
+    ghost view = { λ f. f.held.items };
+}
+
+impl Filter {
+    /// A filter that nothing was given to.
+    pub fn new(alloc: Global) -> Filter
+        ensures nothing { result ≡ [] }
+    {
+        Filter {
+            alloc,
+            held: Vec::new(alloc),
+        }
+    }
+
+    // What the bytes that are held back and a piece mean. Refuses want of memory.
+    fn translation(&self, piece: &[u8]) -> Result<Translation, AllocError>
+        ensures out { IfOk result (λ t. t.out.items ≡ normalized_part (self.now ++ piece.now)) }
+        ensures held { IfOk result (λ t. t.held.items ≡ held_part (self.now ++ piece.now)) }
+    {
+        if self.held.is_empty() {
+            return translate(self.alloc, piece);
+        }
+        let mut bytes = copy_of(self.alloc, &self.held)?;
+        bytes.extend_from_slice(piece)?;
+        translate(self.alloc, &bytes)
+    }
+
+    /// What goes out for a piece, after the pieces before it. Where there is no memory nothing was read, and the same piece may be given
+    /// again.
+    pub fn feed(&mut self, piece: &[u8]) -> Result<Vec<u8>, AllocError>
+        ensures out { IfOk result (λ out. out.items ≡ normalized_part (self.old ++ piece.now)) }
+        ensures held { OnOk result (self.new ≡ held_part (self.old ++ piece.now)) }
+        ensures err { OnErr result (self.new ≡ self.old) }
+    {
+        let translation = self.translation(piece)?;
+        self.held = translation.held;
+        Ok(translation.out)
+    }
+}

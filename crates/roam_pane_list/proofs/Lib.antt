@@ -1,6 +1,0 @@
-mod Besides
-mod Clipped
-pub mod Following
-pub mod ReadAgain
-mod Titles
-mod Newest

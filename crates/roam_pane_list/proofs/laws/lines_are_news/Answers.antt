@@ -1,5 +1,0 @@
-use Rattle.roam_pane_list.proofs.Following.{are_news}
-use Rattle.roam_pane_list.proofs.laws.lines_are_news.Goals as goal
-
-pub returns : goal.returns
-returns c = record { news = are_news }

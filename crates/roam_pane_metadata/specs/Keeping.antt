@@ -1,0 +1,70 @@
+-- What is kept of what was uttered: the control strings for which there was memory, and each reset.
+use Rattle.std.specs.Prelude.{ℕ, ◌≡◌, ◌≢◌, ◌≤◌, ⊤, List, [], length, Option, None, Some}
+use Rattle.roam_text.specs.declared.strings.StringKind.{StringKind}
+use Rattle.roam_text.specs.declared.strings.StringKind.TheVariants.{SystemCommand}
+use Rattle.roam_text.specs.declared.strings.StringStep.{StringStep}
+use Rattle.roam_text.specs.declared.strings.StringStep.TheVariants.{Ended}
+use Rattle.roam_text.specs.Strings.{ControlString, OpenString, ended_so}
+use Rattle.roam_pane_metadata.specs.declared.keeping.Collecting.{Collecting}
+use Rattle.roam_pane_metadata.specs.declared.keeping.Collecting.TheVariants.{Nothing, Text, Lost}
+use Rattle.roam_pane_metadata.specs.declared.keeping.Told.{Told}
+use Rattle.roam_pane_metadata.specs.declared.keeping.Told.TheVariants.{Nothing as NothingTold, Title, Clip}
+use Rattle.roam_pane_metadata.specs.Texts.{Said, clip_in, longest_text, title_in, with_clip, with_title}
+use Rattle.roam_pane_metadata.specs.Emissions.{Emission, IsPartOf, said_of}
+
+-- what was said, and what is collected of the control string that is open
+pub record TextsView : Type 0 where
+  pub said : Said
+  pub collecting : Collecting
+  pub text : List ℕ
+
+-- no operating system command is open
+abbrev pub IsOther : Option OpenString → Type 0
+IsOther None = ⊤
+IsOther (Some s) = s.kind ≢ SystemCommand
+
+-- one is open, with this text
+abbrev pub IsCommand : Option OpenString → List ℕ → Type 0
+IsCommand begun text = begun ≡ Some (record { kind = SystemCommand; text = text })
+
+-- what is collected of the string that is open: its whole text; or it is lost, being too long or for want of memory
+abbrev pub Collects : Collecting → List ℕ → Option OpenString → Type 0
+Collects Nothing text begun = IsOther begun
+Collects Text text begun = IsCommand begun text × (length text ≤ longest_text)
+Collects Lost text begun = (whole : List ℕ) × IsCommand begun whole
+
+-- what is said is that of what was kept of what was uttered: the control strings for which there was memory, and each reset; and what is
+-- collected is the text of the string that is open
+pub record Keeps (v : TextsView) (emitted : List Emission) (begun : Option OpenString) : Type 0 where
+  pub kept : List Emission
+  pub part : IsPartOf kept emitted
+  pub said : v.said ≡ said_of kept
+  pub open_text : Collects v.collecting v.text begun
+
+-- the control strings that a character ended, by what it did
+abbrev pub ended_by : StringStep → Option OpenString → List ControlString
+ended_by (Ended ending) begun = ended_so ending begun
+ended_by step begun = []
+
+-- the text of a string of this kind is collected
+abbrev pub collecting_of : StringKind → Collecting
+collecting_of SystemCommand = Text
+collecting_of kind = Nothing
+
+-- what is said with what was told
+abbrev pub with_told : Told → Said → Said
+with_told NothingTold s = s
+with_told (Title title) s = with_title (Some title.items) s
+with_told (Clip clip) s = with_clip (Some clip.items) s
+
+-- what was told is what the text says that was collected, or nothing
+abbrev pub Tells : Told → Collecting → List ℕ → Type 0
+Tells NothingTold collecting text = ⊤
+Tells (Title title) collecting text = (collecting ≡ Text) × (title_in text ≡ Some title.items)
+Tells (Clip clip) collecting text = (collecting ≡ Text) × (title_in text ≡ None) × (clip_in text ≡ Some clip.items)
+
+-- a string that was open has ended: what it says is said, if there was memory for it, and nothing is collected any more
+pub record Ends (old new : TextsView) : Type 0 where
+  pub told : Told
+  pub tells : Tells told old.collecting old.text
+  pub is : new ≡ record { said = with_told told old.said; collecting = Nothing; text = [] }

@@ -1,0 +1,9 @@
+pub mod Settings
+pub mod InOrder
+pub mod Texts
+pub mod Emissions
+pub mod Keeping
+pub mod Queries
+pub mod Asking
+pub mod Silence
+pub mod Metadata

@@ -1,0 +1,47 @@
+-- What stands beside a pane's terminal.
+use Rattle.std.specs.Prelude.{ℕ, ◌≡◌, Bool, List, ◌++◌, map}
+use Rattle.roam_text.specs.Log.{Byte}
+use Rattle.roam_text.specs.Strings.{strings_by}
+use Rattle.roam_text.specs.Stands.{View, Stands as ReaderStands}
+use Rattle.roam_text.specs.StringPhases.{StringView, Follows}
+use Rattle.roam_pane_metadata.specs.declared.settings.Settings.{Settings}
+use Rattle.roam_pane_metadata.specs.Settings.{settings_of}
+use Rattle.roam_pane_metadata.specs.Keeping.{TextsView, Keeps}
+use Rattle.roam_pane_metadata.specs.Emissions.{resets_of, emissions_of}
+use Rattle.roam_pane_metadata.specs.Queries.{by_functions, frame_of, queries_of}
+use Rattle.roam_pane_metadata.specs.Asking.{AskedView, HeadView, Heads, Recalls}
+
+-- two readers of bytes, what was set, what was said, and what was asked
+pub record MetadataView : Type 0 where
+  pub reader : View
+  pub strings : StringView
+  pub settings : Settings
+  pub texts : TextsView
+  pub frame : Bool
+  pub head : HeadView
+  pub asked : AskedView
+
+-- whatever comes after some bytes says and asks what it does after others
+pub record ReadsSame (bytes read : List ℕ) : Type 0 where
+  pub settings : settings_of bytes ≡ settings_of read
+  pub strings : strings_by (map Byte bytes) ≡ strings_by (map Byte read)
+  pub resets : resets_of bytes ≡ resets_of read
+  pub frame : frame_of bytes ≡ frame_of read
+  pub asked : by_functions bytes ≡ by_functions read
+
+abbrev pub ReadsAs : List ℕ → List ℕ → Type 0
+ReadsAs bytes read = (more : List ℕ) → ReadsSame (bytes ++ more) (read ++ more)
+
+-- it has read these bytes: what is set is what they set, what is said is what those control strings of theirs say for which there was
+-- memory, less what their resets took back of it, what was asked is what they asked, all of it, and its readers were given bytes after
+-- which all that comes says and asks the same
+pub record Stands (metadata : MetadataView) (bytes : List ℕ) : Type 0 where
+  pub read : List ℕ
+  pub reader : ReaderStands metadata.reader (map Byte read)
+  pub strings : Follows metadata.strings (map Byte read)
+  pub same : ReadsAs bytes read
+  pub settings : metadata.settings ≡ settings_of bytes
+  pub texts : Keeps metadata.texts (emissions_of bytes) (strings_by (map Byte bytes)).begun
+  pub frame : metadata.frame ≡ frame_of bytes
+  pub head : Heads metadata.head (strings_by (map Byte bytes)).begun
+  pub asked : Recalls metadata.asked (queries_of bytes)

@@ -1,0 +1,56 @@
+//! Laws of the definitions, each the contract of a function without a body.
+ghost use Rattle.std.specs.Prelude.{◌≡◌, ◌≤◌, ◌+◌, ℕ, List, [], ◌∷◌, ◌++◌, length, map, None};
+ghost use Rattle.std.specs.List.{flat_map};
+ghost use Rattle.roam_text.specs.Log.{Byte};
+ghost use Rattle.roam_text.specs.Strings.{strings_of};
+ghost use Rattle.roam_text.specs.declared.functions.Function.TheVariants.{Csi};
+ghost use Rattle.roam_pane_metadata.specs.declared.settings.Settings.{Settings};
+ghost use Rattle.roam_pane_metadata.specs.Settings.{heard, reset_settings, settings_of};
+ghost use Rattle.roam_pane_metadata.specs.Queries.{asked_after, by_functions, by_strings, queries_of};
+ghost use Rattle.roam_pane_metadata.specs.Texts.{Said};
+ghost use Rattle.roam_pane_metadata.specs.Emissions.{TakesBack, after_emission, resets_of, spoken_of, string_in, emitted_after, emitted_by, emissions_of};
+ghost use Rattle.roam_pane_metadata.specs.Metadata.{MetadataView, Stands};
+ghost use Rattle.roam_pane_metadata.specs.Silence.{AreStill, SaysNothing};
+
+/// RIS, ESC 63, resets all that a program sets, whatever stands unfinished before it; the bells that rang are still told (ECMA-48,
+/// 8.3.105). It is uttered after all that was uttered before it, and no title stands then; all else that was said stays.
+pub fn a_reset_resets()
+    ensures reset { (bytes : List ℕ) → settings_of (bytes ++ 0x1B ∷ 0x63 ∷ []) ≡ reset_settings (settings_of bytes) }
+    ensures uttered { (bytes : List ℕ) → emissions_of (bytes ++ 0x1B ∷ 0x63 ∷ []) ≡ emissions_of bytes ++ TakesBack ∷ [] }
+    ensures title { (metadata : MetadataView) (bytes : List ℕ) → Stands metadata (bytes ++ 0x1B ∷ 0x63 ∷ [])
+        → metadata.texts.said.title ≡ None }
+    ensures stays { (s : Said) → record (after_emission s TakesBack) { title = s.title; titles = s.titles } ≡ s }
+{}
+
+/// DECSTR, CSI ! p, leaves all that a program sets beside its screen, and takes nothing back.
+pub fn a_soft_reset_leaves_all()
+    ensures soft { (s : Settings) (params : List ℕ)
+        → heard s (Csi None (record { items = params }) (record { items = 0x21 ∷ [] }) 0x70) ≡ s }
+    ensures uttered { (params : List ℕ)
+        → emitted_by (Csi None (record { items = params }) (record { items = 0x21 ∷ [] }) 0x70) ≡ [] }
+{}
+
+/// Bytes without ESC, BEL and C2 say nothing, where nothing is unfinished before them, though a character be unfinished after them.
+pub fn still_bytes_say_nothing()
+    ensures silent { (bytes : List ℕ) → AreStill bytes → SaysNothing bytes }
+{}
+
+/// The count of bells only grows.
+pub fn bells_only_grow()
+    ensures grow { (bytes more : List ℕ) → (settings_of bytes).bells ≤ (settings_of (bytes ++ more)).bells }
+{}
+
+/// Each question of a control function and each of a control string is one of the bytes' questions, and nothing else is; those of a front
+/// come first.
+pub fn each_query_is_asked_once()
+    ensures once { (bytes : List ℕ) → length (queries_of bytes) ≡ length (by_functions bytes) + length (by_strings bytes) }
+    ensures front { (bytes more : List ℕ) → queries_of (bytes ++ more) ≡ queries_of bytes ++ asked_after bytes more }
+{}
+
+/// The control strings among what the bytes utter are those of the bytes, in their order, and beside them there is a reset for each RIS
+/// alone; what a front utters comes first.
+pub fn each_string_is_emitted_once()
+    ensures strings { (bytes : List ℕ) → flat_map string_in (emissions_of bytes) ≡ strings_of (map Byte bytes) }
+    ensures once { (bytes : List ℕ) → length (emissions_of bytes) ≡ length (resets_of bytes) + length (spoken_of bytes) }
+    ensures front { (bytes more : List ℕ) → emissions_of (bytes ++ more) ≡ emissions_of bytes ++ emitted_after bytes more }
+{}

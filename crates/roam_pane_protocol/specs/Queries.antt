@@ -1,0 +1,59 @@
+-- What the programs of a session's panes ask of their terminals, and the lines that tell the new questions (this project's profile).
+use Rattle.std.specs.Prelude.{◌≡◌, ◌≤◌, ℕ, true, false, ◌==◌, ◌-◌, ◌++◌, List, [], ◌∷◌, length, drop, slice_index_or, Option, Some, None, if◌then◌else◌, codes}
+use Rattle.roam_pane_metadata.specs.declared.queries.Query.{Query}
+use Rattle.roam_pane_metadata.specs.declared.queries.Query.TheVariants.{Foreground, Background, Frames, Pastes, Version}
+use Rattle.roam_pane_metadata.specs.Asking.{most_kept, newest}
+use Rattle.roam_pane_protocol.specs.MetadataLines.{head_text}
+use Rattle.roam_pane_protocol.specs.declared.query_list.QueryList.{QueryList}
+use Rattle.roam_pane_protocol.specs.declared.query_list.QueryPane.{QueryPane}
+
+-- no pane is there
+abbrev pub no_queries : QueryList
+no_queries = record { all = None ∷ None ∷ None ∷ None ∷ None ∷ None ∷ None ∷ None ∷ None ∷ None ∷ [] }
+
+-- how many questions the program of a pane has asked, where the pane is there
+abbrev pub queries_at : QueryList → ℕ → Option QueryPane
+queries_at known p = slice_index_or known.all p None
+
+-- how many are known of a generation of a pane: of another generation none is
+abbrev pub asked_in : ℕ → Option QueryPane → ℕ
+asked_in generation None = 0
+asked_in generation (Some a) = if a.generation == generation then a.asked else 0
+
+-- ---- as they are written
+
+-- what is asked: the colour of text and of what is behind it, with `bell` where BEL ended the question; whether a frame is open, and
+-- whether pastes come between brackets, with `set` where it was so; the terminal's name
+abbrev pub query_words : Query → List ℕ
+query_words (Foreground false) = codes "foreground"
+query_words (Foreground true) = codes "foreground bell"
+query_words (Background false) = codes "background"
+query_words (Background true) = codes "background bell"
+query_words (Frames false) = codes "frames"
+query_words (Frames true) = codes "frames set"
+query_words (Pastes false) = codes "pastes"
+query_words (Pastes true) = codes "pastes set"
+query_words Version = codes "version"
+
+-- a line as it is written, ended by LF: the program of a pane, of a generation, has asked this
+abbrev pub query_text : ℕ → ℕ → Query → List ℕ
+query_text p generation query = head_text (codes "query ") p generation ++ (codes " " ++ (query_words query ++ codes "\n"))
+
+abbrev pub query_texts : ℕ → ℕ → List Query → List ℕ
+query_texts p generation [] = []
+query_texts p generation (query ∷ queries) = query_text p generation query ++ query_texts p generation queries
+
+-- ---- what is new
+
+-- the lines of what is new of a pane, whose last questions these are; of one that isn't there nothing is
+abbrev pub query_lines : ℕ → Option QueryPane → Option QueryPane → List Query → List ℕ
+query_lines p told None last = []
+query_lines p told (Some now) last = query_texts p now.generation (newest (now.asked - asked_in now.generation told) last)
+
+-- ---- the law
+
+-- where so many questions were told of those that a program asked, and the last sixteen are kept: what is new are the last sixteen of those
+-- that weren't told, each once and in its place
+abbrev pub QueriesAreTheNewest : Type 0
+QueriesAreTheNewest = (told : ℕ) (queries : List Query) → told ≤ length queries
+    → newest (length queries - told) (newest most_kept queries) ≡ newest most_kept (drop told queries)

@@ -1,0 +1,102 @@
+//! What is known of a session's panes.
+ghost use Rattle.std.specs.Prelude.{◌≡◌, ◌<◌, Some, slice_set};
+ghost use Rattle.roam_pane_protocol.specs.Known.{nothing, pane_at};
+
+/// A pane that is there: which making of its number it is, and which rows and columns of the session's screen it has.
+#[derive(Clone, Copy, Debug, PartialEq, Eq)]
+pub struct ListedPane {
+    /// Which making of the pane's number it is, counted from 1.
+    pub generation: u64,
+    /// Its first row, from 1.
+    pub row: u16,
+    /// Its first column, from 1.
+    pub col: u16,
+    /// How many rows it has.
+    pub rows: u16,
+    /// How many columns it has.
+    pub cols: u16,
+}
+
+/// What is known of a session: which of its panes, 1 to 9, are there, which is in focus, and how many client starts are kept.
+#[derive(Clone, Copy)]
+pub struct PaneList {
+    // By the panes' numbers; none is 0.
+    all: [Option<ListedPane>; 10],
+    // 0 where it isn't known.
+    focus: u8,
+    // None where it isn't known.
+    clients: Option<u16>,
+    watchers: Option<u16>,
+}
+
+impl PaneList {
+    /// Nothing is known: no pane is there, none is in focus, and no number of client starts is known.
+    pub fn unknown() -> PaneList
+        ensures nothing { result ≡ nothing }
+    {
+        PaneList {
+            all: [None; 10],
+            focus: 0,
+            clients: None,
+            watchers: None,
+        }
+    }
+
+    /// Puts what is known of a pane.
+    pub fn set(&mut self, pane: u8, known: Option<ListedPane>)
+        requires pane { pane < 10 }
+        ensures set { self.new ≡ record self.old { all = slice_set self.old.all pane known } }
+    {
+        self.all[usize::from(pane)] = known;
+    }
+
+    /// Puts the pane that is in focus.
+    pub fn set_focus(&mut self, pane: u8)
+        ensures focus { self.new ≡ record self.old { focus = pane } }
+    {
+        self.focus = pane;
+    }
+
+    /// Puts how many client starts that edit are kept.
+    pub fn set_clients(&mut self, count: u16)
+        ensures starts { self.new ≡ record self.old { clients = Some count } }
+    {
+        self.clients = Some(count);
+    }
+
+    /// Puts how many client starts that watch are kept.
+    pub fn set_watchers(&mut self, count: u16)
+        ensures watchers { self.new ≡ record self.old { watchers = Some count } }
+    {
+        self.watchers = Some(count);
+    }
+
+    /// What is known of a pane, where it is there.
+    pub fn get(&self, pane: u8) -> Option<ListedPane>
+        requires pane { pane < 10 }
+        ensures pane { result ≡ pane_at self.now pane }
+    {
+        self.all[usize::from(pane)]
+    }
+
+    /// The pane that is in focus, 0 where that isn't known.
+    pub fn focus(&self) -> u8
+        ensures focus { result ≡ self.now.focus }
+    {
+        self.focus
+    }
+
+    /// How many client starts that edit are kept, where that is known.
+    pub fn clients(&self) -> Option<u16>
+        ensures starts { result ≡ self.now.clients }
+    {
+        self.clients
+    }
+
+    /// How many client starts that watch are kept, where that is known.
+    pub fn watchers(&self) -> Option<u16>
+        ensures watchers { result ≡ self.now.watchers }
+    {
+        self.watchers
+    }
+}

@@ -1,0 +1,9 @@
+use Rattle.std.proofs.Common.{◌≡◌, ◌++◌, ℕ, List}
+use Rattle.roam_pane_subscribers.proofs.subscribing.Subscriber.read_line.Given as goal
+
+abbrev pub invariant-loop : goal.invariant-loop
+invariant-loop g l = record {
+  came : (bytes : List ℕ) × (l.self.lines.kept ≡ l.initial.self.lines.kept ++ bytes);
+  told : l.self.told ≡ l.initial.self.told;
+  waiting : l.self.waiting ≡ l.initial.self.waiting;
+}

@@ -1,0 +1,10 @@
+pub mod MetadataEvents
+pub mod Asking
+pub mod Queries
+pub mod Clipping
+pub mod Clips
+pub mod Closing
+pub mod Subscribing
+pub mod Programs
+pub mod Querying
+pub mod Seats

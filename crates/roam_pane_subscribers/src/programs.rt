@@ -1,0 +1,74 @@
+//! The stream of a program that follows the panes.
+ghost use Rattle.std.specs.Prelude.{◌≡◌, ◌<◌, ◌≤◌, List, [], ◌∷◌, length, is_some, take, None, IfSome, IsSome};
+ghost use Rattle.roam_faults.specs.Streams.{IsStreamEnd};
+ghost use Rattle.roam_pane_sockets.specs.Peers.{HasFailed};
+ghost use Rattle.roam_pane_subscribers.specs.Programs.{HasAsked, Wrote};
+
+use mio::Registry;
+use mio::net::{UnixListener, UnixStream};
+use roam_faults::is_stream_end;
+use roam_pane_sockets::{has_failed, next_at};
+use roam_stream_framing::Stream;
+
+/// A program at the other end of a stream, or none any more.
+#[derive(Drop)]
+pub(crate) struct Program<S> {
+    stream: Option<S>,
+}
+
+impl Program<UnixStream> {
+    /// The next program that waits at a socket, or none.
+    pub(crate) fn next(listener: &UnixListener, registry: &Registry) -> Program<UnixStream> {
+        Program {
+            stream: next_at(listener, registry),
+        }
+    }
+}
+
+impl<S: Stream + Drop> Program<S> {
+    /// Whether it is there.
+    pub(crate) fn is_there(&self) -> bool
+        ensures there { result ≡ is_some self.now.stream }
+    {
+        self.stream.is_some()
+    }
+
+    /// Lets it go.
+    pub(crate) fn let_go(&mut self)
+        ensures none { self.new.stream ≡ None }
+    {
+        self.stream = None;
+    }
+
+    /// What it wrote, or nothing. One that is gone is let go.
+    pub(crate) fn hear(&mut self, buf: &mut [u8]) -> Option<usize>
+        ensures within { IfSome result (λ n. n ≤ length buf.new) }
+        ensures asked { IfSome self.old.stream (λ old. HasAsked IsStreamEnd S.answers old self.new.stream) }
+        ensures none { self.old.stream ≡ None → self.new.stream ≡ None }
+        ensures there { IfSome result (λ _. IsSome self.new.stream) }
+    {
+        let answer = self.stream.as_mut()?.read_once(buf);
+        if is_stream_end(&answer) {
+            self.stream = None;
+            return None;
+        }
+        answer.ok()
+    }
+
+    /// How many of the bytes it took, 0 where it isn't there. One that has failed is let go.
+    pub(crate) fn tell(&mut self, bytes: &[u8]) -> usize
+        ensures within { result ≤ length bytes.now }
+        ensures asked { IfSome self.old.stream (λ old. HasAsked HasFailed S.answers old self.new.stream) }
+        ensures none { self.old.stream ≡ None → self.new.stream ≡ None }
+        ensures wrote { Wrote S.contents self.old.stream self.new.stream (take result bytes.now) }
+    {
+        let Some(stream) = self.stream.as_mut() else {
+            return 0;
+        };
+        let answer = stream.write_once(bytes);
+        if has_failed(&answer) {
+            self.stream = None;
+        }
+        answer.unwrap_or(0)
+    }
+}

@@ -1,5 +1,0 @@
-use Rattle.std.proofs.Common.{length}
-use Rattle.roam_parts.proofs.parts.+is_masked.Given as goal
-
-abbrev pub decreases-is_masked : goal.decreases-is_masked
-decreases-is_masked l = length l.masks.now

@@ -1,0 +1,7 @@
+use Rattle.std.proofs.Common.{◌≡◌, ◌++◌, drop, map, take}
+use Rattle.roam_prediction.specs.Verdicts.{with_told}
+use Rattle.roam_prediction.proofs.seen.tell_each.Given as goal
+
+abbrev pub invariant-loop-prediction : goal.invariant-loop-prediction
+invariant-loop-prediction l =
+    l.predictions ≡ map (with_told l.moment) (take l.prediction-index l.initial.predictions) ++ drop l.prediction-index l.initial.predictions

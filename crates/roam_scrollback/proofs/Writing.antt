@@ -1,0 +1,72 @@
+-- Lines of rows that are written one after another.
+use Rattle.std.proofs.Common.{◌≡◌, true, ◌⊎◌, inl, inr, ℕ, ◌+◌, ◌≤◌, Bool, List, [], ◌∷◌, ◌++◌, length, take, take_all, replicate, length-append, refl, sym, ap, ◌∙◌, arith, append_assoc}
+use Rattle.std.specs.List.{flat_map}
+use Rattle.std.proofs.lemmas.Bool.{cases_lt}
+use Rattle.std.proofs.lemmas.List.{append-nil, take-append-le}
+use Rattle.std.proofs.lemmas.List.Concat.{flat_map-append}
+use Rattle.std.proofs.Math.Seq.{take-append-add}
+use Rattle.roam_cells.specs.Glyph.{Glyph, blank}
+use Rattle.roam_scrollback.specs.Lines.{LeftRow, LinesView, line_of, most_lost, Writes}
+use Rattle.roam_scrollback.specs.RowText.{line_text}
+use Rattle.roam_scrollback.proofs.RowTexts.{line-blanks}
+
+-- a row that was lent without blanks at its end was written
+pub wrote : (old new : LinesView) (on : Bool) (xs : List Glyph) (n : ℕ) → (on ≡ true → n ≡ 0) → old.lost ≡ 0
+    → new ≡ record old { text = old.text ++ line_text on xs; count = old.count + 1 }
+    → Writes old new (record { goes_on = on; cells = xs ++ replicate n blank } ∷ [])
+wrote old new on xs n full none is = record {
+  written = 1;
+  few = omega arith;
+  text =
+      ap (λ (v : LinesView). v.text) is ∙ ap (λ l. old.text ++ l) (sym (append-nil (line_text on xs)))
+      ∙ ap (λ l. old.text ++ (l ++ [])) (sym (line-blanks on xs n full));
+  count = ap (λ (v : LinesView). v.count) is;
+  lost = ap (λ (v : LinesView). v.lost) is ∙ omega (arith, none);
+  none = λ p. absurd (omega (arith, p, none));
+}
+
+-- nothing came
+pub writes-none : (v : LinesView) → v.lost ≤ most_lost → Writes v v []
+writes-none v fits = record {
+  written = 0;
+  few = omega arith;
+  text = sym (append-nil v.text);
+  count = omega arith;
+  lost = omega (arith, fits);
+  none = λ p. refl;
+}
+
+-- all of the first part, or nothing of the second
+parts : (xs ys : List LeftRow) (m n : ℕ) → (m ≡ length xs) ⊎ ((n ≡ 0) × (m ≤ length xs)) → take m xs ++ take n ys ≡ take (m + n) (xs ++ ys)
+parts xs ys m n (inl e) =
+    ap (λ l. l ++ take n ys) (take_all m xs (omega (arith, e)))
+    ∙ sym (ap (λ k. take (k + n) (xs ++ ys)) e ∙ take-append-add xs ys n)
+parts xs ys m n (inr h) =
+    let plus : m + n ≡ m = omega (arith, h.0) in
+    ap (λ k. take m xs ++ take k ys) h.0 ∙ append-nil (take m xs)
+    ∙ sym (ap (λ k. take k (xs ++ ys)) plus ∙ take-append-le m xs ys h.1)
+
+-- rows came, and then more
+module _ (a b c : LinesView) (xs ys : List LeftRow) (p : Writes a b xs) (q : Writes b c ys) where
+  all_or_none : (p.written ≡ length xs) ⊎ ((q.written ≡ 0) × (p.written ≤ length xs))
+  all_or_none = elim (cases_lt p.written (length xs)) [
+    | inl h ↦ inr (q.none (omega (arith, p.lost, h)), p.few)
+    | inr h ↦ inl (omega (arith, h, p.few))
+  ]
+
+  long : length (xs ++ ys) ≡ length xs + length ys
+  long = length-append xs ys
+
+  pub writes-then : Writes a c (xs ++ ys)
+  writes-then = record {
+    written = p.written + q.written;
+    few = omega (arith, long, p.few, q.few);
+    text =
+        q.text ∙ ap (λ l. l ++ flat_map line_of (take q.written ys)) p.text
+        ∙ append_assoc a.text (flat_map line_of (take p.written xs)) (flat_map line_of (take q.written ys))
+        ∙ ap (λ l. a.text ++ l) (sym (flat_map-append line_of (take p.written xs) (take q.written ys)))
+        ∙ ap (λ l. a.text ++ flat_map line_of l) (parts xs ys p.written q.written all_or_none);
+    count = omega (arith, p.count, q.count);
+    lost = omega (arith, p.lost, q.lost, long, p.few, q.few);
+    none = λ h. omega (arith, p.none h, q.none (omega (arith, h, p.lost)));
+  }

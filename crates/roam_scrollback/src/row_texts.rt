@@ -1,0 +1,135 @@
+//! A row as the text that paints it.
+ghost use Rattle.std.specs.Prelude.{◌≡◌, ◌≤◌, ◌∷◌, ◌++◌, [], length, take, OnOk, IfOk, if◌then◌else◌};
+ghost use Rattle.std.specs.Char.{encode_utf8};
+ghost use Rattle.std.specs.List.{flat_map};
+ghost use Rattle.roam_cells.specs.Glyph.{blank, default_style};
+ghost use Rattle.roam_cells.specs.Inks.{style_numbered};
+ghost use Rattle.roam_cells.specs.Same.{same, same_style};
+ghost use Rattle.roam_paint.specs.Painting.{styling};
+ghost use Rattle.roam_paint.specs.Sequences.{spelling_of};
+ghost use Rattle.roam_term.specs.ControlFunctions.{restyle};
+ghost use Rattle.roam_scrollback.specs.RowText.{used, cell_words, style_behind, row_words, row_text, line_text};
+
+use roam_cells::{Cell, Style};
+use roam_paint::{push_points, push_restyle};
+use std::alloc::AllocError;
+
+fn is_blank(cell: &Cell) -> bool
+    ensures blank { result ≡ same cell.now blank }
+{
+    cell.is_same(&Cell::blank())
+}
+
+fn is_same_style(one: Style, other: Style) -> bool
+    ensures same { result ≡ same_style one other }
+{
+    one.is_same(other)
+}
+
+// How many columns of a row are in use: up to its last cell that isn't blank.
+fn used(row: &[Cell]) -> usize
+    ensures used { result ≡ used row.now }
+    ensures few { result ≤ length row.now }
+{
+    let mut count = row.len();
+    while 0 < count && is_blank(&row[count - 1]) {
+        count -= 1;
+    }
+    count
+}
+
+fn restyle(text: &mut Vec<u8>, same: bool, style: Style) -> Result<(), AllocError>
+    ensures text { OnOk result (text.new.items ≡ text.old.items ++ flat_map spelling_of (if same then [] else restyle style)) }
+{
+    if !same {
+        push_restyle(text, style)?;
+    }
+    Ok(())
+}
+
+// Sets a style where another one is set.
+fn push_style(text: &mut Vec<u8>, set: Style, style: Style) -> Result<(), AllocError>
+    ensures text { OnOk result (text.new.items ≡ text.old.items ++ flat_map spelling_of (styling style set)) }
+{
+    restyle(text, is_same_style(style, set), style)
+}
+
+/// The style that is set, and a number that says it, by which two styles are compared at once.
+#[derive(Clone, Copy)]
+struct Worn {
+    style: Style,
+    number: u64,
+}
+
+// The code points of a cell; one of ASCII is a byte.
+fn push_text(text: &mut Vec<u8>, cell: &Cell) -> Result<(), AllocError>
+    ensures text { OnOk result (text.new.items ≡ text.old.items ++ flat_map encode_utf8 cell.now.points) }
+{
+    if let [c] = cell.chars().as_slice() {
+        let point = *c as u32;
+        if point < 0x80 {
+            text.push(point as u8)?;
+            return Ok(());
+        }
+    }
+    push_points(text, cell)
+}
+
+// The style of a cell where another one may be set.
+fn wear(text: &mut Vec<u8>, worn: Worn, cell: &Cell) -> Result<Worn, AllocError>
+    requires worn { style_numbered worn.number ≡ worn.style }
+    ensures text { OnOk result (text.new.items ≡ text.old.items ++ flat_map spelling_of (styling cell.now.style worn.style)) }
+    ensures style { IfOk result (λ worn. worn.style ≡ cell.now.style) }
+    ensures worn { IfOk result (λ worn. style_numbered worn.number ≡ worn.style) }
+{
+    let number = cell.style_number();
+    if number == worn.number {
+        return Ok(worn);
+    }
+    let style = cell.style();
+    push_style(text, worn.style, style)?;
+    Ok(Worn { style, number })
+}
+
+// Writes a cell where a style is set; answers the style that is set after it.
+fn push_cell(text: &mut Vec<u8>, worn: Worn, cell: &Cell) -> Result<Worn, AllocError>
+    requires worn { style_numbered worn.number ≡ worn.style }
+    ensures text { OnOk result (text.new.items ≡ text.old.items ++ flat_map spelling_of (cell_words worn.style cell.now)) }
+    ensures style { IfOk result (λ after. after.style ≡ style_behind worn.style cell.now) }
+    ensures worn { IfOk result (λ worn. style_numbered worn.number ≡ worn.style) }
+{
+    if cell.is_right_half() {
+        return Ok(worn);
+    }
+    let worn = wear(text, worn, cell)?;
+    push_text(text, cell)?;
+    Ok(worn)
+}
+
+// Writes cells one after another, and sets the default style after them.
+fn push_cells(text: &mut Vec<u8>, row: &[Cell]) -> Result<(), AllocError>
+    ensures text { OnOk result (text.new.items ≡ text.old.items ++ flat_map spelling_of (row_words default_style row.now)) }
+{
+    let blank = Cell::blank();
+    let mut worn = Worn {
+        style: blank.style(),
+        number: blank.style_number(),
+    };
+    for cell in row {
+        worn = push_cell(text, worn, cell)?;
+    }
+    push_style(text, worn.style, Style::default())
+}
+
+/// Writes the line of a row: `+` where autowrap went on from it, else a space, the text that paints it, and LF. Blanks at its end have no
+/// text where it doesn't go on, and it may be lent without them then.
+#[tactic(auto, unfolding(crate::specs::RowText::row_text))]
+pub fn push_line(text: &mut Vec<u8>, goes_on: bool, row: &[Cell]) -> Result<(), AllocError>
+    ensures text { OnOk result (text.new.items ≡ text.old.items ++ line_text goes_on row.now) }
+{
+    text.push(if goes_on { b'+' } else { b' ' })?;
+    let count = if goes_on { row.len() } else { used(row) };
+    push_cells(text, &row[..count])?;
+    text.push(b'\n')?;
+    Ok(())
+}

@@ -1,0 +1,33 @@
+use Rattle.std.proofs.Common.{◌≡◌, ◌-◌, ℕ, List, map, length, length-drop, take, take_all, drop, ap, sym, subst, ◌∙◌, arith}
+use Rattle.std.proofs.Math.Seq.{take-add}
+use Rattle.roam_text.specs.Log.{Byte}
+use Rattle.roam_scrollback_stream.specs.Panes.{TellsAll}
+use Rattle.roam_scrollback_stream.proofs.Telling.{tells-then}
+use Rattle.roam_scrollback_stream.proofs.panes.feed_all.Goals as goal
+
+all-after : (i : ℕ) (xs : List ℕ) → take (length xs - i) (drop i xs) ≡ drop i xs
+all-after i xs = take_all (length xs - i) (drop i xs) (omega (arith, length-drop i xs))
+
+-- how long what is left of a piece is
+left_long : (at : ℕ) (piece : List ℕ) → length (take (length piece - at) (drop at piece)) ≡ length piece - at
+left_long at piece = ap (length {A = ℕ}) (all-after at piece) ∙ length-drop at piece
+
+pub loop-at-preserved : goal.loop-at-preserved
+loop-at-preserved c =
+    let piece = c.args.piece.now in
+    let at = c.loop-at.at in
+    let n = c.in_ok-at.field-0 in
+    let old = c.args.tellings.now.out in
+    let mid = c.loop-at.tellings.out in
+    let new = c.feed_some.new.tellings.out in
+    let source = c.feed_some.new.source in
+    record {
+      within = omega (arith, c.loop-at.invariant.within, c.in_ok-at.ensures.within.1, left_long at piece);
+      told =
+          subst (λ seen. TellsAll c.args.source.now source c.args.number old new (map Byte seen)) (sym (take-add at n piece))
+          (tells-then c.args.source.now c.loop-at.source source c.args.number old mid new (take at piece) (take n (drop at piece))
+          c.loop-at.invariant.told
+          (subst (λ rest. TellsAll c.loop-at.source source c.args.number mid new (map Byte (take n rest))) (all-after at piece)
+          c.in_ok-at.ensures.told));
+      none = c.in_ok-at.ensures.none;
+    }

@@ -1,0 +1,46 @@
+-- A terminal whose rows are told, with the filter before it.
+use Rattle.std.specs.Prelude.{◌≡◌, ℕ, List, ◌++◌, Option, Some, None}
+use Rattle.roam_scrollback.specs.Lines.{LeftRow, LinesView, Writes, no_lines}
+use Rattle.roam_scrollback.specs.Sources.{SourceView, IsSource, left_through, rows_shown}
+use Rattle.roam_normalize.specs.Normalized.{normalized_part, held_part}
+use Rattle.roam_scrollback_stream.specs.Records.{Tells, screen_text}
+use Rattle.roam_text.specs.Log.{Item}
+
+-- what contracts see: its number, the terminal, and what the filter holds back, where there is one
+pub record PaneView : Type 0 where
+  pub number : ℕ
+  pub source : SourceView
+  pub held : Option (List ℕ)
+
+-- what is told, and lines that are made for it
+pub record TellingsView : Type 0 where
+  pub out : List ℕ
+  pub lines : LinesView
+
+-- what the terminal is fed for a piece, and what is held back then
+abbrev pub fed_for : Option (List ℕ) → List ℕ → List ℕ
+fed_for None piece = piece
+fed_for (Some held) piece = normalized_part (held ++ piece)
+
+abbrev pub held_for : Option (List ℕ) → List ℕ → Option (List ℕ)
+held_for None piece = None
+held_for (Some held) piece = Some (held_part (held ++ piece))
+
+-- a terminal that stood for one log stands for it followed by items, and the rows that left by them were told
+pub record Told (new : SourceView) (n : ℕ) (out out' : List ℕ) (rows cols : ℕ) (log later : List Item) : Type 0 where
+  pub source : IsSource new rows cols later
+  pub more : List LeftRow
+  pub left : left_through rows cols later ≡ left_through rows cols log ++ more
+  pub tells : Tells n out out' more
+
+-- for every log that it stood for
+abbrev pub TellsAll : SourceView → SourceView → ℕ → List ℕ → List ℕ → List Item → Type 0
+TellsAll old new n out out' items =
+    (rows cols : ℕ) (log : List Item) → IsSource old rows cols log → Told new n out out' rows cols log (log ++ items)
+
+-- all rows of the screen that is shown were told
+pub record ShowsAll (source : SourceView) (n : ℕ) (out out' : List ℕ) : Type 0 where
+  pub lines : LinesView
+  pub written : Writes no_lines lines (rows_shown source.live source.wraps)
+  pub all_of : lines.lost ≡ 0
+  pub text : out' ≡ out ++ screen_text n lines

@@ -1,0 +1,42 @@
+-- What is told of rows: records, each a line and for some so many bytes behind it.
+use Rattle.std.specs.Prelude.{◌≡◌, ℕ, ◌==◌, Bool, List, [], ◌++◌, length, codes, decimal, if◌then◌else◌}
+use Rattle.std.specs.List.{flat_map}
+use Rattle.roam_scrollback.specs.Lines.{LeftRow, LinesView, Writes, no_lines}
+
+-- so many lines of a terminal, and their bytes; none are told of by nothing
+abbrev pub rows_text : ℕ → LinesView → List ℕ
+rows_text n lines =
+    if (lines.count == 0) then []
+    else codes "rows " ++ decimal n ++ codes " " ++ decimal lines.count ++ codes " " ++ decimal (length lines.text) ++ codes "\n" ++ lines.text
+
+-- so many rows behind them that there was no memory for
+abbrev pub lost_text : ℕ → LinesView → List ℕ
+lost_text n lines = if (lines.lost == 0) then [] else codes "lost " ++ decimal n ++ codes " " ++ decimal lines.lost ++ codes "\n"
+
+-- what left before is erased
+abbrev pub cleared_text : ℕ → Bool → List ℕ
+cleared_text n cleared = if cleared then codes "cleared " ++ decimal n ++ codes "\n" else []
+
+-- all rows of a screen
+abbrev pub screen_text : ℕ → LinesView → List ℕ
+screen_text n lines =
+    codes "screen " ++ decimal n ++ codes " " ++ decimal lines.count ++ codes " " ++ decimal (length lines.text) ++ codes "\n" ++ lines.text
+
+-- rows that left one after another, their lines, and whether what left until then is erased
+pub record Part : Type 0 where
+  pub rows : List LeftRow
+  pub lines : LinesView
+  pub written : Writes no_lines lines rows
+  pub is_cleared : Bool
+
+abbrev pub part_text : ℕ → Part → List ℕ
+part_text n part = rows_text n part.lines ++ (lost_text n part.lines ++ cleared_text n part.is_cleared)
+
+abbrev pub rows_of : Part → List LeftRow
+rows_of part = part.rows
+
+-- rows of a terminal were told, in parts
+pub record Tells (n : ℕ) (old new : List ℕ) (rows : List LeftRow) : Type 0 where
+  pub parts : List Part
+  pub text : new ≡ old ++ flat_map (part_text n) parts
+  pub all_of : flat_map rows_of parts ≡ rows

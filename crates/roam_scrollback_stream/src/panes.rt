@@ -1,0 +1,212 @@
+//! A terminal whose rows are told.
+ghost use Rattle.std.specs.Prelude.{◌≡◌, ◌⊎◌, ◌↔◌, ◌<◌, ◌≤◌, ◌∷◌, ◌++◌, [], length, map, take, IfOk, IfErr, OnOk, OnErr, IsErrOf, Some, None, if◌then◌else◌};
+ghost use Rattle.roam_cells.specs.Limits.{IsSize};
+ghost use Rattle.roam_scrollback.specs.Lines.{no_lines};
+ghost use Rattle.roam_scrollback.specs.Sources.{IsSource};
+ghost use Rattle.roam_scrollback_stream.specs.Panes.{ShowsAll, TellsAll, fed_for, held_for};
+ghost use Rattle.roam_scrollback_stream.specs.Records.{rows_text, lost_text, cleared_text};
+ghost use Rattle.roam_text.specs.Log.{Byte, Resized};
+
+use crate::records::{push_cleared, push_lost, push_rows, push_screen};
+use roam_cells::Fault;
+use roam_normalize::Filter;
+use roam_scrollback::{LeftLines, RowSource};
+use std::alloc::{AllocError, Global};
+use std::marker::Model;
+
+/// What is told, and where lines of rows are made for it.
+#[derive(Drop)]
+pub struct Tellings {
+    out: Vec<u8>,
+    lines: LeftLines,
+}
+
+impl Model for Tellings {
+    ghost use Rattle.roam_scrollback_stream.specs.Panes.{TellingsView};
+
+    ghost Value = { TellingsView };
+
+    ghost view = { λ a. record { out = a.out.items; lines = a.lines } };
+}
+
+impl Tellings {
+    /// Nothing is told yet.
+    pub fn new(alloc: Global) -> Self
+        ensures none { result ≡ record { out = []; lines = no_lines } }
+    {
+        Tellings {
+            out: Vec::new(alloc),
+            lines: LeftLines::new(alloc),
+        }
+    }
+
+    /// What is told.
+    pub fn out(&self) -> &[u8]
+        ensures out { result.now ≡ self.now.out }
+    {
+        &self.out
+    }
+
+    /// What was told is written somewhere.
+    pub fn clear(&mut self)
+        ensures none { self.new.out ≡ [] }
+        ensures lines { self.new.lines ≡ self.old.lines }
+    {
+        self.out.clear();
+    }
+
+    // The lines that were made for a terminal are told.
+    fn push_part(&mut self, number: u16, cleared: bool) -> Result<(), AllocError>
+        ensures out { OnOk result (self.new.out ≡ self.old.out
+            ++ (rows_text number self.old.lines ++ (lost_text number self.old.lines ++ cleared_text number cleared))) }
+        ensures none { OnOk result (self.new.lines ≡ no_lines) }
+    {
+        push_rows(&mut self.out, number, &self.lines)?;
+        push_lost(&mut self.out, number, &self.lines)?;
+        push_cleared(&mut self.out, number, cleared)?;
+        self.lines.clear();
+        Ok(())
+    }
+}
+
+// Feeds a terminal with as much of the front of a piece as goes at once, tells of the rows that leave, and answers how many bytes that
+// were.
+fn feed_some(
+    number: u16,
+    source: &mut RowSource,
+    piece: &[u8],
+    tellings: &mut Tellings,
+) -> Result<usize, AllocError>
+    requires some { 0 < length piece.now }
+    requires none { tellings.old.lines ≡ no_lines }
+    ensures within { IfOk result (λ n. (0 < n) × (n ≤ length piece.now)) }
+    ensures told { IfOk result (λ n. TellsAll source.old source.new number tellings.old.out tellings.new.out
+        (map Byte (take n piece.now))) }
+    ensures none { OnOk result (tellings.new.lines ≡ no_lines) }
+{
+    let fed = source.feed(piece, &mut tellings.lines);
+    tellings.push_part(number, fed.cleared)?;
+    Ok(fed.count)
+}
+
+// Feeds a terminal with a piece, and tells of the rows that leave.
+fn feed_all(
+    number: u16,
+    source: &mut RowSource,
+    piece: &[u8],
+    tellings: &mut Tellings,
+) -> Result<(), AllocError>
+    requires none { tellings.old.lines ≡ no_lines }
+    ensures told { OnOk result (TellsAll source.old source.new number tellings.old.out tellings.new.out (map Byte piece.now)) }
+    ensures none { OnOk result (tellings.new.lines ≡ no_lines) }
+{
+    let mut at = 0;
+    while at < piece.len() {
+        at += feed_some(number, source, &piece[at..], tellings)?;
+    }
+    Ok(())
+}
+
+/// A terminal, its number, and the filter before it, where there is one.
+#[derive(Drop)]
+pub struct Pane {
+    number: u16,
+    source: RowSource,
+    filter: Option<Filter>,
+}
+
+impl Model for Pane {
+    ghost use Rattle.roam_scrollback_stream.specs.Panes.{PaneView};
+
+    ghost Value = { PaneView };
+
+    ghost view = { λ a. record { number = a.number; source = a.source; held = a.filter } };
+}
+
+impl Pane {
+    /// A terminal that was fed nothing, of 2 to 200 rows and 4 to 500 columns; refuses another size as `BadSize`, and want of memory.
+    pub fn new(
+        alloc: Global,
+        number: u16,
+        rows: u16,
+        cols: u16,
+        normalize: bool,
+    ) -> Result<Self, Fault>
+        ensures stands { IfOk result (λ pane. IsSource pane.source rows cols []) }
+        ensures number { IfOk result (λ pane. pane.number ≡ number) }
+        ensures held { IfOk result (λ pane. pane.held ≡ (if normalize then Some [] else None)) }
+        ensures bad_size { IsErrOf result Fault.BadSize ↔ (¬ IsSize rows cols) }
+        ensures faults { IfErr result (λ fault. (fault ≡ Fault.BadSize) ⊎ (fault ≡ Fault.OutOfMemory)) }
+    {
+        let source = RowSource::new(alloc, rows, cols)?;
+        let filter = if normalize {
+            Some(Filter::new(alloc))
+        } else {
+            None
+        };
+        Ok(Pane {
+            number,
+            source,
+            filter,
+        })
+    }
+
+    /// Its program wrote a piece: the rows that leave by what that means, or by the piece itself where there is no filter, are told;
+    /// `OutOfMemory`.
+    pub fn feed(&mut self, piece: &[u8], tellings: &mut Tellings) -> Result<(), Fault>
+        requires none { tellings.old.lines ≡ no_lines }
+        ensures told { OnOk result (TellsAll self.old.source self.new.source self.old.number tellings.old.out tellings.new.out
+            (map Byte (fed_for self.old.held piece.now))) }
+        ensures held { OnOk result (self.new.held ≡ held_for self.old.held piece.now) }
+        ensures number { OnOk result (self.new.number ≡ self.old.number) }
+        ensures none { OnOk result (tellings.new.lines ≡ no_lines) }
+        ensures fault { IfErr result (λ fault. fault ≡ Fault.OutOfMemory) }
+    {
+        match &mut self.filter {
+            None => feed_all(self.number, &mut self.source, piece, tellings)?,
+            Some(filter) => {
+                let normalized = filter.feed(piece)?;
+                feed_all(self.number, &mut self.source, &normalized, tellings)?;
+            }
+        }
+        Ok(())
+    }
+
+    /// It gets another size, and the rows that leave by it are told; `BadSize` outside the limits, and want of memory.
+    pub fn size(
+        &mut self,
+        alloc: Global,
+        rows: u16,
+        cols: u16,
+        tellings: &mut Tellings,
+    ) -> Result<(), Fault>
+        requires none { tellings.old.lines ≡ no_lines }
+        ensures told { OnOk result (TellsAll self.old.source self.new.source self.old.number tellings.old.out tellings.new.out
+            (Resized rows cols ∷ [])) }
+        ensures held { OnOk result (self.new.held ≡ self.old.held) }
+        ensures number { OnOk result (self.new.number ≡ self.old.number) }
+        ensures none { OnOk result (tellings.new.lines ≡ no_lines) }
+        ensures bad_size { IsErrOf result Fault.BadSize ↔ (¬ IsSize rows cols) }
+        ensures faults { IfErr result (λ fault. (fault ≡ Fault.BadSize) ⊎ (fault ≡ Fault.OutOfMemory)) }
+    {
+        self.source.size(alloc, rows, cols, &mut tellings.lines)?;
+        tellings.push_part(self.number, false)?;
+        Ok(())
+    }
+
+    /// The rows of the screen that it shows are told; `OutOfMemory`.
+    pub fn show(&self, tellings: &mut Tellings) -> Result<(), Fault>
+        requires none { tellings.old.lines ≡ no_lines }
+        ensures told { OnOk result (ShowsAll self.now.source self.now.number tellings.old.out tellings.new.out) }
+        ensures none { OnOk result (tellings.new.lines ≡ no_lines) }
+        ensures fault { IfErr result (λ fault. fault ≡ Fault.OutOfMemory) }
+    {
+        self.source.push_screen(&mut tellings.lines);
+        if 0 < tellings.lines.lost() {
+            return Err(Fault::OutOfMemory);
+        }
+        push_screen(&mut tellings.out, self.number, &tellings.lines)?;
+        tellings.lines.clear();
+        Ok(())
+    }
+}

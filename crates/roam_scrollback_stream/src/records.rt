@@ -1,0 +1,71 @@
+//! The records that tell of rows.
+ghost use Rattle.std.specs.Prelude.{◌≡◌, ◌++◌, ◌==◌, [], codes, decimal, length, OnOk, if◌then◌else◌};
+ghost use Rattle.roam_scrollback_stream.specs.Records.{rows_text, lost_text, cleared_text, screen_text};
+
+use itoa::{Buffer, Integer};
+use roam_scrollback::LeftLines;
+use std::alloc::AllocError;
+
+fn push_number<I: Integer>(out: &mut Vec<u8>, word: &str, number: I) -> Result<(), AllocError>
+    ensures text { OnOk result (out.new.items ≡ out.old.items ++ (word.now ++ I.text number)) }
+{
+    out.extend_from_slice(word.as_bytes())?;
+    out.extend_from_slice(Buffer::new().format(number).as_bytes())
+}
+
+// The line of a record, and the bytes of lines behind it.
+fn push_lines(
+    out: &mut Vec<u8>,
+    word: &str,
+    number: u16,
+    lines: &LeftLines,
+) -> Result<(), AllocError>
+    ensures text { OnOk result (out.new.items ≡ out.old.items ++ (word.now ++ decimal number ++ codes " " ++ decimal lines.now.count
+        ++ codes " " ++ decimal (length lines.now.text) ++ codes "\n" ++ lines.now.text)) }
+{
+    push_number(out, word, number)?;
+    push_number(out, " ", lines.count())?;
+    push_number(out, " ", lines.text().len())?;
+    out.extend_from_slice(b"\n")?;
+    out.extend_from_slice(lines.text())
+}
+
+/// Rows left a terminal of this number.
+pub fn push_rows(out: &mut Vec<u8>, number: u16, lines: &LeftLines) -> Result<(), AllocError>
+    ensures text { OnOk result (out.new.items ≡ out.old.items ++ rows_text number lines.now) }
+{
+    if lines.count() == 0 {
+        return Ok(());
+    }
+    push_lines(out, "rows ", number, lines)
+}
+
+/// More rows left than there was memory for.
+pub fn push_lost(out: &mut Vec<u8>, number: u16, lines: &LeftLines) -> Result<(), AllocError>
+    ensures text { OnOk result (out.new.items ≡ out.old.items ++ lost_text number lines.now) }
+{
+    if lines.lost() == 0 {
+        return Ok(());
+    }
+    push_number(out, "lost ", number)?;
+    push_number(out, " ", lines.lost())?;
+    out.extend_from_slice(b"\n")
+}
+
+/// What left until then is erased, or isn't.
+pub fn push_cleared(out: &mut Vec<u8>, number: u16, cleared: bool) -> Result<(), AllocError>
+    ensures text { OnOk result (out.new.items ≡ out.old.items ++ cleared_text number cleared) }
+{
+    if !cleared {
+        return Ok(());
+    }
+    push_number(out, "cleared ", number)?;
+    out.extend_from_slice(b"\n")
+}
+
+/// The rows of a screen.
+pub fn push_screen(out: &mut Vec<u8>, number: u16, lines: &LeftLines) -> Result<(), AllocError>
+    ensures text { OnOk result (out.new.items ≡ out.old.items ++ screen_text number lines.now) }
+{
+    push_lines(out, "screen ", number, lines)
+}

@@ -1,0 +1,83 @@
+-- What follows each turn of a server: who follows its panes is told, and it waits.
+use Rattle.std.specs.Prelude.{◌≡◌, ◌<◌, ◌==◌, ◌^◌, ◌-◌, ℕ, Bool, true, false, List, Option, Some, None, IfSome, MatchBool}
+use Rattle.mio.specs.declared.net.uds.stream.UnixStream.{UnixStream}
+use Rattle.roam_model.specs.Servers.{Server, moment}
+use Rattle.roam_hub.specs.Servers.{ServerView, Stands, is_server_due}
+use Rattle.roam_hub.specs.Waits.{IsQuiet, has_come}
+use Rattle.roam_pane_protocol.specs.declared.pane_list.PaneList.{PaneList}
+use Rattle.roam_cells.specs.declared.addresses.Addr.{Addr}
+use Rattle.roam_sockets.specs.Clients.{Accepts, AnswersOf, KeepsOpen}
+use Rattle.roam_sockets.specs.Lanes.{SendsTo, is_any_waiting}
+use Rattle.roam_sockets.specs.Waits.{wait_for}
+use Rattle.roam_sockets.specs.declared.clients.Clients.{Clients}
+use Rattle.roam_sockets.specs.declared.udp.Udp.{Udp}
+use Rattle.roam_serve.specs.Tellings.{AreToldClips, AreToldQueries, AreToldMetadata}
+use Rattle.roam_pane_subscribers.specs.Subscribing.{AreAllTold}
+use Rattle.roam_serve.specs.Echoes.{before_by, most_ahead}
+use Rattle.roam_serve.specs.Listed.{ArePanesOf}
+use Rattle.roam_pane_sockets.specs.Moments.{sooner}
+use Rattle.roam_serve.specs.declared.tellings.ClipTimes.{ClipTimes}
+use Rattle.roam_pane_subscribers.specs.declared.following.Subscriber.{Subscriber}
+use Rattle.roam_pane_sockets.specs.declared.panes.Pane.{Pane}
+use Rattle.roam_serve.specs.declared.tellings.MetadataEventTimes.{MetadataEventTimes}
+
+-- datagrams are kept back so that they go at a pace
+abbrev pub is_paced : Option Udp → Bool
+is_paced None = false
+is_paced (Some udp) = is_any_waiting udp.paced.lanes.items
+
+-- a datagram was sent by UDP, at a pace, where there is a port for it
+abbrev pub SendsBy : ℕ → Addr → Option Udp → Option Udp → List ℕ → Bool → Type 0
+SendsBy now to None new datagram result = (new ≡ None) × (result ≡ false)
+SendsBy now to (Some old) None datagram result = ⊥
+SendsBy now to (Some old) (Some new) datagram result = SendsTo now to old.paced.lanes.items new.paced.lanes.items datagram result None None
+
+-- What waited for client starts was written, some of it or all that goes at this moment, as is noted; then some may have come.
+pub record Flushes (answers : AnswersOf UnixStream) (old new : Clients) : Type 0 where
+  pub mid : Clients
+  pub keeps : KeepsOpen answers old.all.items mid.all.items mid.is_flushed
+  pub accepts : Accepts mid new
+  pub noted : new.is_flushed ≡ mid.is_flushed
+
+-- those that followed before and those that came were told the panes of a server
+pub record HasTold (contents : UnixStream → Option (List ℕ)) (server : ServerView) (subscribers : List (Subscriber UnixStream)) : Type 0 where
+  pub panes : PaneList
+  pub are : (s : Server) → Stands server s → ArePanesOf s panes
+  pub before : List (Subscriber UnixStream)
+  pub told : AreAllTold contents panes before subscribers
+
+-- So they were, and then what is new of what stands beside the panes' terminals, as far as that was to be told, of texts for the
+-- clipboard, and of questions.
+pub record HasToldAll (contents : UnixStream → Option (List ℕ)) (server : ServerView) (moment : ℕ) (panes : List Pane)
+    (subscribers : List (Subscriber UnixStream)) : Type 0 where
+  pub mid : List (Subscriber UnixStream)
+  pub told : HasTold contents server mid
+  pub telling : MetadataEventTimes
+  pub told_telling : MetadataEventTimes
+  pub later : List (Subscriber UnixStream)
+  pub metadata : AreToldMetadata contents telling told_telling moment panes mid later
+  pub clipping : ClipTimes
+  pub told_clipping : ClipTimes
+  pub last : List (Subscriber UnixStream)
+  pub clips : AreToldClips contents clipping told_clipping moment panes later last
+  pub asks : AreToldQueries contents panes last subscribers
+
+-- a server next has something due at a moment, or never: before it a tick does nothing, and at it one does something
+pub record IsNextDue (server : ServerView) (due : Option ℕ) : Type 0 where
+  pub before : (s : Server) → Stands server s → (now : ℕ) → now < 2 ^ 64 → has_come due now ≡ false → IsQuiet s (moment s now)
+  pub at : (s : Server) → Stands server s → IfSome due (λ d. is_server_due s (moment s d) ≡ true)
+
+-- so many turns go on for good
+abbrev pub is_for_good : ℕ → Bool
+is_for_good turns = turns == 2 ^ 64 - 1
+
+-- Where it waited, all that goes to client starts at this clock was written, and no line that may be there was left to be done; and it was
+-- until something is due, or what stands beside the panes' terminals is to be told, or the moment may run ahead to the number that is
+-- wished for, or only a millisecond where datagrams are kept back; where the turns are counted, for the shortest wait.
+pub record HasRested (turns : ℕ) (server : ServerView) (clock : ℕ) (clients : Clients) (may_ask : Bool) (udp : Option Udp)
+    (telling wish : Option ℕ) (longest : Option ℕ) : Type 0 where
+  pub due : Option ℕ
+  pub is_due : MatchBool (is_for_good turns) (IsNextDue server due) (due ≡ Some 0)
+  pub flushed : IfSome longest (λ _. clients.is_flushed ≡ true)
+  pub asked : IfSome longest (λ _. may_ask ≡ false)
+  pub waited : IfSome longest (λ long. long ≡ wait_for (sooner (before_by most_ahead wish) (sooner due telling)) clock (is_paced udp))

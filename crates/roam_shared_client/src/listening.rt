@@ -1,0 +1,142 @@
+//! Ports that know when something was heard last.
+ghost use Rattle.std.specs.Prelude.{◌≡◌, ◌⊎◌, ◌≤◌, ◌∷◌, [], None, Some, IfSome, is_some, length, true};
+ghost use Rattle.roam_turns.specs.Calls.{Tells};
+ghost use Rattle.roam_turns.specs.Calls.DoorCall.{Came, HasEnded, Rested, Slept};
+ghost use Rattle.roam_turns.specs.Calls.PortCall.{Asked};
+
+use crate::running::Door;
+use roam_hub::Addr;
+use roam_outer_terminal::{End, Silence};
+use roam_turns::Ports;
+
+/// The ports of a client start, which know the moment and when something was heard last. Each call goes to the ports beneath; nothing is
+/// shown there, since a start's terminals are painted by themselves.
+#[derive(Drop)]
+pub struct Listening<P> {
+    ports: P,
+    silence: Silence,
+    // Whether the start slept since the moment was told last. It listened to nothing meanwhile, so silence counts from the next moment on.
+    has_slept: bool,
+}
+
+impl<P: Ports + Drop> Listening<P> {
+    /// Nothing was heard yet.
+    pub fn new(ports: P) -> Listening<P>
+        ensures ports { result.ports ≡ ports }
+        ensures silence { result.silence ≡ record { moment = 0; heard = None; told = None } }
+    {
+        Listening {
+            ports,
+            silence: Silence::new(),
+            has_slept: false,
+        }
+    }
+
+    /// The ports beneath.
+    pub fn ports(&mut self) -> &mut P {
+        &mut self.ports
+    }
+
+    /// When something was heard last.
+    pub fn silence(&self) -> Silence
+        ensures silence { result ≡ self.now.silence }
+    {
+        self.silence
+    }
+}
+
+impl<P: Ports + Drop> Listening<P> {
+    // The stream of a terminal that comes, where one does.
+    pub(crate) fn next<S>(&mut self) -> Option<S>
+    where
+        P: Door<S>,
+        ensures tells { Tells (P.told self.old.ports) (P.told self.new.ports) (Asked (Came (is_some result)) ∷ []) }
+        ensures others { self.new ≡ record self.old { ports = self.new.ports } }
+    {
+        self.ports.next()
+    }
+
+    // Whether the server is known to have ended.
+    pub(crate) fn has_ended<S>(&mut self) -> bool
+    where
+        P: Door<S>,
+        ensures tells { Tells (P.told self.old.ports) (P.told self.new.ports) (Asked (HasEnded result) ∷ []) }
+        ensures others { self.new ≡ record self.old { ports = self.new.ports } }
+    {
+        self.ports.has_ended()
+    }
+
+    // Waits until something comes or is due.
+    pub(crate) fn rest<S>(&mut self, longest: u64, due: Option<u64>)
+    where
+        P: Door<S>,
+        ensures tells { Tells (P.told self.old.ports) (P.told self.new.ports) (Asked (Rested longest due) ∷ []) }
+        ensures others { self.new ≡ record self.old { ports = self.new.ports } }
+    {
+        self.ports.rest(longest, due);
+    }
+
+    // Waits until a terminal comes, the server has news, or it has ended.
+    pub(crate) fn sleep<S>(&mut self, longest: u64, due: Option<u64>)
+    where
+        P: Door<S>,
+        ensures tells { Tells (P.told self.old.ports) (P.told self.new.ports) (Asked (Slept longest) ∷ []) }
+        ensures others { self.new ≡ record self.old { ports = self.new.ports; has_slept = true } }
+    {
+        self.ports.sleep(longest, due);
+        self.has_slept = true;
+    }
+}
+
+// Counts a silence from its moment on, if the start slept until then, and heard something before.
+fn hear_after(silence: &mut Silence, has_slept: bool)
+    ensures heard { (silence.new ≡ silence.old) ⊎ (silence.new ≡ record silence.old { heard = Some silence.old.moment }) }
+{
+    if has_slept && silence.end() != End::Unheard {
+        silence.hear();
+    }
+}
+
+impl<P: Ports + Drop> Ports for Listening<P> {
+    ghost told = { λ p. P.told p.ports };
+
+    ghost written = { λ p. P.written p.ports };
+
+    ghost notice = { λ p. P.notice p.ports };
+
+    fn now(&mut self) -> u64 {
+        let moment = self.ports.now();
+        self.silence.at(moment);
+        hear_after(&mut self.silence, self.has_slept);
+        self.has_slept = false;
+        moment
+    }
+
+    fn receive(&mut self, buf: &mut [u8]) -> Option<(Addr, usize)> {
+        let came = self.ports.receive(buf);
+        if came.is_some() {
+            self.silence.hear();
+        }
+        came
+    }
+
+    fn send(&mut self, to: Addr, bytes: &[u8]) -> bool {
+        self.ports.send(to, bytes)
+    }
+
+    fn pane_generations(&mut self, pane: u8, generation: Option<u64>) {
+        self.ports.pane_generations(pane, generation);
+    }
+
+    fn pane_in(&mut self, pane: u8, buf: &mut [u8]) -> Option<usize> {
+        self.ports.pane_in(pane, buf)
+    }
+
+    fn pane_out(&mut self, pane: u8, bytes: &[u8]) -> usize {
+        self.ports.pane_out(pane, bytes)
+    }
+
+    fn show(&mut self, bytes: &[u8]) -> bool {
+        self.ports.show(bytes)
+    }
+}

@@ -1,0 +1,163 @@
+//! The whole run of a client start that stays while outer terminals come and go.
+ghost use Rattle.std.specs.Prelude.{◌≡◌, ◌∷◌, [], ℕ, is_some};
+ghost use Rattle.roam_shared_client.specs.Running.{Rests, Runs, RunsOut, TakesIn, TakesTurn, is_for_good, longest_rest, within};
+ghost use Rattle.roam_turns.specs.Calls.{Tells};
+ghost use Rattle.roam_turns.specs.Calls.DoorCall.{Came, HasEnded, Rested, Slept};
+ghost use Rattle.roam_turns.specs.Calls.PortCall.{Asked};
+
+use crate::listening::Listening;
+use crate::sharing::{LONGEST_END, MOST_TERMINALS, SharedClient};
+use roam_hub::Addr;
+use roam_outer_terminal::{Duplex, End, Silence};
+use roam_turns::Ports;
+use std::alloc::Global;
+
+/// So many rounds end with the machine.
+const FOR_GOOD: u64 = u64::MAX;
+
+/// How many terminals are asked for at most before a round.
+const MOST_ASKED: usize = 64;
+
+/// What one above sixteen is told.
+const FULL: &[u8] = b"full\n";
+
+/// How many milliseconds a start waits at most whose rounds are counted, so that they end by themselves.
+const SHORT: u64 = 10;
+
+/// Where outer terminals come, and where their start rests between two rounds: a socket, or memory in a test. It has the start's ports;
+/// what it is asked is told among their calls.
+pub trait Door<S>: Ports {
+    /// The stream of a terminal that comes, where one does.
+    fn next(&mut self) -> Option<S>
+        ensures tells { Tells (Self.told self.old) (Self.told self.new) (Asked (Came (is_some result)) ∷ []) };
+
+    /// Whether the server is known to have ended.
+    fn has_ended(&mut self) -> bool
+        ensures tells { Tells (Self.told self.old) (Self.told self.new) (Asked (HasEnded result) ∷ []) };
+
+    /// Waits until something comes, so many milliseconds at most, not at all where these are none, and no longer than until a moment at
+    /// which something is due.
+    fn rest(&mut self, longest: u64, due: Option<u64>)
+        ensures tells { Tells (Self.told self.old) (Self.told self.new) (Asked (Rested longest due) ∷ []) };
+
+    /// Waits until a terminal comes, the server has news, or it has ended, so many milliseconds at most. Until a moment anything that comes
+    /// ends the wait; behind it what is no news is dropped.
+    fn sleep(&mut self, longest: u64, due: Option<u64>)
+        ensures tells { Tells (Self.told self.old) (Self.told self.new) (Asked (Slept longest) ∷ []) };
+}
+
+// Says to one above sixteen that there is no room, and lets it go.
+fn turn_away<S: Duplex + Drop>(stream: S) {
+    let mut stream = stream;
+    // Whoever takes nothing isn't told.
+    let _ = stream.write_some(FULL);
+}
+
+// Takes those in that come; those above sixteen are told so and let go; so are those for which there is no memory: they may come again.
+fn take_in<S: Duplex + Drop, D: Door<S> + Drop>(
+    alloc: Global,
+    shared: &mut SharedClient<S>,
+    door: &mut Listening<D>,
+    to: Addr,
+)
+    ensures runs { Runs S.remaining S.contents to (D.told door.old.ports) (D.told door.new.ports) shared.old shared.new }
+    ensures takes { TakesIn (D.told door.old.ports) (D.told door.new.ports) shared.old shared.new }
+    ensures others { door.new ≡ record door.old { ports = door.new.ports } }
+{
+    for _ in 0..MOST_ASKED {
+        let Some(stream) = door.next() else {
+            return;
+        };
+        if shared.len() >= MOST_TERMINALS {
+            turn_away(stream);
+        } else {
+            let _ = shared.add(alloc, stream);
+        }
+    }
+}
+
+// No longer than so many milliseconds, where that is so.
+fn within(is_so: bool, longest: u64, wait: u64) -> u64
+    ensures wait { result ≡ within is_so longest wait }
+{
+    if is_so { wait.min(longest) } else { wait }
+}
+
+// How many milliseconds are rested at most after a round that answered so.
+fn longest_rest<S: Duplex + Drop>(
+    shared: &SharedClient<S>,
+    silence: Silence,
+    wait: u64,
+    rounds: u64,
+) -> u64
+    ensures rest { result ≡ longest_rest shared.now silence wait rounds }
+{
+    let while_there = within(shared.len() > 0, silence.wait(), wait);
+    let while_ending = within(shared.is_ending(), LONGEST_END, while_there);
+    within(rounds != FOR_GOOD, SHORT, while_ending)
+}
+
+// Rests behind a round, so many milliseconds at most: until the start next has something due, or longer if no terminal is there and nothing
+// is left to do.
+fn rest_behind<S: Duplex + Drop, D: Door<S> + Drop>(
+    shared: &SharedClient<S>,
+    door: &mut Listening<D>,
+    longest: u64,
+)
+    ensures rests { Rests longest (D.told door.old.ports) (D.told door.new.ports) shared.now }
+    ensures silence { door.new.silence ≡ door.old.silence }
+{
+    if shared.is_idle() {
+        door.sleep(longest, shared.client().next_due());
+    } else {
+        door.rest(longest, shared.client().next_due());
+    }
+}
+
+// A turn of a run: those who come are taken in, a round is taken, and the start rests. Where that was the end it is answered what was heard
+// of the server.
+fn take_turn<S: Duplex + Drop, D: Door<S> + Drop>(
+    alloc: Global,
+    shared: &mut SharedClient<S>,
+    door: &mut Listening<D>,
+    to: Addr,
+    rounds: u64,
+) -> Option<End>
+    ensures runs { Runs S.remaining S.contents to (D.told door.old.ports) (D.told door.new.ports) shared.old shared.new }
+    ensures takes { TakesTurn S.remaining S.contents to rounds door.new.silence result (D.told door.old.ports) (D.told door.new.ports)
+        shared.old shared.new }
+{
+    take_in(alloc, shared, door, to);
+    let wait = shared.round(alloc, door, to);
+    if door.has_ended() {
+        return Some(End::Gone);
+    }
+    let silence = door.silence();
+    if shared.is_over(silence) {
+        return Some(silence.end());
+    }
+    rest_behind(shared, door, longest_rest(shared, silence, wait, rounds));
+    None
+}
+
+/// Is the start of all outer terminals that come to a door, for so many rounds at most: those that come are taken in, a round is taken, and
+/// the start rests. Answers what was heard of the server in the end, also where a terminal asked for the end and all acts that were typed
+/// are acknowledged, or a second passed.
+pub fn run_shared<S: Duplex + Drop, D: Door<S> + Drop>(
+    alloc: Global,
+    shared: &mut SharedClient<S>,
+    door: &mut Listening<D>,
+    to: Addr,
+    rounds: u64,
+) -> End
+    ensures runs { Runs S.remaining S.contents to (D.told door.old.ports) (D.told door.new.ports) shared.old shared.new }
+    ensures out { RunsOut S.remaining S.contents to rounds door.new.silence result (D.told door.old.ports) (D.told door.new.ports)
+        shared.old shared.new }
+{
+    for _ in 0..rounds {
+        if let Some(end) = take_turn(alloc, shared, door, to, rounds) {
+            return end;
+        }
+    }
+    door.silence().end()
+}

@@ -1,0 +1,4 @@
+mod Leading
+mod Traces
+mod Lists
+mod Records

@@ -1,0 +1,114 @@
+-- What a terminal of a run was written: it leads a terminal to what is noted of it.
+use Rattle.std.specs.Prelude.{◌≡◌, ◌⊎◌, ℕ, List, [], ◌∷◌, ◌++◌, Option, Some, None}
+use Rattle.std.specs.Io.KnownBytes.{Appends}
+use Rattle.roam_cells.specs.declared.addresses.Addr.{Addr}
+use Rattle.roam_overlay.specs.Overlays.{OverlayOf, laid_over}
+use Rattle.roam_viewport.specs.Parts.{part_of}
+use Rattle.roam_viewport.specs.declared.parts.Part.{Part}
+use Rattle.roam_display_records.specs.declared.records.Record.{Record}
+use Rattle.roam_screens.specs.Screenshot.{Screenshot}
+use Rattle.roam_display_state.specs.Leading.{IsSaid}
+use Rattle.roam_display_state.specs.Saying.{texts_of}
+use Rattle.roam_display_state.specs.DisplayState.{DisplayStateView}
+use Rattle.roam_text.specs.Log.{Item}
+use Rattle.roam_turns.specs.Calls.{PortCall}
+use Rattle.roam_turns.specs.Painting.{DisplaysNoted, Fits, ShowsAt}
+use Rattle.roam_turns.specs.declared.outer.Noted.{Noted}
+use Rattle.roam_outer_terminal.specs.Overlaid.{on_show}
+use Rattle.roam_shared_client.specs.Running.{RunStep, RunsBy}
+use Rattle.roam_shared_client.specs.Sharing.{Shared}
+use Rattle.roam_outer_terminal.specs.declared.terminal.Terminal.{Terminal}
+use Rattle.roam_shared_client_laws.specs.Lines.{came_in}
+
+-- the screens that the start showed after each step of a run
+abbrev pub screens_in : {S : Type 0} (remaining contents : S → Option (List ℕ)) (to : Addr) (steps : List (RunStep S))
+    (calls calls' : Option (List PortCall)) (old new : Shared S) → RunsBy remaining contents to steps calls calls' old new
+    → List Screenshot
+screens_in remaining contents to [] calls calls' old new h = []
+screens_in remaining contents to (step ∷ steps) calls calls' old new h =
+    h.0.client.kept.receiver.newest.state ∷ screens_in remaining contents to steps h.1 calls' h.0 new h.3
+
+-- a terminal has the rows and columns of each of these screens at least
+abbrev pub FitsAll : (rows cols lines : ℕ) → List Item → List Screenshot → Type 0
+FitsAll rows cols lines log [] = Unit {0}
+FitsAll rows cols lines log (s ∷ screens) = Fits rows cols lines log s × FitsAll rows cols lines log screens
+
+-- A text leads any terminal that has the size of these screens at least, in whatever state, to what is noted with what is laid over it: it
+-- shows that, as a ground terminal of its size.
+abbrev pub LeadsAny : List Screenshot → List ℕ → Option Noted → Type 0
+LeadsAny screens text None = Unit {0}
+LeadsAny screens text (Some noted) =
+    (rows cols lines : ℕ) (log : List Item) → DisplaysNoted rows cols lines log None → FitsAll rows cols lines log screens
+    → ShowsAt rows cols lines log text noted.screen
+
+-- something is one of these
+abbrev pub IsOneOf : {X : Type 0} → X → List X → Type 0
+IsOneOf x [] = ⊥
+IsOneOf x (y ∷ ys) = (y ≡ x) ⊎ IsOneOf x ys
+
+-- what is noted, where something is, is one of these screens
+abbrev pub IsNotedOf : List Screenshot → Option Noted → Type 0
+IsNotedOf screens None = Unit {0}
+IsNotedOf screens (Some noted) = IsOneOf noted.screen screens
+
+-- A terminal that came at the other end of one of these streams: what is noted of it is one of the screens that were shown; what it was
+-- written and what waits for it are what was before it was last painted anew, and then a text that leads any terminal to what is noted,
+-- with what is laid over that.
+pub record IsLed {S : Type 0} (contents : S → Option (List ℕ)) (came : List S) (screens : List Screenshot) (t : Terminal S) : Type 0 where
+  pub stream : S
+  pub is : IsOneOf stream came
+  pub noted : IsNotedOf screens t.outer
+  pub written : List ℕ
+  pub appended : Appends (contents stream) (contents t.stream) written
+  pub before : List ℕ
+  pub since : List ℕ
+  pub parts : written ++ t.waiting ≡ before ++ since
+  pub leads : LeadsAny screens since (on_show t.over t.outer)
+
+-- ---- in records
+
+-- a screen that was shown, with what was predicted over it or without
+abbrev pub IsLaidOf : List Screenshot → Screenshot → Type 0
+IsLaidOf screens s =
+    (base : Screenshot) × IsOneOf base screens
+    × ((s ≡ base) ⊎ ((overlay : OverlayOf) × (now : ℕ) × (s ≡ laid_over overlay base now)))
+
+-- what a terminal is to show is a part of such a screen, but for what is masked
+abbrev pub IsPartOf : List Screenshot → List Part → Option Screenshot → Type 0
+IsPartOf screens masks None = Unit {0}
+IsPartOf screens masks (Some view) = (part : Part) × (s : Screenshot) × IsLaidOf screens s × (view ≡ part_of part masks s)
+
+-- A terminal that asked for records and came at the other end of one of these streams: what is noted of it is one of the screens that were
+-- shown; what it was written and what waits for it are what was before records began, and then records; the paintings among them, since it
+-- was last painted anew, lead any terminal that has each size which was told to what it is to show, of which the size was told last; and
+-- that is a part of one of these screens with what was predicted over it.
+pub record IsToldAs {S : Type 0} (contents : S → Option (List ℕ)) (came : List S) (screens : List Screenshot) (t : Terminal S)
+    (display_state : DisplayStateView) : Type 0 where
+  pub stream : S
+  pub is : IsOneOf stream came
+  pub noted : IsNotedOf screens t.outer
+  pub written : List ℕ
+  pub appended : Appends (contents stream) (contents t.stream) written
+  pub before : List ℕ
+  pub said : List Record
+  pub parts : written ++ t.waiting ≡ before ++ texts_of said
+  pub leads : IsSaid said display_state
+  pub shows : IsPartOf screens display_state.masks display_state.view
+
+-- so it is of a terminal that asked for records, and of one that didn't
+abbrev pub IsFollowed : {S : Type 0} → (S → Option (List ℕ)) → List S → List Screenshot → Terminal S → Option DisplayStateView → Type 0
+IsFollowed contents came screens t None = IsLed contents came screens t
+IsFollowed contents came screens t (Some display_state) = IsToldAs contents came screens t display_state
+
+abbrev pub AreLed : {S : Type 0} → (S → Option (List ℕ)) → List S → List Screenshot → List (Terminal S) → Type 0
+AreLed contents came screens [] = Unit {0}
+AreLed contents came screens (t ∷ all) = IsFollowed contents came screens t t.display_state × AreLed contents came screens all
+
+-- ---- the law
+
+-- So it is of each terminal that is there after a run that begins without terminals.
+abbrev pub PaintingsLead : {S : Type 0} → (S → Option (List ℕ)) → (S → Option (List ℕ)) → Type 0
+PaintingsLead {S} remaining contents =
+    (to : Addr) (steps : List (RunStep S)) (calls calls' : Option (List PortCall)) (old new : Shared S) → old.all ≡ []
+    → (h : RunsBy remaining contents to steps calls calls' old new)
+    → AreLed contents (came_in steps) (screens_in remaining contents to steps calls calls' old new h) new.all

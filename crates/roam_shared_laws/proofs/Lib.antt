@@ -1,4 +1,0 @@
-mod Leading
-mod Accounts
-mod Lists
-mod Records

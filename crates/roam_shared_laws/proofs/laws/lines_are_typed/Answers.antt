@@ -1,5 +1,0 @@
-use Rattle.roam_shared_laws.proofs.Accounts.{lines_are_typed}
-use Rattle.roam_shared_laws.proofs.laws.lines_are_typed.Goals as goal
-
-pub returns : goal.returns
-returns g c = record { typed = lines_are_typed g.S.Read.remaining g.S.Write.contents }

@@ -1,5 +1,0 @@
-use Rattle.roam_telling.proofs.Masking.{masked_cells_stay}
-use Rattle.roam_telling.proofs.laws.masked_cells_stay.Goals as goal
-
-pub returns : goal.returns
-returns c = record { stay = masked_cells_stay c.paint_leads.ensures.leads }

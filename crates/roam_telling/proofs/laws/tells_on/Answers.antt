@@ -1,5 +1,0 @@
-use Rattle.roam_telling.proofs.Leading.{tells_on}
-use Rattle.roam_telling.proofs.laws.tells_on.Goals as goal
-
-pub returns : goal.returns
-returns c = record { on = tells_on }

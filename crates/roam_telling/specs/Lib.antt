@@ -1,5 +1,0 @@
-pub mod Leading
-pub mod Masking
-pub mod Saying
-pub mod Scopes
-pub mod Telling

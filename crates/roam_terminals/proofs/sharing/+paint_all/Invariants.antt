@@ -1,5 +1,0 @@
-use Rattle.std.proofs.Common.{length}
-use Rattle.roam_terminals.proofs.sharing.+paint_all.Given as goal
-
-abbrev pub decreases-paint_all : goal.decreases-paint_all
-decreases-paint_all g l = length l.all.now

@@ -1,7 +1,0 @@
-//! Laws of the definitions, each the contract of a function that does nothing when it runs.
-ghost use Rattle.roam_typing.specs.Lines.{FirstIsEnded};
-
-/// Where a line stands first of the bytes that came, these are the line, its end and the rest.
-pub fn first_is_ended()
-    ensures ended { FirstIsEnded }
-{}

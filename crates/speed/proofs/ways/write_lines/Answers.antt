@@ -1,6 +1,0 @@
-use Rattle.std.proofs.Common.{◌-◌}
-use Rattle.speed.proofs.Letters.{some_letters}
-use Rattle.speed.proofs.ways.write_lines.Goals as goal
-
-pub put_run-requires : goal.put_run-requires
-put_run-requires c = record { printable = some_letters 1000 (c.min.result - 0) }

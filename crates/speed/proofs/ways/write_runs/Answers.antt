@@ -1,5 +1,0 @@
-use Rattle.speed.proofs.Letters.{letters}
-use Rattle.speed.proofs.ways.write_runs.Goals as goal
-
-pub put_run-requires : goal.put_run-requires
-put_run-requires c = record { printable = letters 1000 }

@@ -1,0 +1,140 @@
+//! Worked rows: what bytes mean that this project's profile reads otherwise, by xterm's list of control sequences, ISO 8613-6 and the
+//! VT220.
+use crate::readers::bytes_of;
+use roam_normalize::{Filter, MOST_BODY, MOST_HELD};
+use std::alloc::{AllocError, Global};
+
+/// Rows of a heading, bytes and what goes out for them, with an empty line between them. A character is the byte of its code, `␊` LF, and
+/// `‐` the three bytes of U+2010.
+const ROWS: &str = "\
+what has no other meaning goes through
+a\u{C3}\u{A9}\x1B[1;31mb\x1B[m\x1B[?25l\x1B]0;4:3\x07\x1B[>4;2m\x1B[3 q␊
+a\u{C3}\u{A9}\x1B[1;31mb\x1B[m\x1B[?25l\x1B]0;4:3\x07\x1B[>4;2m\x1B[3 q␊
+
+a line of some form is a line, and no form is none
+\x1B[4:3mx\x1B[4:0m
+\x1B[4mx\x1B[24m
+
+each parameter is written by itself then
+\x1B[1;4:3;31m
+\x1B[1m\x1B[4m\x1B[31m
+
+an indexed colour behind colons
+\x1B[38:5:120m\x1B[48:5:7m
+\x1B[38;5;120m\x1B[48;5;7m
+
+a mixture with a colour space, an empty one, and none
+\x1B[38:2:1:10:20:30m\x1B[48:2::1:2:3m\x1B[38:2:4:5:6m
+\x1B[38;2;10;20;30m\x1B[48;2;1;2;3m\x1B[38;2;4;5;6m
+
+sub-parameters behind a mixture don't matter
+\x1B[38:2::1:2:3:9:9m
+\x1B[38;2;1;2;3m
+
+sub-parameters that say nothing here
+x\x1B[58:2::1:2:3m\x1B[38:9m\x1B[7:1my
+xy
+
+colours of lines go out, with their numbers
+\x1B[58;5;1mx\x1B[58;2;1;2;3;1m\x1B[59m\x1B[4;59m
+x\x1B[1m\x1B[4m
+
+58 and 59 as the number of a colour are no colour of a line
+\x1B[38;5;58m\x1B[48;2;59;58;59m
+\x1B[38;5;58m\x1B[48;2;59;58;59m
+
+colours stay with their numbers
+\x1B[38;5;59;4:3;48;2;1;2;58m
+\x1B[38;5;59m\x1B[4m\x1B[48;2;1;2;58m
+
+an empty parameter resets
+\x1B[;4:1m
+\x1B[m\x1B[4m
+
+sixteen parameters go through
+\x1B[1;2;3;4;5;6;7;8;9;0;1;2;3;4;5;6m
+\x1B[1;2;3;4;5;6;7;8;9;0;1;2;3;4;5;6m
+
+seventeen are written one by one
+\x1B[1;1;1;1;1;1;1;1;1;1;1;1;1;38;5;4;7m
+\x1B[1m\x1B[1m\x1B[1m\x1B[1m\x1B[1m\x1B[1m\x1B[1m\x1B[1m\x1B[1m\x1B[1m\x1B[1m\x1B[1m\x1B[1m\x1B[38;5;4m\x1B[7m
+
+the cursor is saved and restored
+\x1B[s\x1B[1;2s\x1B[u\x1B[?1u
+\x1B7\x1B[1;2s\x1B8\x1B[?1u
+
+DECCOLM clears
+\x1B[?3hx\x1B[?40;3l\x1B[?33h\x1B[3h
+\x1B[?3h\x1B[r\x1B[2J\x1B[Hx\x1B[?40;3l\x1B[r\x1B[2J\x1B[H\x1B[?33h\x1B[3h
+
+the soft hyphen
+soft\u{C2}\u{AD}hyphen\u{C2}\u{A9}
+soft‐hyphen\u{C2}\u{A9}
+
+a control inside a sequence leaves it as it is
+\x1B[4:␊3m\x1B[4:\x1B[4:3m
+\x1B[4:␊3m\x1B[4:\x1B[4m";
+
+// What goes out for some bytes that are cut there.
+fn normalized(alloc: Global, bytes: &[u8], cut: usize) -> Result<Vec<u8>, AllocError> {
+    let mut filter = Filter::new(alloc);
+    let (front, back) = bytes.split_at(cut.min(bytes.len()));
+    let mut out = filter.feed(front)?;
+    out.extend_from_slice(&filter.feed(back)?)?;
+    Ok(out)
+}
+
+fn normalized_by_bytes(alloc: Global, bytes: &[u8]) -> Result<Vec<u8>, AllocError> {
+    let mut filter = Filter::new(alloc);
+    let mut out = Vec::new(alloc);
+    for byte in bytes {
+        out.extend_from_slice(&filter.feed(&[*byte])?)?;
+    }
+    Ok(out)
+}
+
+// The bytes of a line, in which `‐` stands for those of U+2010.
+fn wanted_of(alloc: Global, line: &str) -> Result<Vec<u8>, AllocError> {
+    let mut bytes = Vec::new(alloc);
+    for (place, part) in line.split('‐').enumerate() {
+        if place > 0 {
+            bytes.extend_from_slice(&[0xE2, 0x80, 0x90])?;
+        }
+        bytes.extend_from_slice(&bytes_of(alloc, part)?)?;
+    }
+    Ok(bytes)
+}
+
+fn is_normalized(answer: Result<Vec<u8>, AllocError>, wanted: &[u8]) -> bool {
+    matches!(answer, Ok(out) if out.as_slice() == wanted)
+}
+
+fn holds(alloc: Global, block: &str) -> bool {
+    let (_, rest) = block.split_once('\n').unwrap_or((block, ""));
+    let (line, wanted) = rest.split_once('\n').unwrap_or((rest, ""));
+    let (Ok(bytes), Ok(wanted)) = (bytes_of(alloc, line), wanted_of(alloc, wanted)) else {
+        return false;
+    };
+    (0..=bytes.len()).all(|cut| is_normalized(normalized(alloc, &bytes, cut), &wanted))
+        && is_normalized(normalized_by_bytes(alloc, &bytes), &wanted)
+}
+
+// How many bytes of a control sequence with so many digits go out before its final byte comes.
+fn gone_out(alloc: Global, digits: usize) -> usize {
+    let mut filter = Filter::new(alloc);
+    let mut out = filter.feed(b"\x1B[").map_or(0, |out| out.len());
+    for _ in 0..digits {
+        let more = filter.feed(b"1").map_or(0, |out| out.len());
+        out = out.saturating_add(more);
+    }
+    out
+}
+
+#[test]
+fn rows_of_what_is_normalized(rt: HostRuntime) {
+    for block in ROWS.split("\n\n") {
+        assert!(rt; holds(rt.alloc(), block), "{block}");
+    }
+    assert_eq!(rt; gone_out(rt.alloc(), MOST_BODY), 0);
+    assert_eq!(rt; gone_out(rt.alloc(), MOST_BODY + 1), MOST_HELD + 1);
+}

@@ -1,0 +1,43 @@
+//! The callers that the READMEs of the libraries show, each a module here that is proved (`tools/worked_callers` compares the two).
+#![tactic(auto)]
+
+pub mod acts;
+pub mod attach;
+pub mod cells;
+pub mod charset;
+pub mod controls;
+pub mod display_records;
+pub mod display_state;
+pub mod faults;
+pub mod grid;
+pub mod history;
+pub mod keys;
+pub mod normalize;
+pub mod outer_terminal;
+pub mod overlay;
+pub mod paint;
+pub mod pane_metadata;
+pub mod pane_protocol;
+pub mod pane_sockets;
+pub mod pane_subscribers;
+pub mod rows;
+pub mod screens;
+pub mod scrollback;
+pub mod scrollback_stream;
+pub mod serve;
+pub mod session;
+pub mod shared_client;
+pub mod shared_client_laws;
+pub mod show;
+pub mod simulation;
+pub mod sockets;
+pub mod stream_framing;
+pub mod sync;
+pub mod terminal_input;
+pub mod text;
+pub mod tokens;
+pub mod update;
+pub mod viewport;
+pub mod wire;
+pub mod world_run;
+pub mod world_script;

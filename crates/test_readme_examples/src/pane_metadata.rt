@@ -1,0 +1,11 @@
+//! A caller of `roam_pane_metadata`, as its README shows it (`tools/worked_callers`).
+
+// README: begin
+use roam_pane_metadata::{Metadata, Tracking};
+
+/// Whether a front end has to ask its outer terminal for the mouse, after one more piece of what the program in the pane in focus wrote.
+pub fn wants_the_mouse(metadata: &mut Metadata, piece: &[u8]) -> bool {
+    metadata.feed(piece);
+    !matches!(metadata.settings().tracking, Tracking::Off)
+}
+// README: end

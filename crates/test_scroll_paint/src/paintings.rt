@@ -1,0 +1,266 @@
+//! Texts that move rows, and what terminals show that are led by them.
+//!
+//! Tables are texts, a case after the other with an empty line between them. A case of `TEXTS` has a name, and in the next line the rows
+//! and columns of a terminal, what is written to it, what is written to another of that size, and the text between their screens, with
+//! bars between. A case of `PAIRS` has two terminals, with a bar between.
+use crate::uses::two_texts;
+use roam_cells::{Cell, Fault};
+use roam_paint::paint;
+use roam_screens::Shot;
+use roam_scroll_paint::paint_moved;
+use roam_term::Term;
+use std::alloc::Global;
+use std::test::*;
+use test_update_paint::screen;
+
+const TEXTS: &str = "\
+nothing
+2 8 ||\x1B[1H
+
+a cell in the first column: CUP without a column
+2 8 |a|\x1B[1Ha\x1B[1;2H
+
+a default cell behind one in bold
+2 8 |\x1B[1ma\x1B[0mb|\x1B[1H\x1B[1ma\x1B[0mb\x1B[1;3H
+
+a bold cell alone
+2 8 |\x1B[1ma|\x1B[1H\x1B[1ma\x1B[0m\x1B[1;2H
+
+a flag is added to a colour
+2 8 |\x1B[31ma\x1B[1mb|\x1B[1H\x1B[38;5;1ma\x1B[1mb\x1B[0m\x1B[1;3H
+
+a colour ends beside one that stays
+2 8 |\x1B[31;44ma\x1B[39mb|\x1B[1H\x1B[38;5;1;48;5;4ma\x1B[39mb\x1B[0m\x1B[1;3H
+
+a mixture is a part of what changes
+2 8 |\x1B[1ma\x1B[38;2;1;2;3mb|\x1B[1H\x1B[1ma\x1B[38;2;1;2;3mb\x1B[0m\x1B[1;3H
+
+a gap is written through
+2 8 abc|xbz|\x1B[1Hxbz\x1B[1;4H
+
+a gap in another style is moved over
+2 8 a\x1B[1mb\x1B[0mc|x\x1B[1mb\x1B[0mz|\x1B[1Hx\x1B[1;3Hz\x1B[1;4H
+
+the end of a row is erased
+2 8 abcdefgh|ab|\x1B[1;3H\x1B[K\x1B[1;3H
+
+and behind what is written
+2 8 abcdefgh|xy|\x1B[1Hxy\x1B[K\x1B[1;3H
+
+and behind a gap
+2 8 abcdefgh|xb|\x1B[1Hxb\x1B[K\x1B[1;3H
+
+in the default style
+2 8 abcdefgh|\x1B[1mxy|\x1B[1H\x1B[1mxy\x1B[0m\x1B[K\x1B[1;3H
+
+two blanks are written
+2 8 abc|a|\x1B[1;2H  \x1B[1;2H
+
+the last column, and then the next row
+2 8 |abcdefgh\r\ni|\x1B[1Habcdefgh\x1B[2Hi\x1B[2;2H
+
+half of an old pair is written over, and its other half is written too
+2 8 a中|abc|\x1B[1;2Hbc\x1B[1;4H
+
+a wide cell over two narrow ones
+2 8 xx\x1B[1;3H\x1B[7mc|x中d|\x1B[1;2H中d\x1B[1;5H
+
+the cursor is hidden where it was visible
+2 8 |\x1B[?25l|\x1B[?25l\x1B[1H
+
+and shown
+2 8 \x1B[?25l||\x1B[?25l\x1B[1H\x1B[?25h
+
+rows go up
+4 20 aaaaaaaaaaaaaaaa\r\nbbbbbbbbbbbbbbbb\r\ncccccccccccccccc\r\ndddddddddddddddd|bbbbbbbbbbbbbbbb\r\ncccccccccccccccc\r\ndddddddddddddddd\r\neeeeeeeeeeeeeeee|\x1B[1;4r\x1B[4H\n\x1B[r\x1B[4Heeeeeeeeeeeeeeee\x1B[4;17H
+
+rows go down
+4 20 aaaaaaaaaaaaaaaa\r\nbbbbbbbbbbbbbbbb\r\ncccccccccccccccc\r\ndddddddddddddddd|eeeeeeeeeeeeeeee\r\naaaaaaaaaaaaaaaa\r\nbbbbbbbbbbbbbbbb\r\ncccccccccccccccc\x1B[1;17H|\x1B[1;4r\x1B[1H\x1BM\x1B[r\x1B[1Heeeeeeeeeeeeeeee\x1B[1;17H
+
+rows go down by two between a first and a last row
+6 20 ffffffffffffffff\r\naaaaaaaaaaaaaaaa\r\nbbbbbbbbbbbbbbbb\r\ncccccccccccccccc\r\ndddddddddddddddd\r\nffffffffffffffff|ffffffffffffffff\r\n\r\n\r\naaaaaaaaaaaaaaaa\r\nbbbbbbbbbbbbbbbb\r\nffffffffffffffff|\x1B[2;5r\x1B[2H\x1BM\x1BM\x1B[r\x1B[6;17H";
+
+// Rows that go up and down with wide and joined characters, styles and blank ends; other sizes.
+const PAIRS: &str = "\
+6 10 aaaaaaaa\r\n中文中文\r\ncccccccc\r\ndddddddd\r\neeeeeeee\r\nffffffff|\
+6 10 中文中文\r\ncccccccc\r\ndddddddd\r\neeeeeeee\r\nffffffff\r\n\x1B[7m中xyz文w
+
+6 10 aaaaaaaa\r\nbbbbbbbb\r\ncccccccc\r\ndddddddd\r\neeeeeeee\r\nffffffff|\
+6 10 aaaaaaaa\r\n\r\nx\r\nbbbbbbbb\r\ncccccccc\r\nffffffff
+
+6 10 \x1B[44maaaaaaaa\r\nbbbbbbbb\r\ncccc\x1B[0mcccc\r\ndddddddd\r\ne\u{301}eeeeeee\r\nffffffff|\
+6 10 \x1B[44mbbbbbbbb\r\ncccc\x1B[0mcccc\r\ndddddddd\r\ne\u{301}eeeeeee\r\nffffffff\x1B[?25l
+
+4 10 中文中文中|4 10 a中文中文
+
+4 10 a中文中文|4 10 ab
+
+3 8 abcdefgh\r\nabcdefgh|4 10 abcdefgh\r\n\x1B[1;38;5;200;48;2;1;2;3mabcdefgh
+
+4 10 abcdefghij|2 8 \x1B[1;2;3;4;5;7;8;9;31;42mabc\x1B[0;1;31md\x1B[42me";
+
+fn words(text: &str) -> (u16, u16, &str) {
+    let (rows, rest) = text.split_once(' ').unwrap_or((text, ""));
+    let (cols, input) = rest.split_once(' ').unwrap_or((rest, ""));
+    (
+        rows.parse::<u16>().unwrap_or(0),
+        cols.parse::<u16>().unwrap_or(0),
+        input,
+    )
+}
+
+// The screen of a text such as `2 8 abc`: rows, columns, and what is written.
+fn shown_by(alloc: Global, text: &str) -> Result<Shot, Fault> {
+    let (rows, cols, input) = words(text);
+    screen(alloc, rows, cols, input.as_bytes())
+}
+
+fn has_cell(shown: &Shot, screen: &Shot, row: u16, col: u16) -> bool {
+    let wanted = match screen.at(row, col) {
+        Some(cell) => cell,
+        None => Cell::blank(),
+    };
+    match shown.at(row, col) {
+        Some(cell) => cell.is_same(&wanted),
+        None => false,
+    }
+}
+
+// Whether what is shown is a screen, with blanks outside it.
+fn is_shown(shown: &Shot, screen: &Shot) -> bool {
+    for row in 1..=shown.rows() {
+        for col in 1..=shown.cols() {
+            if !has_cell(shown, screen, row, col) {
+                return false;
+            }
+        }
+    }
+    shown.cursor() == screen.cursor() && shown.visible() == screen.visible()
+}
+
+// Whether a terminal shows a screen once a text was written to it.
+fn shows_after(alloc: Global, term: &mut Term, text: &[u8], screen: &Shot) -> bool {
+    term.feed(text).is_ok() && matches!(term.shot(alloc, 0), Ok(shown) if is_shown(&shown, screen))
+}
+
+// The text between two screens, behind `before`, where it is no longer than the one that leaves nothing out.
+fn text_between(alloc: Global, old: &Shot, new: &Shot) -> Result<Vec<u8>, Fault> {
+    let mut text = Vec::from_slice(alloc, b"before")?;
+    paint_moved(old, new, &mut text)?;
+    let mut plain = Vec::from_slice(alloc, b"before")?;
+    paint(old, new, &mut plain)?;
+    if plain.len() < text.len() {
+        text.clear();
+    }
+    Ok(text)
+}
+
+fn goes_over(alloc: Global, term: &mut Term, old: &Shot, new: &Shot) -> bool {
+    match text_between(alloc, old, new) {
+        Ok(text) => match text.as_slice().strip_prefix(b"before".as_slice()) {
+            Some(text) => shows_after(alloc, term, text, new),
+            None => false,
+        },
+        Err(_) => false,
+    }
+}
+
+fn last_but_one_starts_with(shown: &Shot, char: char) -> bool {
+    match shown.at(shown.rows().saturating_sub(1), 1) {
+        Some(cell) => cell.chars().as_slice() == [char].as_slice(),
+        None => false,
+    }
+}
+
+// Whether the last row of a terminal is the one above it once an LF came there: its margins are full.
+fn scrolls(alloc: Global, term: &mut Term) -> bool {
+    term.feed(b"\x1B[999;1HZ\n").is_ok()
+        && matches!(term.shot(alloc, 0), Ok(shown) if last_but_one_starts_with(&shown, 'Z'))
+}
+
+// A terminal goes to an old screen by the new one, then there, back and there again.
+fn goes_about(alloc: Global, term: &mut Term, old: &Shot, new: &Shot) -> bool {
+    matches!(two_texts(alloc, new, old), Ok(text) if shows_after(alloc, term, &text, old))
+        && goes_over(alloc, term, old, new)
+        && goes_over(alloc, term, new, old)
+        && goes_over(alloc, term, old, new)
+        && scrolls(alloc, term)
+}
+
+fn leads(alloc: Global, old: &Shot, new: &Shot) -> bool {
+    match Term::new(alloc, 7, 20, 0) {
+        Ok(mut term) => goes_about(alloc, &mut term, old, new),
+        Err(_) => false,
+    }
+}
+
+fn is_led(alloc: Global, pair: &str) -> bool {
+    let (old, new) = pair.split_once('|').unwrap_or((pair, ""));
+    match (shown_by(alloc, old), shown_by(alloc, new)) {
+        (Ok(old), Ok(new)) => leads(alloc, &old, &new),
+        _ => false,
+    }
+}
+
+#[test]
+fn pairs_of_screens(rt: HostRuntime) {
+    for pair in PAIRS.split("\n\n") {
+        assert!(rt; is_led(rt.alloc(), pair), "{pair:?}");
+    }
+}
+
+fn is_written(alloc: Global, old: &Shot, new: &Shot, wanted: &str) -> bool {
+    match text_between(alloc, old, new) {
+        Ok(text) => text.as_slice().strip_prefix(b"before".as_slice()) == Some(wanted.as_bytes()),
+        Err(_) => false,
+    }
+}
+
+fn holds(alloc: Global, case: &str) -> bool {
+    let (_, rest) = case.split_once('\n').unwrap_or((case, ""));
+    let (old, rest) = rest.split_once('|').unwrap_or((rest, ""));
+    let (input, text) = rest.split_once('|').unwrap_or((rest, ""));
+    let (rows, cols, _) = words(old);
+    match (
+        shown_by(alloc, old),
+        screen(alloc, rows, cols, input.as_bytes()),
+    ) {
+        (Ok(old), Ok(new)) => is_written(alloc, &old, &new, text) && leads(alloc, &old, &new),
+        _ => false,
+    }
+}
+
+#[test]
+fn texts(rt: HostRuntime) {
+    for case in TEXTS.split("\n\n") {
+        assert!(rt; holds(rt.alloc(), case), "{case:?}");
+    }
+}
+
+// Whether a text is painted behind what stands there; where memory is refused nothing is added, and the same call then adds it.
+fn is_painted_or_kept(old: &Shot, new: &Shot, out: &mut Vec<u8>, text: &str) -> bool {
+    let before = out.len();
+    if paint_moved(old, new, out).is_err()
+        && (out.len() != before || paint_moved(old, new, out).is_err())
+    {
+        return false;
+    }
+    out.len() == before + text.len() && out.as_slice().ends_with(text.as_bytes())
+}
+
+fn is_painted_or_nothing(alloc: Global) -> Result<bool, Fault> {
+    let old = screen(alloc, 2, 8, b"a")?;
+    let new = screen(alloc, 2, 8, b"\x1B[1mb\x1B[2;1H\x1B[38;5;9mc")?;
+    let mut out = Vec::from_slice(alloc, b"before")?;
+    let text = "\x1B[1H\x1B[1mb\x1B[2H\x1B[38;5;9mc\x1B[0m\x1B[2;2H";
+    Ok(is_painted_or_kept(&old, &new, &mut out, text))
+}
+
+// To be run with each of its allocations refused in turn, too. What the values themselves have no memory for ends it.
+#[test]
+fn refused_memory_paints_nothing(rt: HostRuntime) {
+    match is_painted_or_nothing(rt.alloc()) {
+        Ok(is_painted) => assert!(rt; is_painted),
+        Err(fault) => assert!(rt; fault == Fault::OutOfMemory),
+    }
+}
