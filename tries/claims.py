@@ -2,7 +2,7 @@
 done, and what has to be seen then. Nothing of it comes from what roam does, but of those that NAMED has."""
 from collections import namedtuple
 
-from roam_live.cells import Style
+from roam_live.protocol.screen_cells import Style
 
 # What stands on the screen of 4 by 8 before a capability is written; of 2 by 20 it is blank.
 TEXT = ("abcdefgh", "ijklmnop", "qrstuvwx", "yz012345")

@@ -16,11 +16,11 @@ LIVE = pathlib.Path(__file__).resolve().parent.parent / "live"
 sys.path[:0] = [str(LIVE), str(pathlib.Path(__file__).resolve().parent / "units")]
 
 from emulated import Emulated
-from roam_live import terminal
-from roam_live.captures import asked_screen
-from roam_live.cells import ShownCells, Style, cells_of
-from roam_live.links import StartLink
-from roam_live.program import TOOLS, program
+from roam_live.cli.capture import asked_screen
+from roam_live.common import tty
+from roam_live.common.errors import TOOLS, program
+from roam_live.protocol.client_link import StartLink
+from roam_live.protocol.screen_cells import ShownCells, Style, cells_of
 
 # So many seconds something has for coming.
 WAIT = 15.0
@@ -150,7 +150,7 @@ class Outer:
     def __init__(self, words, size=(24, 80), environment=None):
         self.size = size
         self.master, self.slave = pty.openpty()
-        terminal.set_size(self.slave, *size)
+        tty.set_size(self.slave, *size)
         self.modes = termios.tcgetattr(self.slave)
         self.written = bytearray(b"before\r\n")
         self.emulated, self.read_to, self.is_resized = Emulated(*size), 0, False
@@ -258,7 +258,7 @@ class Outer:
         """Gives the terminal another size, as a person does."""
         self.emulation().resize(rows, cols)
         self.size, self.is_resized = (rows, cols), True
-        terminal.set_size(self.slave, rows, cols)
+        tty.set_size(self.slave, rows, cols)
 
     def display_keypad(self):
         """What was written last of the keypad's codes: those of applications, or numbers; nothing where neither was."""

@@ -7,7 +7,7 @@ import time
 
 from control_strings import controls
 from tried import SESSION, Outer, check, comes, scene, terminals_of, tool
-from roam_live.places import CLIPS
+from roam_live.protocol.panes import CLIPS
 from scenes.machines import ssh_words
 
 ON = {"ROAM_CLIPBOARD": "on"}

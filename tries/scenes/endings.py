@@ -16,9 +16,9 @@ import time
 
 from tried import (
     LIVE, Outer, PROGRAM, check, children, commands, comes, folder_of, listed, noted, own_terminal, said, scene, tool, window_of)
-from roam_live import terminal
-from roam_live.program import TOOLS, begun
-from roam_live.sessions import FolderSession
+from roam_live.common import tty
+from roam_live.common.errors import TOOLS, begun
+from roam_live.session.sessions import FolderSession
 
 LISTED = 50
 
@@ -77,7 +77,7 @@ class Frozen:
 
     def __init__(self, words):
         self.master, slave = pty.openpty()
-        terminal.set_size(slave, 40, 120)
+        tty.set_size(slave, 40, 120)
         ends = {"stdin": slave, "stdout": slave, "stderr": slave}
         known = {"TERM": "xterm-256color", **os.environ}
         self.process = subprocess.Popen(words, **ends, env=known, start_new_session=True, preexec_fn=own_terminal)
@@ -427,7 +427,7 @@ def hung_up(path):
     with open(path, "ab") as said:
         for number in range(HANG_UPS):
             master, slave = pty.openpty()
-            terminal.set_size(slave, 24, 80)
+            tty.set_size(slave, 24, 80)
             ends = {"stdin": slave, "stdout": slave, "stderr": said}
             own = own_terminal if number % 3 else None
             process = subprocess.Popen(tool("mux", "other"), **ends, start_new_session=True, preexec_fn=own)

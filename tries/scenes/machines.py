@@ -10,9 +10,9 @@ import xml.etree.ElementTree
 import zlib
 
 from tried import Outer, PROGRAM, check, children, comes, listed, noted, said, scene, tool, window_of
-from roam_live.places import asked_places
-from roam_live.program import TOOLS
-from roam_live.relayed import HEADER, greeting
+from roam_live.common.errors import TOOLS
+from roam_live.protocol.panes import asked_places
+from roam_live.relay.frames import HEADER, greeting
 
 
 @scene

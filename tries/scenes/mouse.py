@@ -3,9 +3,9 @@ import os
 import time
 
 from tried import KEEPS_NONE, SESSION, Outer, check, comes, scene, three_panes, tool
-from roam_live import terminal
-from roam_live.extended_keys import given_back
-from roam_live.mouse import ASKED, OFF
+from roam_live.common import tty
+from roam_live.input.extended_keys import given_back
+from roam_live.input.mouse_reports import ASKED, OFF
 from scenes.machines import ssh_words
 
 # A program that sets modes, and notes all that it is sent in hexadecimal digits; q ends it, which it notes too.
@@ -151,7 +151,7 @@ def mouse_leaves(folder):
         check(f"{name}: and for nothing in the end", is_off and outer.is_restored(), bytes(outer.written[-200:]))
     begin = len(first.written)
     first.type(b"\x02\x1a")
-    is_off = asks(first, OFF + given_back(0) + terminal.LEFT, begin) and asks(first, terminal.ENTERED + ASKED["motion"], begin)
+    is_off = asks(first, OFF + given_back(0) + tty.LEFT, begin) and asks(first, tty.ENTERED + ASKED["motion"], begin)
     check("C-b C-z: nothing is asked while it is stopped, and again then", is_off, bytes(first.written[begin:]))
     watcher = Outer(tool("mux", "watch", SESSION))
     watcher.shows("at noted")

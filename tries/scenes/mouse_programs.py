@@ -7,10 +7,10 @@ import time
 from scenes.mouse import report
 from scenes.programs import Tmux, differences, htop_options, mc_home
 from tried import SESSION, Outer, check, comes, scene, terminals_of, tool
-from roam_live import terminal
-from roam_live.cells import ShownCells
-from roam_live.mouse import SGR, MouseReport, sent, tracking_of
-from roam_live.places import ASIDE, ToldPanes
+from roam_live.common import tty
+from roam_live.input.mouse_reports import SGR, MouseReport, sent, tracking_of
+from roam_live.protocol.panes import ASIDE, ToldPanes
+from roam_live.protocol.screen_cells import ShownCells
 
 # The rows and columns of the right pane, and the column before it.
 PANE, LEFT = (23, 40), 40
@@ -65,7 +65,7 @@ def check_pointed(name, command, steps, quits):
     outer.shows("$ ")
     outer.type(b"\x02%")
     outer.status(" 1 [2]")
-    known = " ".join(f"{word}={value}" for word, value in terminal.names().items())
+    known = " ".join(f"{word}={value}" for word, value in tty.names().items())
     tmux = Tmux(f"export {known}; {command}", *PANE)
     outer.type(b"clear\r")
     outer.type(f"{command}; clear; echo le''ft {name}\r".encode())

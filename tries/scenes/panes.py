@@ -9,11 +9,11 @@ import termios
 import time
 
 from tried import KEEPS_NONE, SESSION, Outer, check, comes, is_part, listed, noted, said, scene, terminals_of, three_panes, tool
-from roam_live import terminal
-from roam_live.commands import NEW
-from roam_live.front_end import SIZES
-from roam_live.links import StartLink
-from roam_live.programs import busy_panes
+from roam_live.common import tty
+from roam_live.frontend.app import SIZES
+from roam_live.frontend.commands import NEW
+from roam_live.protocol.client_link import StartLink
+from roam_live.session.foreground import busy_panes
 
 PASTED = 100_000
 
@@ -79,9 +79,9 @@ def leaving(folder):
     check("the session goes on", listed()[:7] == [SESSION, "24", "by", "80", "3", "panes", "0"], listed())
     again = Outer(tool("mux", SESSION))
     check("mux attaches again, and shows the same", comes(lambda: again.rows() == before), lambda: (again.rows(), before))
-    before_it = again.written.count(terminal.CLEARED)
+    before_it = again.written.count(tty.CLEARED)
     os.kill(noted(SESSION)["terminals"][0], signal.SIGKILL)
-    check("a killed client start is followed by another", comes(lambda: again.written.count(terminal.CLEARED) > before_it), again.rows)
+    check("a killed client start is followed by another", comes(lambda: again.written.count(tty.CLEARED) > before_it), again.rows)
     check("which is told", again.status("the client start has ended; what was typed last may be lost"), again.rows)
     check("which shows the same", comes(lambda: again.rows() == before), again.rows)
     again.type(b"echo aft''er\r")

@@ -11,7 +11,7 @@ import time
 from tried import KEEPS_NONE, Outer, check, comes, noted, said, scene, tool, window_of
 from scenes.machines import far_ends, ssh_words
 from scenes.mouse_programs import Modes
-from roam_live.places import BRACKETED
+from roam_live.protocol.panes import BRACKETED
 
 # So many pastes are typed with keys round each, and so many bytes at once are timed.
 PASTES = 100

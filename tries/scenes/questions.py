@@ -3,10 +3,10 @@ import socket
 import time
 
 from tried import SESSION, Outer, check, comes, connected, scene, terminals_of, tool
-from roam_live.captures import asked_screen
-from roam_live.colours import ASKED
-from roam_live.questions import ASKS, NAMED
-from roam_live.told import screen_of
+from roam_live.cli.capture import asked_screen
+from roam_live.protocol.colours import ASKED
+from roam_live.protocol.display_records import screen_of
+from roam_live.protocol.queries import ASKS, NAMED
 
 # A program that writes what its words spell to its terminal, and notes what comes until the answer to DA1 has, or for three seconds.
 ASKER = """\

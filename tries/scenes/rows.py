@@ -6,10 +6,10 @@ import subprocess
 import time
 
 from tried import SESSION, Outer, check, children, comes, is_filter, noted, said, scene, tool, window_of
-from roam_live.asked_rows import RowsAsked
-from roam_live.program import TOOLS, Fault
-from roam_live.sessions import FolderSession
-from roam_live.targets import making_of
+from roam_live.cli.scrollback import RowsAsked
+from roam_live.cli.targets import making_of
+from roam_live.common.errors import TOOLS, Fault
+from roam_live.session.sessions import FolderSession
 
 KEPT = 10_000
 

@@ -13,11 +13,11 @@ from scenes.mouse import report
 from scenes.mouse_programs import Modes
 from scenes.programs import htop_options
 from tried import SESSION, Outer, check, comes, connected, part_at, scene, shown_above, terminals_of, three_panes, told_cells, tool
-from roam_live.borders import NO_PANE
-from roam_live.mouse import tracking_of
-from roam_live.places import asked_places
-from roam_live.program import Fault
-from roam_live.terminal import MOST
+from roam_live.common.errors import Fault
+from roam_live.common.tty import MOST
+from roam_live.frontend.borders import NO_PANE
+from roam_live.input.mouse_reports import tracking_of
+from roam_live.protocol.panes import asked_places
 
 # The command of a pane that writes rows at its begin, and nothing more; so many there are, at most.
 STILL = "i=0; while [ $i -lt 30 ]; do i=$((i+1)); echo row $i of some that stand in a pane as they were written; done; exec sleep 10000"

@@ -14,8 +14,8 @@ import types
 import unittest
 from unittest import mock
 
-from roam_live.loops import Loop
-from roam_live.program import TOOLS
+from roam_live.common.errors import TOOLS
+from roam_live.common.event_loop import Loop
 
 
 @functools.lru_cache()

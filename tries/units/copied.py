@@ -1,9 +1,9 @@
 """What copy mode is tried with beside tmux's: a text, keys by name with emacs' and vi's table, and what is copied by them here."""
-from roam_live.copy_keys import KeyPairs
-from roam_live.copy_commands import COPY, LEAVE
-from roam_live.copy_mode import CopyMode
-from roam_live.copy_rows import Rows, width_of
-from roam_live.keys import Keys
+from roam_live.frontend.copymode.commands import COPY, LEAVE
+from roam_live.frontend.copymode.keys import KeyPairs
+from roam_live.frontend.copymode.mode import CopyMode
+from roam_live.frontend.copymode.rows import Rows, width_of
+from roam_live.input.keys import Keys
 
 # Paragraphs, rows that go on, separators, brackets, blanks at the beginning and the end, wide and joined characters.
 TEXT = "".join(f"{line}\n" for line in (
@@ -53,7 +53,7 @@ def answer_all(mode, does):
 
 def found_row(rows, first, is_back, text):
     """The row behind one, or before it, at which a text begins, as the keeper finds it."""
-    from roam_live.copy_search import matches
+    from roam_live.frontend.copymode.search import matches
 
     numbers = range(first - 1, rows.first - 1, -1) if is_back else range(first + 1, rows.end)
     return next((row for row in numbers if any(match[0][0] == row for match in matches(rows, row, text))), None)

@@ -7,7 +7,7 @@ import codecs
 import re
 
 from painted import BOXES, PaintedCells, width_of
-from roam_live.cells import Style, styled
+from roam_live.protocol.screen_cells import Style, styled
 
 # A control sequence with its mark, numbers, intermediates and final byte; an escape with intermediates and its final byte; a control
 # string; a control character; and characters.

@@ -4,7 +4,7 @@ import os
 import sys
 from unittest import mock
 
-from roam_live import row_filter
+from roam_live.host import scrollback_process
 
 # No process has this number.
 NOBODY = (1 << 31) - 1
@@ -87,7 +87,7 @@ def played(case, count=1, said=b""):
     """Filters that are spawned one after the other from now on, and played by hand; each further one can't be spawned."""
     filters = [PlayedFilter(case, said) for _ in range(count)]
     spawns = [(NOBODY, list(one.ends)) for one in filters]
-    patch = mock.patch.object(row_filter, "spawned", side_effect=[*spawns, *[OSError(11, "no process is left")] * 50])
+    patch = mock.patch.object(scrollback_process, "spawned", side_effect=[*spawns, *[OSError(11, "no process is left")] * 50])
     patch.start()
     case.addCleanup(patch.stop)
     return filters

@@ -2,9 +2,9 @@
 from collections import deque
 
 from copied import rows_of
-from roam_live.copy_rows import Rows
-from roam_live.copy_search import matches
-from roam_live.kept_rows import BufferNote, Snapshot
+from roam_live.frontend.copymode.rows import Rows
+from roam_live.frontend.copymode.search import matches
+from roam_live.protocol.scrollback_client import BufferNote, Snapshot
 
 
 class PlayedKept:

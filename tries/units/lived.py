@@ -2,8 +2,8 @@
 import random
 
 from aids import Case
-from roam_live.borders import least_of, panes_of
-from roam_live.places import Places, Rect
+from roam_live.frontend.borders import least_of, panes_of
+from roam_live.protocol.panes import Places, Rect
 from test_borders import Played
 from test_display import Person, PlayedShells
 

@@ -7,7 +7,7 @@ import re
 import unicodedata
 from collections.abc import Iterable
 
-from roam_live.cells import Style, styled
+from roam_live.protocol.screen_cells import Style, styled
 
 MARKS = re.compile(r"\x1b\[(\d+)(?:;(\d+))?H|\x1b\[([\d;]*)m|(\x1b\[2J|\x1bc)|\x1b\[\?25([hl])|\x1b\[(?:(\d+);(\d+))?r|(\x1b\[K|\x1bM|\n)"
                    r"|\x1b([78])|\x1b\[[0-?]*[@-~]|\x1b[=>]|([^\x1b])")

@@ -3,14 +3,14 @@ import unittest
 from unittest import mock
 
 from aids import Case
-from roam_live import asked_command
-from roam_live.program import Fault
+from roam_live.cli import cmd
+from roam_live.common.errors import Fault
 
 # Words, what does it, and with what behind the window.
-DONE = (("split-window -h", "sending.send", (["split right"], 2)), ("kill-pane", "sending.send", (["close"], 2)),
-        ("select-pane -t 3", "sending.send", (["focus 3"], 2)), ("send-keys a Up", "sending.send", (["char 61", "key up"], 2)),
-        ("new-window", "asked_windows.new_window", ("",)), ("rename-window my own", "asked_windows.rename", ("my own",)),
-        ("kill-window", "asked_windows.shut", ()), ("detach-client -a", "asked_windows.detach_others", ()))
+DONE = (("split-window -h", "cli.send.send", (["split right"], 2)), ("kill-pane", "cli.send.send", (["close"], 2)),
+        ("select-pane -t 3", "cli.send.send", (["focus 3"], 2)), ("send-keys a Up", "cli.send.send", (["char 61", "key up"], 2)),
+        ("new-window", "cli.windows.new_window", ("",)), ("rename-window my own", "cli.windows.rename", ("my own",)),
+        ("kill-window", "cli.windows.shut", ()), ("detach-client -a", "cli.windows.detach_others", ()))
 
 
 class Outside(Case):
@@ -19,13 +19,13 @@ class Outside(Case):
     def test_done(self):
         for words, does, behind in DONE:
             with mock.patch(f"roam_live.{does}", return_value=0) as done:
-                self.assertEqual(asked_command.run("window", 2, words.split(" ")), 0)
+                self.assertEqual(cmd.run("window", 2, words.split(" ")), 0)
             done.assert_called_once_with("window", *behind)
 
     def test_refused(self):
         for words in ("resize-pane -Z", "run-shell ls", "select-window -t 2", "copy-mode", "rename-window", "set -g mouse on", "nosuch"):
             with self.assertRaises(Fault):
-                asked_command.run("window", 0, words.split(" "))
+                cmd.run("window", 0, words.split(" "))
 
 
 if __name__ == "__main__":

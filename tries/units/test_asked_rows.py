@@ -5,11 +5,11 @@ import types
 from unittest import mock
 
 from aids import Case
-from roam_live import asked_rows, giving
-from roam_live.buffers import EMPTY, MOST_BUFFER, TOO_LONG
-from roam_live.loops import ready
-from roam_live.program import Fault
-from roam_live.row_texts import RowWriter, text_of
+from roam_live.cli import paste, scrollback
+from roam_live.cli.row_texts import RowWriter, text_of
+from roam_live.common.errors import Fault
+from roam_live.common.event_loop import ready
+from roam_live.host.paste_buffers import EMPTY, MOST_BUFFER, TOO_LONG
 from test_rows_socket import Rows
 
 
@@ -46,9 +46,9 @@ class Asked(Rows):
         self.session = types.SimpleNamespace(name="main", folder=self.folder)
         self.life = 5
         self.filter = []
-        self.patch_of(asked_rows, "making_of", lambda session, pane: (pane or 1, self.life))
-        self.patch_of(asked_rows, "ready", self.ready)
-        self.patch_of(asked_rows, "ANSWERS", 0.2)
+        self.patch_of(scrollback, "making_of", lambda session, pane: (pane or 1, self.life))
+        self.patch_of(scrollback, "ready", self.ready)
+        self.patch_of(scrollback, "ANSWERS", 0.2)
         self.out = io.TextIOWrapper(io.BytesIO())
         self.patch_of(sys, "stdout", self.out)
 
@@ -81,7 +81,7 @@ class Rowed(Asked):
     def captured(self, begin, end, has_styles=False, is_joined=False):
         """The rows that are captured, of three that left, and two of the screen."""
         self.filter = [b"screen 0 2 15\n+s\x1b[1mx\x1b[0m\n t\n"]
-        return self.printed_by(asked_rows.capture_rows, 0, begin, end, has_styles, is_joined)
+        return self.printed_by(scrollback.capture_rows, 0, begin, end, has_styles, is_joined)
 
     def test_captured(self):
         """From row to row, in either order, as tmux counts them: the nearest for one that isn't there."""
@@ -111,15 +111,15 @@ class Rowed(Asked):
         for word in ("x", "--", "-x", "1.5", "", "1" * 10, "+1"):
             self.filter = [b"screen 0 1 3\n s\n"]
             told = f"{word!r} is no row: 0 is the first of the screen, -1 the last above it, and - the outermost"
-            self.refuses(told, asked_rows.capture_rows, 0, word, None, False, False)
+            self.refuses(told, scrollback.capture_rows, 0, word, None, False, False)
         self.life = 4
-        for does, words in ((asked_rows.capture_rows, ("0", None)), (asked_rows.log_rows, ())):
+        for does, words in ((scrollback.capture_rows, ("0", None)), (scrollback.log_rows, ())):
             self.refuses("session main: no rows are kept of pane 1, as where ROAM_HISTORY is 0, or by an earlier roam", does, 0, *words,
                          False, False)
         self.life = 5
-        self.refuses("session main: what keeps its shells doesn't answer", asked_rows.capture_rows, 0, "0", None, False, False)
+        self.refuses("session main: what keeps its shells doesn't answer", scrollback.capture_rows, 0, "0", None, False, False)
         self.socket.close()
-        self.refuses("session main: nobody keeps its shells", asked_rows.capture_rows, 0, "0", None, False, False)
+        self.refuses("session main: nobody keeps its shells", scrollback.capture_rows, 0, "0", None, False, False)
 
     def test_log(self):
         """Rows as they come, and the last screen; rows that were kept no longer are told."""
@@ -128,25 +128,25 @@ class Rowed(Asked):
                  lambda: self.keeper.drop(1), lambda: self.prints(b"screen 0 2 6\n s\n  \n")]
 
         def step(end, events, seconds):
-            if not events & asked_rows.WRITE and steps:
+            if not events & scrollback.WRITE and steps:
                 steps.pop(0)()
             self.loop.turns(4)
             return ready(end, events, 0.01)
 
-        with mock.patch.object(asked_rows, "ready", step):
-            told = self.printed_by(asked_rows.log_rows, 0, False, True)
+        with mock.patch.object(scrollback, "ready", step):
+            told = self.printed_by(scrollback.log_rows, 0, False, True)
         self.assertEqual(told, "cd\n[100 rows were kept no longer]\n" + "x\n" * 100 + "s\n")
 
     def test_log_ended(self):
         """A keeper that ends meanwhile."""
         def step(end, events, seconds):
             self.loop.turns(4)
-            if not events & asked_rows.WRITE:
+            if not events & scrollback.WRITE:
                 self.socket.close()
             return ready(end, events, 0.01)
 
-        with mock.patch.object(asked_rows, "ready", step):
-            self.refuses("session main: what keeps its shells has ended", asked_rows.log_rows, 0, False, False)
+        with mock.patch.object(scrollback, "ready", step):
+            self.refuses("session main: what keeps its shells has ended", scrollback.log_rows, 0, False, False)
 
 
 class Buffered(Asked):
@@ -154,23 +154,23 @@ class Buffered(Asked):
 
     def test_kept(self):
         """What is set is listed, the newest first, and shown; nothing but characters to a terminal."""
-        self.refuses("session main has no buffer", asked_rows.show_buffer, None)
-        self.assertEqual(self.printed_by(asked_rows.set_buffer, "one\x1b[2J"), "")
+        self.refuses("session main has no buffer", scrollback.show_buffer, None)
+        self.assertEqual(self.printed_by(scrollback.set_buffer, "one\x1b[2J"), "")
         with mock.patch.object(sys, "stdin", types.SimpleNamespace(buffer=io.BytesIO(b"two\n\tb\xff\n"))):
-            self.assertEqual(self.printed_by(asked_rows.set_buffer, None), "")
-        self.assertEqual(self.printed_by(asked_rows.list_buffers), "2: 8 bytes: two\\nb\ufffd\\n\n1: 7 bytes: one[2J\n")
-        self.patch_of(asked_rows.os, "isatty", lambda end: False)
-        self.assertEqual(self.printed_by(asked_rows.show_buffer, "1"), "one\x1b[2J")
-        self.patch_of(asked_rows.os, "isatty", lambda end: True)
-        self.assertEqual(self.printed_by(asked_rows.show_buffer, "1"), "one?[2J")
-        self.assertEqual(self.printed_by(asked_rows.show_buffer, None), "two\n b\ufffd\n")
-        self.refuses("session main has no buffer 9", asked_rows.show_buffer, "9")
-        self.refuses("'x' is no number of a buffer; `mux buffer list main` tells them", asked_rows.show_buffer, "x")
+            self.assertEqual(self.printed_by(scrollback.set_buffer, None), "")
+        self.assertEqual(self.printed_by(scrollback.list_buffers), "2: 8 bytes: two\\nb\ufffd\\n\n1: 7 bytes: one[2J\n")
+        self.patch_of(scrollback.os, "isatty", lambda end: False)
+        self.assertEqual(self.printed_by(scrollback.show_buffer, "1"), "one\x1b[2J")
+        self.patch_of(scrollback.os, "isatty", lambda end: True)
+        self.assertEqual(self.printed_by(scrollback.show_buffer, "1"), "one?[2J")
+        self.assertEqual(self.printed_by(scrollback.show_buffer, None), "two\n b\ufffd\n")
+        self.refuses("session main has no buffer 9", scrollback.show_buffer, "9")
+        self.refuses("'x' is no number of a buffer; `mux buffer list main` tells them", scrollback.show_buffer, "x")
 
     def test_refused(self):
         """One that is empty, or too long."""
-        self.refuses(EMPTY, asked_rows.set_buffer, "")
-        self.refuses(TOO_LONG, asked_rows.set_buffer, "x" * (MOST_BUFFER + 1))
+        self.refuses(EMPTY, scrollback.set_buffer, "")
+        self.refuses(TOO_LONG, scrollback.set_buffer, "x" * (MOST_BUFFER + 1))
 
     def test_pasted(self):
         """A buffer's mark is typed once the keeper holds it as a text."""
@@ -183,27 +183,27 @@ class Buffered(Asked):
             text = self.socket.texts.placed(lines[0].partition("9f")[0] and next(iter(self.socket.texts.texts)))
             self.assertEqual(text.data, b"one\rtwo")
 
-        self.patch_of(giving, "ready", self.ready)
-        self.patch_of(giving, "opened", lambda session, watches: None)
-        self.patch_of(giving, "type_lines", type_lines)
-        self.assertEqual(asked_rows.put_buffer(self.session, None, 0), 0)
+        self.patch_of(paste, "ready", self.ready)
+        self.patch_of(paste, "opened", lambda session, watches: None)
+        self.patch_of(paste, "type_lines", type_lines)
+        self.assertEqual(scrollback.put_buffer(self.session, None, 0), 0)
         self.assertTrue(typed[0].startswith("paste ; char 9f ; char "), typed)
-        self.refuses("session main: no buffer has this number. Nothing was typed", asked_rows.put_buffer, "7", 0)
+        self.refuses("session main: no buffer has this number. Nothing was typed", scrollback.put_buffer, "7", 0)
 
     def test_earlier(self):
         """A keeper of an earlier roam has none."""
         with mock.patch.object(self.socket, "take_buffer_line", lambda peer, line: False):
-            self.refuses("session main: no buffers are kept there, as by an earlier roam", asked_rows.list_buffers)
-            self.refuses("session main: the buffer isn't kept", asked_rows.set_buffer, "a")
-            self.patch_of(giving, "ready", self.ready)
+            self.refuses("session main: no buffers are kept there, as by an earlier roam", scrollback.list_buffers)
+            self.refuses("session main: the buffer isn't kept", scrollback.set_buffer, "a")
+            self.patch_of(paste, "ready", self.ready)
             told = "session main: what keeps its shells has no buffers, as an earlier roam's, or ended; nothing was typed"
-            self.refuses(told, asked_rows.put_buffer, "1", 0)
+            self.refuses(told, scrollback.put_buffer, "1", 0)
         with mock.patch.object(self.socket, "take_line", lambda peer, line: self.socket.drop(peer)):
-            self.refuses(told, asked_rows.put_buffer, "1", 0)
+            self.refuses(told, scrollback.put_buffer, "1", 0)
         self.socket.close()
-        self.refuses("session main: nobody keeps its shells", giving.paste_buffer, 1, 0)
+        self.refuses("session main: nobody keeps its shells", paste.paste_buffer, 1, 0)
 
     def test_nonsense(self):
         """A keeper that tells what can't be."""
         with mock.patch.object(self.socket, "take_line", lambda peer, line: self.socket.send(peer, ["buffers [2J"])):
-            self.refuses("session main: what keeps its shells tells what can't be: buffers ?[2J", asked_rows.list_buffers)
+            self.refuses("session main: what keeps its shells tells what can't be: buffers ?[2J", scrollback.list_buffers)

@@ -13,11 +13,11 @@ import unittest
 from unittest import mock
 
 from aids import Case
-from roam_live import asking
-from roam_live.asking import (ASKS_AGAIN, SEALED_HEAD, Finder, NearPath, address_in, forget_note, is_wanted, kept_name, made_path, name_in,
-                              near_path, noted, part_from_command, take_over, wish)
-from roam_live.program import TOOLS, begun
-from roam_live.sealed import Seal, udp_end
+from roam_live.common.errors import TOOLS, begun
+from roam_live.relay import path_setup
+from roam_live.relay.aead_packets import Seal, udp_end
+from roam_live.relay.path_setup import (ASKS_AGAIN, SEALED_HEAD, Finder, NearPath, address_in, forget_note, is_wanted, kept_name, made_path,
+                                        name_in, near_path, noted, part_from_command, take_over, wish)
 from test_sealed import Foolish
 
 
@@ -26,8 +26,8 @@ class Asks(Case):
 
     def setUp(self):
         self.environment(ROAM_UDP=None, SSH_CONNECTION=None)
-        self.patch_of(asking, "hide_memory")
-        self.patch_of(asking, "cipher", return_value=Foolish)
+        self.patch_of(path_setup, "hide_memory")
+        self.patch_of(path_setup, "cipher", return_value=Foolish)
         self.folder = self.made_folder()
 
     def end(self):
@@ -43,7 +43,7 @@ class Asks(Case):
             self.environment(ROAM_UDP=word)
             self.assertEqual(is_wanted(), wanted, word)
         self.environment(ROAM_UDP=None)
-        self.patch_of(asking, "cipher", return_value=None)
+        self.patch_of(path_setup, "cipher", return_value=None)
         self.assertFalse(is_wanted())
         self.assertIsNone(near_path(SEALED_HEAD.pack(b"s", 1, 60000, bytes(32))))
         end = udp_end()
@@ -59,7 +59,7 @@ class Asks(Case):
             (self.folder / "name").write_text(wrong, encoding="latin-1")
             name = kept_name(str(self.folder))
             self.assertEqual((len(name), kept_name(str(self.folder))), (8, name))
-        with mock.patch.object(asking, "replace_text", side_effect=OSError(errno.ENOSPC, "full")):
+        with mock.patch.object(path_setup, "replace_text", side_effect=OSError(errno.ENOSPC, "full")):
             (self.folder / "name").unlink()
             self.assertEqual(len(kept_name(str(self.folder))), 8)
         self.assertNotEqual(kept_name(None), kept_name(None))
@@ -94,7 +94,7 @@ class Asks(Case):
         for text in (b"s", right[:-1], SEALED_HEAD.pack(b"s", 2, 60000, bytes(32)), SEALED_HEAD.pack(b"s", 1, 53, bytes(32)),
                      SEALED_HEAD.pack(b"s", 1, 61001, bytes(32))):
             self.assertIsNone(near_path(text), text)
-        with mock.patch.object(asking, "udp_end", return_value=None):
+        with mock.patch.object(path_setup, "udp_end", return_value=None):
             self.assertIsNone(near_path(right))
         near = near_path(right + b"evil.example")
         self.addCleanup(near.close)
@@ -139,7 +139,7 @@ class Asks(Case):
             self.assertTrue(take_over(str(self.folder), "ab"))
         self.assertIsNone(other.poll())
         said = self.heard()
-        with mock.patch.object(asking, "replace_text", side_effect=OSError(errno.ENOSPC, os.strerror(errno.ENOSPC))):
+        with mock.patch.object(path_setup, "replace_text", side_effect=OSError(errno.ENOSPC, os.strerror(errno.ENOSPC))):
             self.assertIsNone(take_over(str(self.folder), "ab"))
         self.assertIn("ab: No space left on device", said.getvalue())
 
@@ -148,7 +148,7 @@ class Asks(Case):
 PARTS = """
 import os, signal, sys
 sys.path.insert(0, sys.argv[1])
-from roam_live.asking import close_standard, part_from_command
+from roam_live.relay.path_setup import close_standard, part_from_command
 secret = os.open("/dev/null", os.O_RDONLY)
 held = part_from_command((signal.SIGTERM,))
 os.write(1, b"%d %d\\n" % (os.getpid(), os.getsid(0)))
@@ -203,12 +203,12 @@ class Parted(Case):
 
     def test_hidden(self):
         """The memory of a process that has a key isn't its user's other programs' to read."""
-        text = "import sys; sys.path.insert(0, sys.argv[1]); from roam_live.asking import hide_memory; hide_memory(); " \
+        text = "import sys; sys.path.insert(0, sys.argv[1]); from roam_live.relay.path_setup import hide_memory; hide_memory(); " \
                "import ctypes; print(ctypes.CDLL(None).prctl(3, 0, 0, 0, 0))"
         ran = subprocess.run([sys.executable, "-c", text, str(TOOLS)], stdout=subprocess.PIPE, check=True)
         self.assertEqual(ran.stdout, b"0\n")
         with mock.patch.dict(sys.modules, {"ctypes": None}):
-            asking.hide_memory()
+            path_setup.hide_memory()
 
     def test_hidden_where_processes_are(self):
         """Where /proc hides what a user may not read core files alone are kept from it: its user has to find it there."""
@@ -217,15 +217,15 @@ class Parted(Case):
                                ("rw,hidepid=invisible", True)):
             lines = ["21 1 0:20 / /sys rw - sysfs sysfs rw,hidepid=2", f"22 1 0:21 / /proc rw,nosuid shared:5 - proc proc {options}"]
             mounts.write_text("\n".join(lines), encoding="utf-8")
-            self.assertEqual(asking.hides_processes(str(mounts)), hides, options)
-        self.assertFalse(asking.hides_processes(str(mounts.parent / "none")))
-        limits = self.patch_of(asking.resource, "setrlimit")
+            self.assertEqual(path_setup.hides_processes(str(mounts)), hides, options)
+        self.assertFalse(path_setup.hides_processes(str(mounts.parent / "none")))
+        limits = self.patch_of(path_setup.resource, "setrlimit")
         library = self.patch("ctypes.CDLL")
-        with mock.patch.object(asking, "hides_processes", return_value=True):
-            asking.hide_memory()
+        with mock.patch.object(path_setup, "hides_processes", return_value=True):
+            path_setup.hide_memory()
         self.assertEqual((limits.call_args[0][1][0], library.call_count), (0, 0))
         limits.side_effect = ValueError("no")
-        asking.limit_core()
+        path_setup.limit_core()
 
 
 class Finds(Case):
@@ -236,7 +236,7 @@ class Finds(Case):
         self.asked = []
         self.held = threading.Event()
         self.held.set()
-        self.patch_of(asking, "places_of", side_effect=self.places_of)
+        self.patch_of(path_setup, "places_of", side_effect=self.places_of)
         self.finder = Finder("host")
 
     def places_of(self, host, port, family):
@@ -303,10 +303,10 @@ class Finds(Case):
 
     def test_many(self):
         """Of many places some are called."""
-        self.patch_of(asking, "places_of", side_effect=lambda host, port, family: [(str(number), port) for number in range(999)])
+        self.patch_of(path_setup, "places_of", side_effect=lambda host, port, family: [(str(number), port) for number in range(999)])
         path = self.path()
         self.look(path)
-        self.assertEqual(len(path.places), asking.MOST_PLACES)
+        self.assertEqual(len(path.places), path_setup.MOST_PLACES)
 
 
 if __name__ == "__main__":

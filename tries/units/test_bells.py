@@ -9,7 +9,7 @@ import unittest
 from unittest import mock
 
 from aids import StillLoop
-from roam_live.bells import AGAIN, APART, MOST_FOLLOWERS, BellFollower, Bells as Finder, BellSource
+from roam_live.protocol.bells import AGAIN, APART, MOST_FOLLOWERS, BellFollower, BellSource, Bells as Finder
 
 # What a program writes, and whether a bell rings in it.
 BELLS = (

@@ -5,9 +5,9 @@ import itertools
 import random
 import re
 
-from roam_live import front_end
-from roam_live.following import PanesFollower
-from roam_live.front_end import FrontEnd
+from roam_live.frontend import app
+from roam_live.frontend.app import FrontEnd
+from roam_live.protocol.panes_client import PanesFollower
 from aids import StillLoop, closed, read_now, record
 from control_strings import controls, pieces
 from test_front_end import Fronts
@@ -60,7 +60,7 @@ class Written(Fronts):
     def setUp(self):
         self.environment(TERM="xterm")
         super().setUp()
-        self.patch_of(front_end, "PanesFollower", PanesFollower)
+        self.patch_of(app, "PanesFollower", PanesFollower)
         self.tells = {name: self.listening(self.place.folder / name) for name in ("panes", "bells")}
 
     def begin(self):

@@ -3,10 +3,10 @@ import copy
 import unittest
 
 from lived import Attached, Lived, by_chance
-from roam_live import border_keys
-from roam_live.borders import NO_PANE, PaneSplit, border_at, end_of, panes_of, splits_of
-from roam_live.places import Places, Rect
-from roam_live.shares import Evened
+from roam_live.frontend import resize_keys
+from roam_live.frontend.borders import NO_PANE, PaneSplit, border_at, end_of, panes_of, splits_of
+from roam_live.frontend.split_math import Evened
+from roam_live.protocol.panes import Places, Rect
 
 KEYS = {"up": b"\x02\x1b[1;5A", "down": b"\x02\x1b[1;5B", "right": b"\x02\x1b[1;5C", "left": b"\x02\x1b[1;5D"}
 
@@ -42,7 +42,7 @@ class Moves(Attached):
                 moves = back if at_edge[("left", "up", "right", "down").index(side)] else side
                 step = 1 if side in ("right", "down") else -1
                 if self.person.display.told:
-                    words = {border_keys.NO_ROOM, NO_PANE, *(words.format(pane) for words in border_keys.NO_BORDER.values())}
+                    words = {resize_keys.NO_ROOM, NO_PANE, *(words.format(pane) for words in resize_keys.NO_BORDER.values())}
                     self.assertIn(self.person.display.told, words)
                     self.assertEqual((session.rects(), session.focus), (rects, pane))
                     stuck += self.person.display.told == NO_PANE
@@ -116,13 +116,13 @@ class Moves(Attached):
             rects = session.rects()
             self.assertEqual(border_at(rects, 5, end_of(rects[1], "right")).leaves, [])
             row = [(1, 1), (2, -1)] if pane in (1, 2) else [(3, 1), (5, -1)]
-            border = border_keys.side_border(rects, pane, side)
+            border = resize_keys.side_border(rects, pane, side)
             self.assertEqual((border.leaves, border.before, border.behind), (row, row[0][0], row[1][0]))
             before, after = self.move(pane, side)
             self.assertEqual(after[side], before[side] + (1 if side == "right" else -1), pane)
         self.attach(by_chance(3))
-        self.assertFalse(border_keys.is_across(Rect(1, 1, 5, 9), Rect(1, 12, 5, 9), "right"))
-        self.assertTrue(border_keys.is_across(Rect(7, 1, 5, 9), Rect(1, 1, 5, 9), "up"))
+        self.assertFalse(resize_keys.is_across(Rect(1, 1, 5, 9), Rect(1, 12, 5, 9), "right"))
+        self.assertTrue(resize_keys.is_across(Rect(7, 1, 5, 9), Rect(1, 1, 5, 9), "up"))
 
     def test_several(self):
         """Keys that come while a border goes move it on, each by one; the focus and no other border is changed."""
@@ -152,9 +152,9 @@ class Moves(Attached):
         session.split = lambda pane, way: None
         self.types(b"\x02%" + KEYS["left"])
         self.assertEqual(session.rects()[3].col, before.col - 1)
-        self.now += border_keys.FOCUS_WAIT
+        self.now += resize_keys.FOCUS_WAIT
         self.person.loop.do_due()
-        self.assertEqual((self.person.said(), self.person.display.told), ([], border_keys.NO_FOCUS))
+        self.assertEqual((self.person.said(), self.person.display.told), ([], resize_keys.NO_FOCUS))
 
     def test_limits(self):
         """It goes no further than the panes have room; that is told."""
@@ -164,7 +164,7 @@ class Moves(Attached):
         for _ in range(50):
             self.types(KEYS["right"])
             self.take(3)
-        self.assertEqual((session.rects()[2].cols, self.person.display.told), (4, border_keys.NO_ROOM))
+        self.assertEqual((session.rects()[2].cols, self.person.display.told), (4, resize_keys.NO_ROOM))
 
     def test_untold(self):
         """Where nothing tells the panes that is told."""
@@ -173,7 +173,7 @@ class Moves(Attached):
         for keys in (KEYS["up"], b"\x02 "):
             self.person.display.end_told()
             self.person.commands.fed(keys)
-            self.assertEqual(self.person.display.told, border_keys.UNTOLD)
+            self.assertEqual(self.person.display.told, resize_keys.UNTOLD)
 
 
 class Even(Attached):
@@ -194,7 +194,7 @@ class Even(Attached):
                 self.take()
             evened = Evened(session.parts, session.rects())
             self.assertEqual((evened.acts, session.focus), ([], focus), seed)
-            self.assertEqual(self.person.display.told == border_keys.STUCK, evened.is_stuck, seed)
+            self.assertEqual(self.person.display.told == resize_keys.STUCK, evened.is_stuck, seed)
             self.assertIsNone(self.person.commands.border_keys.wanted)
             stuck += evened.is_stuck
         self.assertTrue(0 < stuck < 30, stuck)
@@ -208,7 +208,7 @@ class Even(Attached):
         self.types(b"\x02 ")
         self.assertEqual(([rect.cols for rect in session.rects().values()], self.person.display.told), ([26, 26, 26], ""))
         self.types(b"\x02 ")
-        self.assertEqual(self.person.display.told, border_keys.EVEN)
+        self.assertEqual(self.person.display.told, resize_keys.EVEN)
 
     def test_refused(self):
         """What isn't done is tried so often and no more."""
@@ -219,7 +219,7 @@ class Even(Attached):
             self.types(b"\x02 " if not self.heard else b"")
             self.now += 0.3
             self.person.loop.do_due()
-        self.assertEqual(len(self.heard), border_keys.MOST_LINES)
+        self.assertEqual(len(self.heard), resize_keys.MOST_LINES)
 
 
 if __name__ == "__main__":

@@ -3,9 +3,9 @@ import random
 import unittest
 
 from aids import Case
-from roam_live.borders import LEAST, NO_PANE, PaneSplit, border_at, end_of, least_of, panes_of, splits_of, way_between
-from roam_live.mouse import MouseReport, is_wanted, report_of
-from roam_live.places import Places, Rect
+from roam_live.frontend.borders import LEAST, NO_PANE, PaneSplit, border_at, end_of, least_of, panes_of, splits_of, way_between
+from roam_live.input.mouse_reports import MouseReport, is_wanted, report_of
+from roam_live.protocol.panes import Places, Rect
 from test_pointing import Pointed
 
 AREA = Rect(1, 1, 23, 80)

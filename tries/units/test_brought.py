@@ -9,12 +9,12 @@ import unittest
 from unittest import mock
 
 from aids import Case, StillLoop, read_now
-from roam_live import brought
-from roam_live.brought import (BRINGS, BROUGHT, LONGEST_VALUE, Brought, agent_in, asked_values, begin_agent, bring, brings_to, renew_agent,
-                               shell_lines)
-from roam_live.pane_commands import Options, surroundings
-from roam_live.program import Fault
-from roam_live.shells import ShellsSocket
+from roam_live.common.errors import Fault
+from roam_live.host.pane import Options, surroundings
+from roam_live.host.socket_server import ShellsSocket
+from roam_live.session import environment
+from roam_live.session.environment import (BRINGS, BROUGHT, LONGEST_VALUE, Brought, agent_in, asked_values, begin_agent, bring, brings_to,
+                                           renew_agent, shell_lines)
 
 HOSTILE = "$(touch x)'\";`id`\\ #"
 
@@ -31,10 +31,10 @@ class Values(Case):
                                              "brought SSH_CONNECTION 3a3a312035203a3a31203232"])
         for value in ("x", HOSTILE, " ", "~" * LONGEST_VALUE, ""):
             self.environment(WAYLAND_DISPLAY=value)
-            line = brought.value_lines(BRINGS, brought.own_values())[1]
+            line = environment.value_lines(BRINGS, environment.own_values())[1]
             self.assertLess(len(line), 255)
             known = Brought()
-            known.values = dict.fromkeys(brought.NAMES, "other")
+            known.values = dict.fromkeys(environment.NAMES, "other")
             self.assertTrue(known.take(line))
             self.assertEqual(known.values["WAYLAND_DISPLAY"], value)
 
@@ -94,20 +94,20 @@ class Agents(Case):
         for path in wrong:
             self.assertEqual(self.renew(path), self.one, path)
         with mock.patch("os.getuid", return_value=os.getuid() + 1):
-            self.assertFalse(brought.is_socket(self.two, True))
+            self.assertFalse(environment.is_socket(self.two, True))
             self.assertEqual(self.renew(self.two), self.one)
         self.assertEqual(os.listdir(self.folder), ["agent"])
 
     def test_another_folder(self):
         """In a folder of another user no link is made."""
-        with mock.patch.object(brought, "is_own_folder", return_value=False):
+        with mock.patch.object(environment, "is_own_folder", return_value=False):
             self.assertIsNone(self.renew(self.one))
 
     def test_full(self):
         """Where no link can be made the old one stays."""
         self.renew(self.one)
         for call in ("symlink", "replace"):
-            with mock.patch.object(brought.os, call, side_effect=OSError(28, "full")):
+            with mock.patch.object(environment.os, call, side_effect=OSError(28, "full")):
                 self.assertEqual(self.renew(self.two), self.one)
         self.assertEqual(os.listdir(self.folder), ["agent"])
 
@@ -174,12 +174,12 @@ class Brings(Case):
 
     def test_relayed(self):
         """To a relay's folder nothing is brought, however the session was named: its keeper is at another machine."""
-        self.assertFalse(brought.is_relayed(self.folder))
+        self.assertFalse(environment.is_relayed(self.folder))
         self.listening(self.folder / "clients")
         told = (("python3\0/usr/bin/roam-relay\0--dir\0d\0", True), ("python3\0/x/live/relay\0", True), ("/x/relay\0", True),
                 ("/x/roam\0serve\0--dir\0relay\0", False), ("", False))
         for words, is_relayed in told:
-            with mock.patch.object(brought, "open", mock.mock_open(read_data=words.encode()), create=True) as opens:
+            with mock.patch.object(environment, "open", mock.mock_open(read_data=words.encode()), create=True) as opens:
                 self.assertEqual(brings_to(self.session, False) == [], is_relayed, words)
             opens.assert_called_once_with(f"/proc/{os.getpid()}/cmdline", "rb")
             self.assertEqual(self.has_link(), not is_relayed)
@@ -190,7 +190,7 @@ class Brings(Case):
         bring(self.session)
         self.assertTrue(self.has_link())
         keeper = self.keeper()
-        keeper.common.brought.values = dict.fromkeys(brought.NAMES, "old")
+        keeper.common.brought.values = dict.fromkeys(environment.NAMES, "old")
         bring(self.session)
         self.loop.turns(4)
         self.assertEqual((keeper.common.brought.set_values(), keeper.peers), ({"DISPLAY": ":7"}, []))
@@ -216,7 +216,7 @@ class Brings(Case):
     def test_told(self):
         """A shell has exactly what was brought, and runs nothing of it; the link where there is one."""
         renew_agent(self.folder)
-        waits = self.patch_of(brought, "comes", side_effect=brought.comes)
+        waits = self.patch_of(environment, "comes", side_effect=environment.comes)
         lines = self.told(f"brought DISPLAY {HOSTILE.encode().hex()}", "brought WAYLAND_DISPLAY none", "brought SSH_CONNECTION 2d6e")
         # Once all is told nothing more is waited for.
         self.assertEqual(waits.call_count, 1)
@@ -254,7 +254,7 @@ class Brings(Case):
         known.take("brings WAYLAND_DISPLAY 3a38")
         known.take("brings DISPLAY none")
         found = surroundings(Options(folder=str(self.folder)), 2, known)
-        self.assertEqual([found.get(name) for name in (*brought.NAMES, "ROAM_PANE")], [None, ":8", None, f"{self.folder}:2"])
+        self.assertEqual([found.get(name) for name in (*environment.NAMES, "ROAM_PANE")], [None, ":8", None, f"{self.folder}:2"])
         self.assertEqual(found["SSH_AUTH_SOCK"], str(self.folder / "own"))
 
 

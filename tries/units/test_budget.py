@@ -4,8 +4,8 @@ import os
 import sys
 
 from aids import read_now
-from roam_live import pane_commands, window_shells
-from roam_live.program import connected_now
+from roam_live.common.errors import connected_now
+from roam_live.host import pane, window
 from test_keeper import Keeper
 
 # Most Python calls and bytecodes of a key and its echo. Python 3.11 needs 90 and 2,060; other versions have other bytecodes.
@@ -23,9 +23,9 @@ class Key(Keeper):
         folder = self.folder / f"w{number}"
         folder.mkdir()
         listeners = [self.listening(folder / name) for name in ("panes", "p1", "p2", "p3")]
-        asked = pane_commands.Options(folder=str(folder), command=["sh"], window=number, common=str(self.folder), server=os.getpid(),
+        asked = pane.Options(folder=str(folder), command=["sh"], window=number, common=str(self.folder), server=os.getpid(),
                                       close=True)
-        shells = window_shells.Shells(asked, self.keeper.common, connected_now(folder / "panes"))
+        shells = window.Shells(asked, self.keeper.common, connected_now(folder / "panes"))
         self.addCleanup(self.leave, shells)
         server = self.taken(listeners[0])
         server.send(b"1 1 1 23 26 1\n2 1 28 23 26 2\n3 1 55 23 26 3\nfocus 1\n")
@@ -90,4 +90,4 @@ class Key(Keeper):
             if self.now > 160:
                 break
         self.assertEqual([name for name in self.keeper.loop.due], ["folders"])
-        self.assertEqual((self.keeper.loop.wait_time(), self.keeper.loop.before, self.keeper.loop.asked), (window_shells.LOOKS, [], {}))
+        self.assertEqual((self.keeper.loop.wait_time(), self.keeper.loop.before, self.keeper.loop.asked), (window.LOOKS, [], {}))

@@ -4,10 +4,10 @@ import random
 import unittest
 import zlib
 
-from roam_live import bundles
-from roam_live.bundles import (BASE, KEPT_GOING, KEPT_PARTS, LARGE, LARGE_BASE, LONGEST_STATE, LONGEST_TEXT, MOST_BUNDLES, MOST_LARGE,
-                               MOST_PEERS, NOW, ONCE, ONCE_KIND, PIECE, PIECE_KIND, PIECE_LENGTH, SOON, WHOLE, Bundles, Piece, joined,
-                               packed_bundle, parted, unpacked_bundle)
+from roam_live.relay import batches
+from roam_live.relay.batches import (BASE, KEPT_GOING, KEPT_PARTS, LARGE, LARGE_BASE, LONGEST_STATE, LONGEST_TEXT, MOST_BUNDLES, MOST_LARGE,
+                                     MOST_PEERS, NOW, ONCE, ONCE_KIND, PIECE, PIECE_KIND, PIECE_LENGTH, SOON, WHOLE, Bundles, Piece, joined,
+                                     packed_bundle, parted, unpacked_bundle)
 
 
 def datagrams(number, text, kind=2):
@@ -187,8 +187,8 @@ class Two(unittest.TestCase):
         self.assertLessEqual(len(self.far.coming), MOST_PEERS)
         for number in range(1, 40):
             for index in range(100):
-                self.far.take(number % 20, number, index, bundles.MOST_PIECES, bytes(PIECE_LENGTH) * 9)
-        self.assertTrue(all(len(way.parts) <= bundles.MOST_PARTS for way in self.far.coming.values()))
+                self.far.take(number % 20, number, index, batches.MOST_PIECES, bytes(PIECE_LENGTH) * 9)
+        self.assertTrue(all(len(way.parts) <= batches.MOST_PARTS for way in self.far.coming.values()))
         self.assertLess(sum(way.size() for way in self.far.coming.values()), KEPT_PARTS * 5 // 4)
 
     def test_empty_pieces(self):
@@ -196,9 +196,9 @@ class Two(unittest.TestCase):
         for number in range(1, 5):
             for peer in range(1, 101):
                 for index in range(0, 4000, 4):
-                    self.far.take(peer, number, index, bundles.MOST_PIECES, b"")
+                    self.far.take(peer, number, index, batches.MOST_PIECES, b"")
         kept = sum(len(parts) for way in self.far.coming.values() for parts in way.parts.values())
-        self.assertLess(kept * bundles.OVERHEAD, KEPT_PARTS * 5 // 4)
+        self.assertLess(kept * batches.OVERHEAD, KEPT_PARTS * 5 // 4)
         self.assertGreater(kept, 4000)
 
     def test_contradicting_counts(self):
@@ -248,10 +248,10 @@ class Packing(unittest.TestCase):
     def test_kept(self):
         """The newest texts are kept, so many and so much of them, and the newest whatever its length."""
         texts = {number: bytes(100) for number in range(1, 9)}
-        self.assertEqual(sorted(bundles.kept_texts(texts, 3, 10_000)), [6, 7, 8])
-        self.assertEqual(sorted(bundles.kept_texts(texts, 8, 250)), [7, 8])
-        self.assertEqual(sorted(bundles.kept_texts(texts, 8, 9)), [8])
-        self.assertEqual(bundles.kept_texts({}, 3, 9), {})
+        self.assertEqual(sorted(batches.kept_texts(texts, 3, 10_000)), [6, 7, 8])
+        self.assertEqual(sorted(batches.kept_texts(texts, 8, 250)), [7, 8])
+        self.assertEqual(sorted(batches.kept_texts(texts, 8, 9)), [8])
+        self.assertEqual(batches.kept_texts({}, 3, 9), {})
         near = Bundles()
         for number in range(1, 30):
             near.begin(1, datagrams(number, noise(40_000, number)))
@@ -293,11 +293,11 @@ class Hastes(unittest.TestCase):
 
     def test_saying(self):
         """What is said doesn't depend on numbers of datagrams; long texts are known by their sum."""
-        self.assertEqual(bundles.saying(typed(1)), typed(1)[0][42:])
+        self.assertEqual(batches.saying(typed(1)), typed(1)[0][42:])
         long = [datagrams(number, noise(4000)) for number in (1, 2)]
-        self.assertEqual(*map(bundles.saying, long))
-        self.assertLess(len(bundles.saying(long[0])), 1100)
-        self.assertNotEqual(bundles.saying(long[0]), bundles.saying(datagrams(1, noise(4001))))
+        self.assertEqual(*map(batches.saying, long))
+        self.assertLess(len(batches.saying(long[0])), 1100)
+        self.assertNotEqual(batches.saying(long[0]), batches.saying(datagrams(1, noise(4001))))
 
 
 if __name__ == "__main__":

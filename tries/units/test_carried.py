@@ -4,8 +4,8 @@ import socket
 import unittest
 
 from aids import StillLoop, ended, read_now
-from roam_live import asking, far, near
-from roam_live.relayed import RelayStream
+from roam_live.relay import far, near, path_setup
+from roam_live.relay.frames import RelayStream
 from test_relay import FakeLink
 from test_ways import KEY, Both
 
@@ -26,8 +26,8 @@ class Joined(Both):
         self.listeners = {name: self.listening(self.there / name) for name in ("panes", "bells", "clients")}
         self.served = {"panes": [], "bells": []}
         self.patch_of(near, "RunningCommand", side_effect=self.new_link)
-        self.patch_of(asking, "random_key", return_value=KEY)
-        self.patch_of(asking.Finder, "look", lambda _, path: setattr(path, "places", [self.place(path.port)]))
+        self.patch_of(path_setup, "random_key", return_value=KEY)
+        self.patch_of(path_setup.Finder, "look", lambda _, path: setattr(path, "places", [self.place(path.port)]))
         self.patch_of(far.os, "set_blocking")
         self.patch_of(far, "close_standard")
         self.patch_of(far, "part_from_command", side_effect=self.part)

@@ -6,15 +6,15 @@ from collections import deque
 from unittest import mock
 
 from aids import Case
-from roam_live import choices
-from roam_live.bindings import BINDINGS, BORDERS, HELP, WISHES, Typing
-from roam_live.command_runner import CommandLine, CommandRunner
-from roam_live.command_table import BY_NAME, DEFAULT_KEYS, BadCommand, asked_by, completed
-from roam_live.key_names import name_of_key
-from roam_live.keys import Keys
-from roam_live.loops import Loop
-from roam_live.own_settings import OWN
-from roam_live.settings import Binding, FileSettings
+from roam_live.common.event_loop import Loop
+from roam_live.config import environment
+from roam_live.config.command_table import BY_NAME, DEFAULT_KEYS, BadCommand, asked_by, completed
+from roam_live.config.loader import Binding, FileSettings
+from roam_live.config.user_file import OWN
+from roam_live.frontend.bindings import BINDINGS, BORDERS, HELP, WISHES, Typing
+from roam_live.frontend.command_line import CommandLine, CommandRunner
+from roam_live.input.key_names import name_of_key
+from roam_live.input.keys import Keys
 
 TOP = pathlib.Path(__file__).resolve().parents[2]
 
@@ -168,7 +168,7 @@ class Line(Case):
             self.commands.synchronizing.is_on.return_value = was_on
             self.runner.typed(line)
             self.assertEqual([one.args[0] for one in self.commands.grant.call_args_list], ["synchronize"] * is_switched, line)
-            self.assertNotIn("synchronize-panes", choices.BY_FILE)
+            self.assertNotIn("synchronize-panes", environment.BY_FILE)
         self.runner.typed("setw synchronize-panes perhaps")
         self.commands.display.tell.assert_called_with("synchronize-panes is 'perhaps', and may be on or off", 4.0)
 

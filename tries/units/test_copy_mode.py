@@ -8,18 +8,18 @@ from unittest import mock
 from aids import Case
 from copied import CASES, KNOWN, TEXT, answer_all, copied_by_roam, found_row, mode_of, rows_of, typed
 from emulated import Emulated
-from roam_live import copied, copy_moves as moves, copy_selection
-from roam_live.cells import Style
-from roam_live.choices import wants_vi
-from roam_live.copy_keys import EMACS, VI, Count, KeyPairs, Prompt
-from roam_live.copy_commands import COMMANDS, COPY, LEAVE, MOVES, REFRESH, STEPS
-from roam_live.copy_mode import CopyMode
-from roam_live.copy_paint import LinePainter, sgr_of
-from roam_live.copy_rows import (
-    MOST_BYTES, MOST_COLS, MOST_JOINED, MOST_ROW_BYTES, ROW_BYTES, Missing, MissingRows, Rows, row_of, width_of)
-from roam_live.copy_search import MissingFind, matches
-from roam_live.kept_rows import MOST_SOUGHT
-from roam_live.keys import Key
+from roam_live.config.environment import wants_vi
+from roam_live.frontend.copymode import clipboard, motions, selection
+from roam_live.frontend.copymode.commands import COMMANDS, COPY, LEAVE, MOVES, REFRESH, STEPS
+from roam_live.frontend.copymode.keys import EMACS, VI, Count, KeyPairs, Prompt
+from roam_live.frontend.copymode.mode import CopyMode
+from roam_live.frontend.copymode.render import LinePainter, sgr_of
+from roam_live.frontend.copymode.rows import (MOST_BYTES, MOST_COLS, MOST_JOINED, MOST_ROW_BYTES, ROW_BYTES, Missing, MissingRows, Rows,
+                                              row_of, width_of)
+from roam_live.frontend.copymode.search import MissingFind, matches
+from roam_live.input.keys import Key
+from roam_live.protocol.screen_cells import Style
+from roam_live.protocol.scrollback_client import MOST_SOUGHT
 
 SIZE = (12, 40)
 
@@ -128,7 +128,7 @@ class Tables(unittest.TestCase):
 
 def pairs_of(group):
     """The keys of bytes that come at once, as copy mode takes them."""
-    from roam_live.keys import Keys
+    from roam_live.input.keys import Keys
 
     pairs, reader = KeyPairs(), Keys()
     return [whole for key in reader.fed(group) + reader.ended() for whole in pairs.fed(key)] + pairs.ended()
@@ -173,10 +173,10 @@ class Asked(unittest.TestCase):
         """What has more bytes than the bound isn't copied, and what has as many is."""
         text = "\n".join(["x" * 40] * 30)
         for most, length in ((30 * 41 - 1, 30 * 41 - 1), (30 * 41 - 2, None)):
-            with mock.patch.object(copy_selection, "MOST_COPIED", most):
+            with mock.patch.object(selection, "MOST_COPIED", most):
                 found = typed(mode_of(text, False, SIZE), [b"\x1b<", b"\x00", b"\x1b>", b"\x1bw"])[-1].text.gather()
             self.assertEqual(found and len(found), length)
-        self.assertEqual((copy_selection.MOST_COPIED, copied.MOST_COPIED), (1 << 20, 1 << 20))
+        self.assertEqual((selection.MOST_COPIED, clipboard.MOST_COPIED), (1 << 20, 1 << 20))
 
     def test_prompt(self):
         """The line that is asked for is edited; what is pasted into it is a line of it, and it has a bound."""
@@ -389,51 +389,51 @@ class Moved(unittest.TestCase):
             self.assertEqual(move(spot), wanted, spot)
 
     def test_characters(self):
-        self.holds(lambda spot: moves.right(self.rows, spot), (((0, 0), (0, 1)), ((0, 9), (0, 10)), ((0, 10), (1, 0)), ((4, 0), (4, 0))))
-        self.holds(lambda spot: moves.left(self.rows, spot), (((0, 1), (0, 0)), ((0, 0), (0, 0)), ((1, 0), (0, 10)), ((4, 0), (3, 3))))
-        self.holds(lambda spot: moves.left(self.rows, spot, False), (((1, 0), (0, 10)), ((2, 0), (2, 0)), ((3, 0), (2, 9))))
+        self.holds(lambda spot: motions.right(self.rows, spot), (((0, 0), (0, 1)), ((0, 9), (0, 10)), ((0, 10), (1, 0)), ((4, 0), (4, 0))))
+        self.holds(lambda spot: motions.left(self.rows, spot), (((0, 1), (0, 0)), ((0, 0), (0, 0)), ((1, 0), (0, 10)), ((4, 0), (3, 3))))
+        self.holds(lambda spot: motions.left(self.rows, spot, False), (((1, 0), (0, 10)), ((2, 0), (2, 0)), ((3, 0), (2, 9))))
 
     def test_words(self):
         """A word goes on in the next row where its row does."""
-        self.holds(lambda spot: moves.next_word(self.rows, spot, moves.SEPARATORS),
+        self.holds(lambda spot: motions.next_word(self.rows, spot, motions.SEPARATORS),
                    (((0, 0), (0, 4)), ((0, 5), (0, 7)), ((0, 7), (0, 8)), ((0, 8), (1, 4)), ((1, 4), (2, 0)), ((3, 2), (4, 1))))
-        self.holds(lambda spot: moves.next_word(self.rows, spot, ""), (((0, 4), (1, 4)), ((2, 0), (2, 3))))
-        self.holds(lambda spot: moves.word_end(self.rows, spot, moves.SEPARATORS),
+        self.holds(lambda spot: motions.next_word(self.rows, spot, ""), (((0, 4), (1, 4)), ((2, 0), (2, 3))))
+        self.holds(lambda spot: motions.word_end(self.rows, spot, motions.SEPARATORS),
                    (((0, 0), (0, 3)), ((0, 3), (0, 7)), ((0, 8), (1, 3)), ((1, 3), (1, 8)), ((2, 7), (2, 8)), ((4, 0), (4, 1))))
-        self.holds(lambda spot: moves.last_of_word(self.rows, spot, moves.SEPARATORS),
+        self.holds(lambda spot: motions.last_of_word(self.rows, spot, motions.SEPARATORS),
                    (((0, 0), (0, 2)), ((0, 2), (0, 6)), ((0, 8), (1, 2)), ((1, 2), (1, 7))))
-        self.holds(lambda spot: moves.previous_word(self.rows, spot, moves.SEPARATORS),
+        self.holds(lambda spot: motions.previous_word(self.rows, spot, motions.SEPARATORS),
                    (((0, 2), (0, 0)), ((0, 4), (0, 0)), ((1, 2), (0, 8)), ((1, 4), (0, 8)), ((2, 0), (1, 4)), ((0, 0), (0, 0))))
-        self.holds(lambda spot: moves.previous_word(self.rows, spot, moves.SEPARATORS, False), (((0, 2), (0, 0)), ((1, 2), (0, 8))))
+        self.holds(lambda spot: motions.previous_word(self.rows, spot, motions.SEPARATORS, False), (((0, 2), (0, 0)), ((1, 2), (0, 8))))
 
     def test_lines(self):
-        self.holds(lambda spot: moves.line_begin(self.rows, spot), (((1, 3), (0, 0)), ((0, 3), (0, 0)), ((3, 1), (2, 0))))
-        self.holds(lambda spot: moves.line_end(self.rows, spot), (((0, 3), (1, 8)), ((2, 0), (3, 3)), ((4, 0), (4, 0))))
-        self.holds(lambda spot: moves.indentation(self.rows, spot), (((1, 3), (0, 0)), ((3, 1), (2, 0)), ((4, 0), (4, 0))))
+        self.holds(lambda spot: motions.line_begin(self.rows, spot), (((1, 3), (0, 0)), ((0, 3), (0, 0)), ((3, 1), (2, 0))))
+        self.holds(lambda spot: motions.line_end(self.rows, spot), (((0, 3), (1, 8)), ((2, 0), (3, 3)), ((4, 0), (4, 0))))
+        self.holds(lambda spot: motions.indentation(self.rows, spot), (((1, 3), (0, 0)), ((3, 1), (2, 0)), ((4, 0), (4, 0))))
 
     def test_jumps(self):
         """A jump goes on in rows that go on, and no further."""
-        self.holds(lambda spot: moves.jumped(self.rows, spot, "f", "e"),
+        self.holds(lambda spot: motions.jumped(self.rows, spot, "f", "e"),
                    (((0, 0), (0, 2)), ((0, 2), (1, 1)), ((1, 2), (1, 2)), ((2, 0), (3, 2))))
-        self.holds(lambda spot: moves.jumped(self.rows, spot, "t", "e"), (((0, 0), (0, 1)), ((0, 1), (1, 0)), ((2, 0), (3, 1))))
-        self.holds(lambda spot: moves.jumped(self.rows, spot, "F", "o"),
+        self.holds(lambda spot: motions.jumped(self.rows, spot, "t", "e"), (((0, 0), (0, 1)), ((0, 1), (1, 0)), ((2, 0), (3, 1))))
+        self.holds(lambda spot: motions.jumped(self.rows, spot, "F", "o"),
                    (((1, 2), (0, 6)), ((0, 6), (0, 0)), ((1, 6), (1, 5)), ((2, 5), (2, 5))))
-        self.holds(lambda spot: moves.jumped(self.rows, spot, "T", "o"), (((1, 2), (0, 7)), ((0, 6), (0, 1)), ((2, 5), (2, 5))))
+        self.holds(lambda spot: motions.jumped(self.rows, spot, "T", "o"), (((1, 2), (0, 7)), ((0, 6), (0, 1)), ((2, 5), (2, 5))))
 
     def test_brackets(self):
         """A bracket's other one, of this or the next here; with emacs' keys a word where none is."""
-        self.holds(lambda spot: moves.matched_forward(self.rows, spot, True),
+        self.holds(lambda spot: motions.matched_forward(self.rows, spot, True),
                    (((2, 0), (2, 8)), ((2, 8), (2, 0)), ((2, 1), (2, 5)), ((2, 5), (2, 3)), ((2, 9), (2, 9)), ((0, 0), (0, 0)),
                     ((4, 0), (4, 0))))
-        self.holds(lambda spot: moves.matched_forward(self.rows, spot, False),
+        self.holds(lambda spot: motions.matched_forward(self.rows, spot, False),
                    (((2, 0), (2, 8)), ((2, 1), (2, 2)), ((0, 4), (1, 3)), ((4, 0), (4, 0))))
-        self.holds(lambda spot: moves.matched_back(self.rows, spot),
+        self.holds(lambda spot: motions.matched_back(self.rows, spot),
                    (((2, 8), (2, 0)), ((2, 9), (2, 0)), ((2, 6), (2, 3)), ((2, 5), (2, 3)), ((3, 2), (3, 0)), ((2, 0), (1, 4)),
                     ((4, 0), (4, 0))))
 
     def test_paragraphs(self):
-        self.holds(lambda spot: moves.paragraph_above(self.rows, spot), (((4, 0), (0, 0)), ((2, 5), (0, 0))))
-        self.holds(lambda spot: moves.paragraph_below(self.rows, spot), (((0, 0), (4, 0)), ((4, 0), (4, 0))))
+        self.holds(lambda spot: motions.paragraph_above(self.rows, spot), (((4, 0), (0, 0)), ((2, 5), (0, 0))))
+        self.holds(lambda spot: motions.paragraph_below(self.rows, spot), (((0, 0), (4, 0)), ((4, 0), (4, 0))))
 
 
 class Missed(unittest.TestCase):

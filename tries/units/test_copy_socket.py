@@ -1,8 +1,8 @@
 """Copy mode at the keeper's socket `shells`: what it asks and what it makes of the answers, with a filter that is played."""
 from aids import Case
-from roam_live.copy_asking import GONE
-from roam_live.places import Places, Rect
-from roam_live.shells_link import ShellsLink
+from roam_live.frontend.copymode.row_requests import GONE
+from roam_live.protocol.host_client import ShellsLink
+from roam_live.protocol.panes import Places, Rect
 from test_display import Person
 from test_rows_socket import Rows
 

@@ -5,14 +5,15 @@ from unittest import mock
 
 from aids import Case
 from kept_rows_played import PlayedKept
-from roam_live import choosing, copy_selection
-from roam_live.copied import MOST_COPIED
-from roam_live.copy_asking import GONE, MOST_ASKED, WAITING, WAITS
-from roam_live.copying import LENDS, MOST_WAITING, NO_ROOM
-from roam_live.kept_rows import Snapshot
-from roam_live.places import Places, Rect
-from roam_live.texts import mark_acts
-from roam_live.told import ToldRecord
+from roam_live.frontend import choose_list
+from roam_live.frontend.copymode import selection
+from roam_live.frontend.copymode.clipboard import MOST_COPIED
+from roam_live.frontend.copymode.controller import LENDS, MOST_WAITING, NO_ROOM
+from roam_live.frontend.copymode.row_requests import GONE, MOST_ASKED, WAITING, WAITS
+from roam_live.protocol.display_records import ToldRecord
+from roam_live.protocol.panes import Places, Rect
+from roam_live.protocol.paste_text import mark_acts
+from roam_live.protocol.scrollback_client import Snapshot
 from test_display import Person, PlayedShells
 from test_pointing import PANES, report
 
@@ -471,7 +472,7 @@ class Keeps(Copied):
         person = self.person("\n".join(["yes"] * 3000))
         person.types(b"g G$\r")
         self.assertEqual(self.kept.texts[0], b"yes\n" * 3000)
-        self.patch_of(copy_selection, "MOST_COPIED", 4 * 3000 - 1)
+        self.patch_of(selection, "MOST_COPIED", 4 * 3000 - 1)
         person = self.person("\n".join(["yes"] * 3000))
         person.types(b"g G$\r")
         self.assertEqual((self.kept.texts, person.display.told), ([], "nothing is copied: it has more than 1 MB"))
@@ -788,7 +789,7 @@ class Chosen(Copied):
             self.shells.connects = False
             self.pass_time(0.1)
             person.loop.do_due()
-        self.assertEqual((len(self.shells.gave), person.display.told), (1, choosing.UNTOLD))
+        self.assertEqual((len(self.shells.gave), person.display.told), (1, choose_list.UNTOLD))
 
     def test_refused(self):
         """What is refused, or not taken, is told, and what waits behind it is dropped."""

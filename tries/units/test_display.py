@@ -9,16 +9,17 @@ from unittest import mock
 
 from aids import Case
 from emulated import Emulated
-from roam_live import display, terminal
-from roam_live.bindings import HELP, help_with
-from roam_live.choices import PREFIXES
-from roam_live.commands import Commands
-from roam_live.keys import BRACKETS
-from roam_live.display import Display, wrapped
-from roam_live.loops import Loop
-from roam_live.program import noted_front_end
-from roam_live.places import Places, Rect
-from roam_live.told import ToldRecord
+from roam_live.common import tty
+from roam_live.common.errors import noted_front_end
+from roam_live.common.event_loop import Loop
+from roam_live.config.environment import PREFIXES
+from roam_live.frontend import display
+from roam_live.frontend.bindings import HELP, help_with
+from roam_live.frontend.commands import Commands
+from roam_live.frontend.display import Display, wrapped
+from roam_live.input.keys import BRACKETS
+from roam_live.protocol.display_records import ToldRecord
+from roam_live.protocol.panes import Places, Rect
 
 FITS = "C-b r fits"
 
@@ -473,7 +474,7 @@ class Sizes(unittest.TestCase):
             person.answers()
             person.resize(30, 90)
             self.assertEqual(person.sizes(), ["size 30 90"] if types is False else [], types)
-        with mock.patch("roam_live.commands.has_others", return_value=True):
+        with mock.patch("roam_live.frontend.commands.has_others", return_value=True):
             self.assertEqual(Person(50, 132, told=places(24, 80), shells=PlayedShells(False)).sizes(), ["size 50 132"])
             self.assertEqual(Person(50, 132, told=places(24, 80), shells=PlayedShells(None)).sizes(), [])
         person = Person(50, 132, told=places(24, 80), shells=PlayedShells(True))
@@ -828,7 +829,7 @@ class Words(unittest.TestCase):
         before = len(person.display.outer.waiting)
         person.display.tell("close \x1b]0;pwned\x07\u202e\n in pane 1? y closes it", None)
         person.display.show("no \x1b[c\x9b6n\u2066 end\nnext")
-        written = person.display.outer.waiting[before:].replace(terminal.CLEARED, b"")
+        written = person.display.outer.waiting[before:].replace(tty.CLEARED, b"")
         self.assertIn("close ?]0;pwned??? in pane 1?".encode(), written)
         self.assertIn(b"no ?[c?6n? end\r\nnext", written)
         for odd in (b"\x1b]", b"\x07", b"\x1b[c", "\u202e".encode(), "\x9b".encode(), "\u2066".encode()):

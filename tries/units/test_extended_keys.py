@@ -3,13 +3,13 @@ import random
 import unittest
 
 from lived import Attached, Lived
-from roam_live.asides import GivenAside
-from roam_live.bindings import Typing
-from roam_live.choices import choose_by_file
-from roam_live.extended_keys import ANSWERED, BACK_TAB, QUERY, WANTED, answered, extended_key, form_for
-from roam_live.key_names import named, named_key, names_of_key
-from roam_live.keys import Key, Keys, acts_of, key_of
-from roam_live.settings import Binding
+from roam_live.config.environment import choose_by_file
+from roam_live.config.loader import Binding
+from roam_live.frontend.bindings import Typing
+from roam_live.frontend.outer_modes import GivenAside
+from roam_live.input.extended_keys import ANSWERED, BACK_TAB, QUERY, WANTED, answered, extended_key, form_for
+from roam_live.input.key_names import named, named_key, names_of_key
+from roam_live.input.keys import Key, Keys, acts_of, key_of
 
 # What a terminal tells of a key, the names that it may be bound by, what it is to a program that asked for nothing, and whether one that
 # asked for some keys is sent the form.

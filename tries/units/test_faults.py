@@ -5,12 +5,13 @@ import socket
 from unittest import mock
 
 from aids import Case, read_now
-from roam_live import faults, pane_commands, row_filter, row_pieces, window_lines
-from roam_live.faults import FaultLog, SoonFaults
-from roam_live.given import GivenTexts
-from roam_live.program import logs
-from roam_live.row_pieces import RowsRoom
-from roam_live.shells import ShellsSocket
+from roam_live.common import fault_log
+from roam_live.common.errors import logs
+from roam_live.common.fault_log import FaultLog, SoonFaults
+from roam_live.host import pane as host_pane, scrollback_process, scrollback_store, window_commands
+from roam_live.host.pending_pastes import GivenTexts
+from roam_live.host.scrollback_store import RowsRoom
+from roam_live.host.socket_server import ShellsSocket
 from test_keeper import Keeper
 
 
@@ -44,7 +45,8 @@ class Logged(Case):
         text = self.path.read_text()
         self.assertEqual(self.said.getvalue()[:64], f"unit: internal error, roam continues: ValueError: ?[2J{'x' * 10}")
         self.assertTrue(text.startswith(f"unit, process {os.getpid()}:\nTraceback (most recent call last):\n"))
-        self.assertTrue("deep" in text and "\x1b" not in text and len(text) < faults.MOST_LOGGED + 100 and len(self.said.getvalue()) < 400)
+        self.assertTrue("deep" in text and "\x1b" not in text and len(text) < fault_log.MOST_LOGGED + 100
+                        and len(self.said.getvalue()) < 400)
 
     def test_apart(self):
         """One from the same source line is logged once a minute, with how many came; one from another line is logged."""
@@ -56,18 +58,18 @@ class Logged(Case):
         except ValueError as fault:
             self.log.take(fault)
         self.assertEqual((self.said.getvalue().count("internal error"), self.log.count), (2, 7))
-        self.now += faults.APART
+        self.now += fault_log.APART
         self.fault("one")
         self.assertIn("ValueError: one (5 more since the last one logged)\n", self.said.getvalue())
 
     def test_refused(self):
         """A failure to log raises nothing, and a bounded number of source lines is remembered."""
-        with mock.patch.object(faults, "say", side_effect=MemoryError):
+        with mock.patch.object(fault_log, "say", side_effect=MemoryError):
             self.fault("one")
-        with mock.patch.object(faults, "place_of", side_effect=map(str, range(100))):
+        with mock.patch.object(fault_log, "place_of", side_effect=map(str, range(100))):
             for _ in range(100):
                 self.fault("x")
-        self.assertEqual(len(self.log.logged), faults.MOST_PLACES)
+        self.assertEqual(len(self.log.logged), fault_log.MOST_PLACES)
 
     def test_soon(self):
         """The third within ten seconds is too many."""
@@ -122,7 +124,7 @@ class Kept(Keeper):
             self.turn(4)
         self.assertEqual((pane.terminal, self.keeper.common.hung), (None, [72]))
         self.assertEqual((list(self.keeper.panes), self.keeper.is_over), ([1, 2], False))
-        self.assertIn(pane_commands.GIVEN_UP, read_now(panes[1]))
+        self.assertIn(host_pane.GIVEN_UP, read_now(panes[1]))
         self.assertTrue(read_now(self.server).endswith(b"close 2 5\n"))
         self.made[0].send(b"goes on")
         self.turn()
@@ -186,8 +188,8 @@ class Kept(Keeper):
         """If memory is short, kept rows are dropped and the pane goes on a second later, however often that happens."""
         panes = self.begin()
         self.keeper.rows.shed = mock.Mock()
-        read = pane_commands.read
-        with mock.patch.object(pane_commands, "read", lambda end: self.short() if end == self.keeper.panes[1].terminal else read(end)):
+        read = host_pane.read
+        with mock.patch.object(host_pane, "read", lambda end: self.short() if end == self.keeper.panes[1].terminal else read(end)):
             self.made[0].send(b"kept")
             for _ in range(5):
                 self.turn()
@@ -209,7 +211,7 @@ class Sizes(Case):
         """A size is cut to the largest that a session may have; what isn't a size is a bad line."""
         asked = []
         table = mock.Mock(open=lambda size, beside, told, begins: asked.append(size))
-        lines = window_lines.WindowLines(table, [])
+        lines = window_commands.WindowLines(table, [])
         peer = mock.Mock(watches=lambda: False, opening=0, asks_windows=False)
         one = mock.Mock(window=1)
         words = ("24 80", "1 1", "24 65536", "99999 99999", "65537 80", "200 500", "201 501", "0 80", "100000 80", "24", "-1 80")
@@ -229,7 +231,7 @@ class Short(Case):
         room = RowsRoom(1000)
         panes = [room.pane(number, 1) for number in (1, 2)]
         for count in range(8):
-            panes[count % 2].add(1, bytes(row_pieces.JOINED - 1) + b"\n")
+            panes[count % 2].add(1, bytes(scrollback_store.JOINED - 1) + b"\n")
         snapshot = room.snapshot(panes[0], 1, b"x\n")
         room.shed()
         self.assertEqual(([len(pane.pieces) for pane in panes], snapshot.is_lost, room.held), ([2, 2], True, 0))
@@ -237,10 +239,10 @@ class Short(Case):
 
     def test_handed(self):
         """A record for the filter is queued completely or not at all."""
-        one = row_filter.RowFilter.__new__(row_filter.RowFilter)
+        one = scrollback_process.RowFilter.__new__(scrollback_process.RowFilter)
         one.terminal, one.pieces, one.pieces_size, one.waiting = 3, [b"ab", b"c"], 3, bytearray()
         one.sheds = mock.Mock()
-        with mock.patch.object(row_filter.RowFilter, "join_pieces", side_effect=[MemoryError, None]):
+        with mock.patch.object(scrollback_process.RowFilter, "join_pieces", side_effect=[MemoryError, None]):
             one.join()
         one.terminal = 3
         one.join()
@@ -248,7 +250,7 @@ class Short(Case):
 
     def test_records(self):
         """A piece can be fed again after a MemoryError."""
-        records = row_filter.RowRecords()
+        records = scrollback_process.RowRecords()
         self.assertEqual(records.fed(b"rows 7 2 6\n a"), [])
         with mock.patch.object(records, "made", side_effect=MemoryError), self.assertRaises(MemoryError):
             records.fed(b"\n b\nrows 8 1 3\n c\nrow")

@@ -9,8 +9,9 @@ import unittest
 from unittest import mock
 
 from aids import StillLoop
-from roam_live.following import AWAITED, LET_GO, NO_PLACE, NOR_BELLS, PAUSES, QUIET, TELLS_NOTHING, UNTOLD, KeeperFollowing, PanesFollower
-from roam_live.places import Places, Rect
+from roam_live.protocol.panes import Places, Rect
+from roam_live.protocol.panes_client import (AWAITED, LET_GO, NOR_BELLS, NO_PLACE, PAUSES, QUIET, TELLS_NOTHING, UNTOLD, KeeperFollowing,
+                                             PanesFollower)
 
 
 class Played(unittest.TestCase):
@@ -134,7 +135,7 @@ class Follows(Played):
             self.wait_again()
             with contextlib.ExitStack() as held:
                 if fault:
-                    held.enter_context(mock.patch("roam_live.following.connected_now", side_effect=fault))
+                    held.enter_context(mock.patch("roam_live.protocol.panes_client.connected_now", side_effect=fault))
                 else:
                     self.listener.close()
                 self.turn()
@@ -168,7 +169,7 @@ class Follows(Played):
         self.server.setblocking(False)
         with self.assertRaises(BlockingIOError):
             self.server.recv(64)
-        with mock.patch("roam_live.following.runs_program", return_value=True):
+        with mock.patch("roam_live.protocol.panes_client.runs_program", return_value=True):
             self.server.close()
             self.turn()
             self.wait_again()

@@ -7,11 +7,11 @@ import sys
 from unittest import mock
 
 from aids import read_now, record
-from roam_live import front_end
-from roam_live.keys import Key
+from roam_live.frontend import app
+from roam_live.input.keys import Key
 from test_front_end import Fronts
 
-LIVE = str(pathlib.Path(front_end.__file__).resolve().parent)
+LIVE = str(pathlib.Path(app.__file__).resolve().parents[1])
 
 # So many keys are counted, after so many that aren't.
 KEYS, BEFORE = 10, 3

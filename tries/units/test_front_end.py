@@ -8,15 +8,18 @@ from contextlib import suppress
 from unittest import mock
 
 from aids import Case, StillLoop, closed, read_now, record
-from roam_live import display, front_end, links, mouse, pastes, terminal, visits
-from roam_live.colours import ASKED
-from roam_live.extended_keys import QUERY, WANTED, given_back
-from roam_live.front_end import FrontEnd
-from roam_live.loops import comes
-from roam_live.program import Fault, begun
-from roam_live.places import Places, Rect
-from roam_live.shells_link import FEW
-from roam_live.told import ToldRecord
+from roam_live.common import tty
+from roam_live.common.errors import Fault, begun
+from roam_live.common.event_loop import comes
+from roam_live.frontend import app, display, paste, window_view
+from roam_live.frontend.app import FrontEnd
+from roam_live.input import mouse_reports
+from roam_live.input.extended_keys import QUERY, WANTED, given_back
+from roam_live.protocol import client_link
+from roam_live.protocol.colours import ASKED
+from roam_live.protocol.display_records import ToldRecord
+from roam_live.protocol.host_client import FEW
+from roam_live.protocol.panes import Places, Rect
 from test_display import Person, PlayedPanes, painting, places
 
 PANES = Places({1: Rect(1, 1, 23, 39), 2: Rect(1, 41, 11, 40), 3: Rect(13, 41, 11, 40)}, 1, 1)
@@ -74,7 +77,7 @@ class Fronts(Case):
         self.place = AnySession(self.made_folder())
         self.listener = self.listening(self.place.terminals)
         self.master, slave = pty.openpty()
-        terminal.set_size(slave, 24, 80)
+        tty.set_size(slave, 24, 80)
         self.before = termios.tcgetattr(slave)
         kept = os.dup(0), os.dup(1)
         os.dup2(slave, 0), os.dup2(slave, 1)
@@ -82,10 +85,10 @@ class Fronts(Case):
         self.addCleanup(self.give_back, kept, slave)
         os.set_blocking(self.master, False)
         self.wakeup, self.wakes = self.pipe()
-        self.patch_of(front_end, "woken", return_value=self.wakeup)
-        self.quiet = self.patch_of(front_end, "unwoken")
+        self.patch_of(app, "woken", return_value=self.wakeup)
+        self.quiet = self.patch_of(app, "unwoken")
         self.panes = PlayedPanes(self.place)
-        self.patch_of(front_end, "PanesFollower", lambda folder, loop, changed, tells: self.panes)
+        self.patch_of(app, "PanesFollower", lambda folder, loop, changed, tells: self.panes)
         self.front = FrontEnd(self.place, False, "C-b", "adaptive", lambda places: False, StillLoop())
         self.addCleanup(lambda: closed(self.front.display.outer.end))
         self.addCleanup(lambda: self.front.link.close())
@@ -140,7 +143,7 @@ class Loop(Fronts):
         self.assertEqual(read_now(start), b"told\nguess adaptive\npart 23 80\nview -500\n")
         self.paints(text="hello")
         shown = self.shown()
-        self.assertTrue(shown.startswith(QUERY + WANTED + terminal.ENTERED) and b"hello" in shown)
+        self.assertTrue(shown.startswith(QUERY + WANTED + tty.ENTERED) and b"hello" in shown)
         self.assertNotIn(b"painted before", shown)
         self.assertNotIn(b"\x1bc", shown)
 
@@ -240,8 +243,8 @@ class Loop(Fronts):
         with mock.patch.object(self.front, "connect"), mock.patch.object(self.front.link, "part") as parts, \
                 mock.patch.object(self.front.display.outer, "enter"):
             self.assertEqual(self.front.run(), 0)
-        parts.assert_called_once_with(links.LAST_WAIT)
-        self.assertTrue(self.shown().endswith(terminal.LEFT + b"[detached]\r\n"))
+        parts.assert_called_once_with(client_link.LAST_WAIT)
+        self.assertTrue(self.shown().endswith(tty.LEFT + b"[detached]\r\n"))
         self.assertEqual(termios.tcgetattr(self.slave), self.before)
         self.front.leave("another", 5)
         self.assertEqual((self.front.left, self.front.status), ("[detached]", 0))
@@ -249,11 +252,11 @@ class Loop(Fronts):
     def test_left_behind_a_paste(self):
         """Who leaves while a paste is handed over is waited for, for a second and a half at most."""
         self.connect()
-        self.front.commands.pastes.waiting.append(pastes.Paste("text", False))
+        self.front.commands.pastes.waiting.append(paste.Paste("text", False))
         self.type(b"\x02d")
         self.assertTrue(self.front.hands_over())
-        self.assertEqual(self.front.loop.due["left"][0], self.now + links.LAST_WAIT)
-        self.now += links.LAST_WAIT - 0.1
+        self.assertEqual(self.front.loop.due["left"][0], self.now + client_link.LAST_WAIT)
+        self.now += client_link.LAST_WAIT - 0.1
         self.assertTrue(self.front.hands_over())
         self.now += 0.1
         self.assertFalse(self.front.hands_over())
@@ -267,7 +270,7 @@ class Loop(Fronts):
         read_now(start)
         waits = self.front.commands.pastes
         for text, lines, left in ((b"x\x03", b"char 3\n", None), (b"x\x02d", b"", "[detached]")):
-            waits.wait_for([pastes.Paste("text", False), pastes.Behind(("char 61",) * pastes.MOST_BEHIND)])
+            waits.wait_for([paste.Paste("text", False), paste.Behind(("char 61",) * paste.MOST_BEHIND)])
             self.type(text)
             self.assertEqual((read_now(start), self.front.left, bool(waits.waiting)), (lines, left, not lines))
 
@@ -276,7 +279,7 @@ class Loop(Fronts):
         link = self.front.link
         self.connect()
         for piece, text, reads in ((b"char 61\n", b"x", False), (b"paste ; char 61\n", b"x\x03", True)):
-            self.patch_of(links, "TYPED_LIMIT", 1000)
+            self.patch_of(client_link, "TYPED_LIMIT", 1000)
             self.front.loop.remove(link)
             link.waiting[:] = piece * 200
             with mock.patch.object(link, "send", return_value=True):
@@ -307,13 +310,13 @@ class Loop(Fronts):
                 with self.assertRaises(RuntimeError):
                     self.front.run()
                 parts.assert_not_called()
-                self.assertTrue(self.shown().endswith(terminal.LEFT))
+                self.assertTrue(self.shown().endswith(tty.LEFT))
                 self.assertEqual(termios.tcgetattr(self.slave), self.before)
                 self.assertIsNone(self.front.link.peer)
 
     def test_not_taken(self):
         """A terminal that can't be taken is left alone."""
-        with mock.patch.object(terminal, "make_raw", return_value=None), self.assertRaisesRegex(Fault, "^the terminal can't be made raw$"):
+        with mock.patch.object(tty, "make_raw", return_value=None), self.assertRaisesRegex(Fault, "^the terminal can't be made raw$"):
             self.front.run()
         self.assertEqual((termios.tcgetattr(self.slave), self.shown()), (self.before, b""))
 
@@ -396,7 +399,7 @@ class Loop(Fronts):
         self.assertFalse(os.get_blocking(outer.end))
         self.shown()
         outer.enter_again()
-        self.assertEqual(outer.waiting, WANTED + terminal.ENTERED)
+        self.assertEqual(outer.waiting, WANTED + tty.ENTERED)
         self.assertFalse(termios.tcgetattr(self.slave)[3] & termios.ICANON)
 
     def test_lost(self):
@@ -440,8 +443,8 @@ class Loop(Fronts):
         """The end of the server's process is the session's."""
         reader, writer = self.pipe()
         self.place.processes["server"] = 1
-        with mock.patch.object(visits, "opened_process", return_value=reader):
-            self.front.watch_server(visits.opened_server(self.place))
+        with mock.patch.object(window_view, "opened_process", return_value=reader):
+            self.front.watch_server(window_view.opened_server(self.place))
         os.close(writer)
         self.turn(1)
         self.assertEqual((self.front.left, self.front.status), ("[the session has ended]", 0))
@@ -449,7 +452,7 @@ class Loop(Fronts):
     def test_hung_up(self):
         """A terminal that is gone is left with status 1."""
         self.front.display.outer.enter()
-        with mock.patch.object(front_end, "read", side_effect=lambda end: b"" if end == 0 else None):
+        with mock.patch.object(app, "read", side_effect=lambda end: b"" if end == 0 else None):
             os.write(self.master, b"x")
             self.turn(1)
         self.assertEqual((self.front.left, self.front.status), ("", 1))
@@ -530,7 +533,7 @@ class Loop(Fronts):
         start = self.connect()
         self.paints()
         read_now(start)
-        terminal.set_size(self.slave, 30, 90)
+        tty.set_size(self.slave, 30, 90)
         self.front.resized()
         self.turn()
         self.assertEqual(read_now(start), b"")
@@ -541,7 +544,7 @@ class Loop(Fronts):
         self.turn()
         self.assertEqual(read_now(start), b"size 30 90\npart 29 90\n")
         self.front.commands.new_until = self.now + 1
-        terminal.set_size(self.slave, 20, 70)
+        tty.set_size(self.slave, 20, 70)
         self.front.resized()
         self.turn()
         self.assertEqual(read_now(start), b"size 20 70\npart 19 70\n")
@@ -563,7 +566,7 @@ class Loop(Fronts):
     def test_gone_terminal(self):
         """Of a terminal that has hung up the size that it had is known."""
         outer = self.front.display.outer
-        with mock.patch.object(terminal, "size_of", side_effect=OSError(5, "gone")):
+        with mock.patch.object(tty, "size_of", side_effect=OSError(5, "gone")):
             self.assertEqual(outer.size(), (24, 80))
 
     def test_no_terminal(self):
@@ -574,17 +577,17 @@ class Loop(Fronts):
     def test_outer(self):
         """What is typed comes from standard input, whose modes and size are gone by, and standard output is written."""
         asks = self.patch("os.isatty", return_value=True)
-        with mock.patch.object(terminal, "make_raw", return_value=[1]) as raws, mock.patch.object(terminal, "size_of") as sizes, \
-                mock.patch.object(terminal, "opened_for_writing", return_value=9) as opens:
+        with mock.patch.object(tty, "make_raw", return_value=[1]) as raws, mock.patch.object(tty, "size_of") as sizes, \
+                mock.patch.object(tty, "opened_for_writing", return_value=9) as opens:
             outer = display.OuterTerminal()
             raws.assert_not_called()
             outer.enter()
         self.assertEqual([one.call_args[0] for one in (raws, sizes, opens)], [(0,), (0,), (1,)])
         self.assertEqual((asks.call_args_list, outer.modes, outer.end), ([mock.call(0), mock.call(1)], [1], 9))
-        with mock.patch.object(terminal, "make_raw") as raws:
+        with mock.patch.object(tty, "make_raw") as raws:
             outer.enter_again()
         raws.assert_called_once_with(0)
-        with mock.patch.object(terminal, "restore") as restores, mock.patch("os.get_blocking", return_value=False), \
+        with mock.patch.object(tty, "restore") as restores, mock.patch("os.get_blocking", return_value=False), \
                 mock.patch.object(display, "ready", return_value=True), mock.patch.object(display, "write", return_value=False):
             outer.leave("")
             outer.leave("")
@@ -616,10 +619,10 @@ class Loop(Fronts):
             with mock.patch.object(self.front, "connect", self.fill), mock.patch.object(self.front, "part", part):
                 self.front.left = "[terminated]"
                 self.front.run()
-            self.assertEqual(steps, [(given_back(0) + terminal.LEFT + b"[terminated]\r\n", True)])
+            self.assertEqual(steps, [(given_back(0) + tty.LEFT + b"[terminated]\r\n", True)])
             self.assertEqual((outer.waiting, outer.is_taken, termios.tcgetattr(self.slave)), (b"", False, self.before))
-            self.assertEqual(self.shown().endswith(terminal.LEFT + b"[terminated]\r\n"), takes)
-            self.assertEqual(self.quiet.call_args_list.pop(), mock.call(*front_end.LEAVING))
+            self.assertEqual(self.shown().endswith(tty.LEFT + b"[terminated]\r\n"), takes)
+            self.assertEqual(self.quiet.call_args_list.pop(), mock.call(*app.LEAVING))
 
     def test_waits(self):
         """What waits for a write that could wait is written a byte each time, while the terminal takes one."""
@@ -627,9 +630,9 @@ class Loop(Fronts):
         outer.enter()
         with mock.patch("os.get_blocking", return_value=True), mock.patch.object(display, "write", wraps=display.write) as writes:
             outer.leave("[left]")
-        self.assertTrue(self.shown().endswith(terminal.LEFT + b"[left]\r\n"))
+        self.assertTrue(self.shown().endswith(tty.LEFT + b"[left]\r\n"))
         self.assertEqual({len(call[0][1]) for call in writes.call_args_list}, {0})
-        self.assertGreater(len(writes.call_args_list), len(terminal.LEFT))
+        self.assertGreater(len(writes.call_args_list), len(tty.LEFT))
 
     def test_steps(self):
         """Whatever of the end fails, the rest of it is done, and the first fault is the one that is told."""
@@ -640,7 +643,7 @@ class Loop(Fronts):
                     mock.patch.object(self.front, "connect", side_effect=None if fails else RuntimeError("first")):
                 self.front.left = "[left]"
                 self.assertRaisesRegex(fails or RuntimeError, "left" if fails else "first", self.front.run)
-            self.assertTrue(self.shown().endswith(terminal.LEFT + b"[left]\r\n"))
+            self.assertTrue(self.shown().endswith(tty.LEFT + b"[left]\r\n"))
             self.assertEqual(termios.tcgetattr(self.slave), self.before)
             steps.append(self.quiet.call_count)
         self.assertEqual(steps, [1, 2])
@@ -654,14 +657,14 @@ class Loop(Fronts):
             seen.append(note.read_text(encoding="utf-8"))
             return 5
 
-        with mock.patch.object(front_end, "FrontEnd") as made:
+        with mock.patch.object(app, "FrontEnd") as made:
             made.return_value.run = runs
             self.environment(ROAM_MOUSE="on", ROAM_CLIPBOARD="off")
-            self.assertEqual(front_end.follow(self.place, True, "C-a", "never"), 5)
+            self.assertEqual(app.follow(self.place, True, "C-a", "never"), 5)
             self.assertEqual(made.call_args[0][:4], (self.place, True, "C-a", "never"))
             self.assertEqual(made.call_args[1], {"is_whole": False, "has_mouse": True, "has_clips": False})
             self.environment(ROAM_MOUSE="no")
-            self.assertRaises(Fault, front_end.follow, self.place, True, "C-a", "never")
+            self.assertRaises(Fault, app.follow, self.place, True, "C-a", "never")
         self.assertEqual(seen, [f"{begun(os.getpid())} watches\n"])
         self.assertEqual((list((self.place.folder / "attached").iterdir()), self.place.is_closed), ([], True))
 
@@ -686,7 +689,7 @@ class Mouse(Fronts):
         self.paints()
         self.assertFalse([mode for mode in (b"?1000", b"?1002", b"?1003", b"?1006") if mode in self.shown()])
         self.assertEqual([self.ask(modes) for modes in ("buttons sgr", "drags", "motion sgr", "paste", "")],
-                         [mouse.ASKED["drags"], b"", mouse.ASKED["motion"], mouse.OFF, b""])
+                         [mouse_reports.ASKED["drags"], b"", mouse_reports.ASKED["motion"], mouse_reports.OFF, b""])
         self.ask("drags sgr")
         read_now(start)
         for piece in (b"x\x1b", b"[<0;", b"5;7", b"M\x1b[<0;5;7m"):
@@ -706,11 +709,11 @@ class Mouse(Fronts):
                 self.front.loop.remove(self.front.link)
                 self.front.link.close()
             self.connect()
-            self.assertIn(mouse.ASKED["motion"], self.ask("motion sgr"))
+            self.assertIn(mouse_reports.ASKED["motion"], self.ask("motion sgr"))
             way()
             with mock.patch.object(self.front.display.outer, "enter"), mock.patch.object(self.front, "connect"), suppress(ValueError):
                 self.front.run()
-            self.assertIn(mouse.OFF + given_back(0) + terminal.LEFT, self.shown())
+            self.assertIn(mouse_reports.OFF + given_back(0) + tty.LEFT, self.shown())
 
     def test_own(self):
         """Where roam has the mouse itself the terminal is asked as soon as the panes are known."""
@@ -718,7 +721,7 @@ class Mouse(Fronts):
         self.addCleanup(lambda: closed(self.front.display.outer.end))
         self.addCleanup(lambda: self.front.link.close())
         self.connect()
-        self.assertTrue(self.ask("").endswith(mouse.ASKED["drags"]))
+        self.assertTrue(self.ask("").endswith(mouse_reports.ASKED["drags"]))
 
     def test_stopped(self):
         """While it is stopped there are none either; continued it asks for them again, also where nothing could be said before."""
@@ -728,11 +731,11 @@ class Mouse(Fronts):
             os.write(self.wakes, bytes([signal.SIGTSTP]))
             self.turn(1)
         shown = self.shown()
-        self.assertIn(mouse.OFF + given_back(0) + terminal.LEFT, shown)
-        self.assertLess(shown.index(given_back(0) + terminal.LEFT), shown.index(terminal.ENTERED + mouse.ASKED["drags"]))
+        self.assertIn(mouse_reports.OFF + given_back(0) + tty.LEFT, shown)
+        self.assertLess(shown.index(given_back(0) + tty.LEFT), shown.index(tty.ENTERED + mouse_reports.ASKED["drags"]))
         os.write(self.wakes, bytes([signal.SIGCONT]))
         self.turn(1)
-        self.assertIn(terminal.ENTERED + mouse.ASKED["drags"], self.shown())
+        self.assertIn(tty.ENTERED + mouse_reports.ASKED["drags"], self.shown())
 
 
 class Clipboard(Fronts):
@@ -798,10 +801,10 @@ class Clipboard(Fronts):
             outer.waiting += b"behind"
         shown = self.shown()
         self.assertTrue(shown.startswith(b"painted\x1b]52;c;QUJD") and b"behind" not in shown and len(shown) < 131072)
-        with mock.patch.object(terminal, "restore"), mock.patch("os.set_blocking"), mock.patch.object(display, "write") as writes:
+        with mock.patch.object(tty, "restore"), mock.patch("os.set_blocking"), mock.patch.object(display, "write") as writes:
             writes.side_effect = lambda end, waiting: (written.append(bytes(waiting)), waiting.clear())
             outer.leave("[detached]")
-        self.assertEqual(shown + written[0], b"painted" + clip + given_back(0) + terminal.LEFT + b"[detached]\r\n")
+        self.assertEqual(shown + written[0], b"painted" + clip + given_back(0) + tty.LEFT + b"[detached]\r\n")
 
 
 class Wishes(Case):
@@ -1007,8 +1010,8 @@ class Painted(Case):
         person.display.take(ToldRecord("size", (4, 20)))
         person.display.take(ToldRecord("anew", (len(text),), text))
         written = bytes(person.display.outer.waiting)
-        self.assertTrue(written.startswith(text.replace(b"\x1bc", terminal.CLEARED)))
-        self.assertEqual(written[len(text) - 2 + len(terminal.CLEARED) :],
+        self.assertTrue(written.startswith(text.replace(b"\x1bc", tty.CLEARED)))
+        self.assertEqual(written[len(text) - 2 + len(tty.CLEARED) :],
                          b"\x1b7\x1b[?7l\x1b[5;1H\x1b[0;7m" + b"[1]".ljust(20) + b"\x1b[0m\x1b[?7h\x1b8")
         person.display.outer.waiting.clear()
         for text in (painting(4, 20, "z"), b"\x1b", b"\x1b[", b"\xc3"):

@@ -4,13 +4,14 @@ import unittest
 from unittest import mock
 
 from aids import Case, StillLoop
-from roam_live import asked_command, asked_windows, handing, sending, targets
-from roam_live.asked_windows import WindowsAsked
-from roam_live.command_runner import CommandRunner
-from roam_live.handed import Begins, unpacked
-from roam_live.handing import Handing
-from roam_live.places import Places, Rect
-from roam_live.program import Fault
+from roam_live.cli import cmd, send, targets, windows
+from roam_live.cli.windows import WindowsAsked
+from roam_live.common.errors import Fault
+from roam_live.frontend import spawn_commands
+from roam_live.frontend.command_line import CommandRunner
+from roam_live.frontend.spawn_commands import Handing
+from roam_live.host.pending_spawns import Begins, unpacked
+from roam_live.protocol.panes import Places, Rect
 from test_shells_socket import Sockets, read_now
 
 NAME, OTHER = "0123456789abcdef", "fedcba9876543210"
@@ -123,7 +124,7 @@ class AtFrontEnd(Case):
         self.commands.places.return_value = self.commands.zooming.unzoomed.return_value = Places({1: FIRST}, 1)
         self.commands.panes.making.return_value = "1 7"
         self.commands.windows.why_one.return_value = ""
-        self.patch_of(handing, "random_name", return_value=NAME)
+        self.patch_of(spawn_commands, "random_name", return_value=NAME)
         self.commands.handing = Handing(self.commands)
         self.runner = CommandRunner(mock.Mock(commands=self.commands, number=1), self.loop)
 
@@ -206,19 +207,19 @@ class Outside(Case):
         asked.session, asked.told, asked.said = mock.Mock(), list(told), []
         asked.session.name = "main"
         asked.say = lambda line, data=b"": asked.said.append((line, data))
-        self.patch_of(asked_windows, "random_name", return_value=NAME)
-        self.patch_of(asked_windows, "WindowsAsked", lambda session: asked)
+        self.patch_of(windows, "random_name", return_value=NAME)
+        self.patch_of(windows, "WindowsAsked", lambda session: asked)
         return asked
 
     def test_split(self):
         self.patch_of(targets, "making_of", return_value=(2, 9))
         self.patch_of(targets, "pane_places", return_value=Places({1: FIRST, 2: RIGHT}, 1))
-        sends = self.patch_of(sending, "send", return_value=0)
+        sends = self.patch_of(send, "send", return_value=0)
         window = mock.Mock()
         window.name = "main"
         for words, acts, folder in (("splitw -h htop", ["split right"], ""), ("splitw -d -c src htop", ["split down", "focus 1"], "src")):
             asked = self.asked(f"run {NAME} ready", f"run {NAME} done")
-            self.assertEqual(asked_command.run(window, 2, words.split(" ")), 0)
+            self.assertEqual(cmd.run(window, 2, words.split(" ")), 0)
             data = Begins(["htop"], os.path.abspath(folder) if folder else "").packed()
             self.assertEqual(asked.said, [(f"run {NAME} 2 9 {len(data)}", data)])
             sends.assert_called_with(window, acts, 2)
@@ -227,15 +228,15 @@ class Outside(Case):
                            "session main: no pane came in its place, and the command wasn't run")):
             self.asked(*told)
             with self.assertRaises(Fault) as fault:
-                asked_command.run(window, 2, ["splitw", "htop"])
+                cmd.run(window, 2, ["splitw", "htop"])
             self.assertEqual(str(fault.exception), why)
 
     def test_window(self):
         asked = self.asked(f"run {NAME} ready", "opened 3")
         session = mock.Mock()
         session.places.return_value = None
-        self.patch_of(asked_windows, "print", create=True)
-        asked_command.run(session, 0, ["neww", "-n", "logs", "htop"])
+        self.patch_of(windows, "print", create=True)
+        cmd.run(session, 0, ["neww", "-n", "logs", "htop"])
         self.assertEqual([line for line, _ in asked.said], [f"run {NAME} window {len(Begins(['htop'], '', 'logs').packed())}",
                                                            f"open 24 80 {NAME}"])
 

@@ -8,11 +8,11 @@ from unittest import mock
 
 from aids import Case, StillLoop, loaded, read_now
 from filtered import played
-from roam_live import pane_commands, row_keeping, window_shells
-from roam_live.given import GivenTexts
-from roam_live.loops import READ, WRITE
-from roam_live.program import Fault, begun
-from roam_live.typed import TypedQueue
+from roam_live.common.errors import Fault, begun
+from roam_live.common.event_loop import READ, WRITE
+from roam_live.host import pane as host_pane, scrollback, window
+from roam_live.host.input_queue import TypedQueue
+from roam_live.host.pending_pastes import GivenTexts
 
 def queue():
     """A queue of what is typed into a pane, for which no text was given."""
@@ -35,17 +35,17 @@ class Keeper(Case):
         self.wakeup, self.wakes = self.pipe()
         self.said = self.heard()
         self.made = []
-        self.patch_of(pane_commands.terminal, "forked", side_effect=self.forked)
+        self.patch_of(host_pane.tty, "forked", side_effect=self.forked)
         self.kills = self.patch("os.kill")
         self.ended = {}
-        self.patch_of(window_shells, "has_ended", side_effect=lambda process: self.ended.get(process, False))
+        self.patch_of(window, "has_ended", side_effect=lambda process: self.ended.get(process, False))
         self.keeper = self.kept()
         self.server = self.taken(self.listeners["panes"])
 
     def kept(self, **more):
         """A keeper."""
-        asked = pane_commands.Options(folder=str(self.folder), command=["sh"], **more)
-        keeper = window_shells.Shells(asked, window_shells.Common(self.wakeup, StillLoop()))
+        asked = host_pane.Options(folder=str(self.folder), command=["sh"], **more)
+        keeper = window.Shells(asked, window.Common(self.wakeup, StillLoop()))
         self.addCleanup(self.leave, keeper)
         return keeper
 
@@ -100,7 +100,7 @@ class Panes(Keeper):
     def test_sizes(self):
         """A new size is told to the programs, and the same isn't."""
         self.begin()
-        sizes = self.patch_of(pane_commands.terminal, "set_size")
+        sizes = self.patch_of(host_pane.tty, "set_size")
         self.tell("1 1 1 23 39 4", "2 1 41 11 40 5", "focus 2")
         sizes.assert_called_once_with(self.keeper.panes[2].terminal, 11, 40)
         sizes.side_effect = OSError(5, "gone")
@@ -146,7 +146,7 @@ class Panes(Keeper):
     def test_commands(self):
         """What runs in front is told there, and looked up again after something was typed or written."""
         names = {1: "sh", 2: "vi"}
-        self.patch_of(window_shells.Fronts, "look", lambda fronts, pane: fronts.tells(pane.number, pane.life, names[pane.number]))
+        self.patch_of(window.Fronts, "look", lambda fronts, pane: fronts.tells(pane.number, pane.life, names[pane.number]))
         panes = self.begin()
         one = socket.socket(socket.AF_UNIX, socket.SOCK_STREAM)
         self.addCleanup(one.close)
@@ -274,8 +274,8 @@ class Panes(Keeper):
         """A new pane's command starts where the program in front in the pane in focus is, else where its command is; the first where the
         server is."""
         self.keeper.asked.server = 4711
-        works = self.patch_of(window_shells, "working_folder", return_value="/there")
-        self.patch_of(pane_commands, "group_in_front", return_value=99)
+        works = self.patch_of(window, "working_folder", return_value="/there")
+        self.patch_of(host_pane, "group_in_front", return_value=99)
         self.begin()
         self.assertEqual([call[0][0] for call in works.call_args_list], [[4711], [4711]])
         self.tell("3 1 1 5 5 1", "focus 3")
@@ -301,14 +301,14 @@ class Panes(Keeper):
             (self.folder / name).unlink()
         other = self.listening(self.folder / "shells")
         for _ in range(3):
-            self.now += window_shells.LOOKS
+            self.now += window.LOOKS
             self.turn(1)
         self.assertEqual(self.said.getvalue().count("sockets of the session were removed and cannot be restored: somebody listens at "), 1)
         other.close()
-        self.now += window_shells.LOOKS
+        self.now += window.LOOKS
         self.turn(1)
         self.assertTrue(self.keeper.is_found())
-        self.assertIn(window_shells.MENDED, self.said.getvalue())
+        self.assertIn(window.MENDED, self.said.getvalue())
 
     def test_terminal_gone(self):
         """A terminal that no program has any more is closed, and so is a connection that the server ends."""
@@ -333,7 +333,7 @@ class Panes(Keeper):
         self.turn()
         self.assertEqual(self.said.getvalue(), "")
         self.now += 0.1
-        with mock.patch.object(pane_commands.fcntl, "ioctl", side_effect=[struct.pack("i", 5), struct.pack("i", 0)]):
+        with mock.patch.object(host_pane.fcntl, "ioctl", side_effect=[struct.pack("i", 5), struct.pack("i", 0)]):
             self.turn()
         told = "pane 1 isn't shown: the server doesn't read it, as where no descriptor is left for it\n"
         self.assertTrue(self.said.getvalue().endswith(told))
@@ -341,7 +341,7 @@ class Panes(Keeper):
         pane = self.keeper.panes[1]
         for written, unread in ((0, False), (1, True), (16384, True), (16385, False)):
             pane.written = written
-            with mock.patch.object(pane_commands.fcntl, "ioctl", return_value=struct.pack("i", 1)):
+            with mock.patch.object(host_pane.fcntl, "ioctl", return_value=struct.pack("i", 1)):
                 self.assertEqual(pane.is_unread(), unread, written)
 
 
@@ -350,19 +350,19 @@ class Refused(Keeper):
 
     def test_command(self):
         """A command that can't be spawned is told of in its pane, where a key tries again."""
-        self.patch_of(pane_commands.terminal, "forked", side_effect=OSError(11, "Resource temporarily unavailable"))
+        self.patch_of(host_pane.tty, "forked", side_effect=OSError(11, "Resource temporarily unavailable"))
         panes = self.begin()
         self.turn()
         self.assertEqual(read_now(panes[0]), b"[not run: Resource temporarily unavailable; a key tries again]\r\n")
-        self.patch_of(pane_commands.terminal, "forked", side_effect=self.forked)
+        self.patch_of(host_pane.tty, "forked", side_effect=self.forked)
         panes[0].send(b"x")
         self.turn()
         self.assertEqual((self.keeper.panes[1].process, self.keeper.panes[2].process, read_now(self.made[0])), (71, None, b""))
 
     def test_connection(self):
         """A pane that can't be connected says so, is told of once, and is tried again each quarter of a second."""
-        with mock.patch.object(pane_commands, "connected_now", side_effect=OSError(24, "Too many open files")) as connects:
-            says = self.patch_of(window_shells, "say_in")
+        with mock.patch.object(host_pane, "connected_now", side_effect=OSError(24, "Too many open files")) as connects:
+            says = self.patch_of(window, "say_in")
             self.tell("1 1 1 23 80 4", "focus 1")
             says.assert_called_once_with(f"{self.folder}/p1", "[not run: Too many open files; tried again]\r\n")
             self.assertEqual(self.keeper.loop.due["again"][0], 100.25)
@@ -381,7 +381,7 @@ class Refused(Keeper):
 
     def test_not_there(self):
         """A pane whose socket isn't there is no place to say so."""
-        says = self.patch_of(window_shells, "say_in")
+        says = self.patch_of(window, "say_in")
         self.tell("9 1 1 23 80 4", "focus 9")
         says.assert_not_called()
         self.assertIn("pane 9: No such file or directory; tried again\n", self.said.getvalue())
@@ -391,7 +391,7 @@ class Refused(Keeper):
         self.assertTrue(self.keeper.common.spare.end is not None and self.keeper.common.voice.end is not None)
         self.keeper.common.spare.free()
         self.keeper.common.spare.free()
-        with mock.patch.object(pane_commands.os, "open", side_effect=OSError(24, "Too many open files")):
+        with mock.patch.object(host_pane.os, "open", side_effect=OSError(24, "Too many open files")):
             self.keeper.common.keep_spares()
         self.assertIn("a spare descriptor: Too many open files; tried again\n", self.said.getvalue())
         self.now += 0.25
@@ -400,9 +400,9 @@ class Refused(Keeper):
 
     def test_said(self):
         """A line is said in a pane that has no shell."""
-        pane_commands.say_in(self.folder / "p3", "why\ud800\r\n")
+        host_pane.say_in(self.folder / "p3", "why\ud800\r\n")
         self.assertEqual(self.taken(self.listeners["p3"]).recv(16), b"why?\r\n")
-        pane_commands.say_in(self.folder / "none", "why")
+        host_pane.say_in(self.folder / "none", "why")
 
 
 class Ended(Keeper):
@@ -561,7 +561,7 @@ class Ended(Keeper):
 
     def test_not_followed(self):
         """A pane says where nothing can be followed from the start, once."""
-        says = self.patch_of(window_shells, "say_in")
+        says = self.patch_of(window, "say_in")
         for _ in range(3):
             self.server.close()
             self.turn(2)
@@ -633,13 +633,13 @@ class Rows(Keeper):
 
     def setUp(self):
         self.fake = played(self)[0]
-        self.patch_of(row_keeping, "program", lambda: "/roam")
+        self.patch_of(scrollback, "program", lambda: "/roam")
         super().setUp()
 
     def handed(self):
         """What the filter was handed."""
         self.turn()
-        self.now += row_keeping.WAITS / 2
+        self.now += scrollback.WAITS / 2
         self.turn()
         return self.fake.taken()
 
@@ -649,28 +649,28 @@ class Rows(Keeper):
         self.made[0].send(b"out")
         self.made[1].send(b"two")
         self.assertEqual(self.handed(), b"pane 0 23 39\nbytes 0 3\noutpane 1 23 40\nbytes 1 3\ntwo")
-        self.patch_of(pane_commands.terminal, "set_size")
+        self.patch_of(host_pane.tty, "set_size")
         self.tell("1 1 1 10 39 4", "2 gone", "focus 1")
         self.assertEqual(self.handed(), b"size 0 10 39\ngone 1\n")
         self.made[0].send(b"last")
         self.turn()
         self.ended[71] = True
         os.write(self.wakes, bytes([signal.SIGCHLD]))
-        self.assertEqual(self.handed(), b"bytes 0 %d\nlast%s" % (4 + len(window_shells.ENDED), window_shells.ENDED))
-        self.assertEqual(read_now(panes[0]), b"outlast" + window_shells.ENDED)
+        self.assertEqual(self.handed(), b"bytes 0 %d\nlast%s" % (4 + len(window.ENDED), window.ENDED))
+        self.assertEqual(read_now(panes[0]), b"outlast" + window.ENDED)
 
     def test_behind(self):
         """A pane isn't read while the filter doesn't keep up, for a second at most."""
         pane = self.begin()[0]
         self.keeper.rows.set_behind(True)
-        self.keeper.loop.later("rows are behind", row_keeping.WAITS, self.keeper.rows.lose)
+        self.keeper.loop.later("rows are behind", scrollback.WAITS, self.keeper.rows.lose)
         self.made[0].send(b"out")
         self.turn()
         self.assertEqual(read_now(pane), b"")
-        self.now += row_keeping.WAITS
+        self.now += scrollback.WAITS
         self.turn()
         self.assertEqual(read_now(pane), b"out")
-        self.assertIn(row_keeping.BEHIND, self.said.getvalue())
+        self.assertIn(scrollback.BEHIND, self.said.getvalue())
 
     def test_last_logged(self):
         """Where the session ends who writes rows down has what stood last in a pane."""
@@ -751,18 +751,18 @@ class Words(Case):
     def test_has_ended(self):
         process = self.process("true")
         self.assertTrue(os.waitid(os.P_PID, process.pid, os.WEXITED | os.WNOWAIT))
-        self.assertTrue(pane_commands.has_ended(process.pid))
-        self.assertTrue(pane_commands.has_ended(process.pid))
-        self.assertFalse(pane_commands.has_ended(self.process().pid))
+        self.assertTrue(host_pane.has_ended(process.pid))
+        self.assertTrue(host_pane.has_ended(process.pid))
+        self.assertFalse(host_pane.has_ended(self.process().pid))
 
     def test_child(self):
         """What is forked becomes the command, of the pane's size and in its folder, and ends where it can't."""
-        asked = pane_commands.Options(folder="/d", command=["vi"])
-        pane = pane_commands.PaneCommand(asked, StillLoop(), 3, 1, (5, 40), False, "/tmp", queue())
-        with mock.patch.object(pane_commands.terminal, "forked", return_value=(0, 0)) as forks, \
-                mock.patch.object(pane_commands.terminal, "become") as becomes, \
-                mock.patch.object(pane_commands.os, "_exit", side_effect=InterruptedError) as exits, \
-                mock.patch.object(pane_commands.os, "chdir") as enters:
+        asked = host_pane.Options(folder="/d", command=["vi"])
+        pane = host_pane.PaneCommand(asked, StillLoop(), 3, 1, (5, 40), False, "/tmp", queue())
+        with mock.patch.object(host_pane.tty, "forked", return_value=(0, 0)) as forks, \
+                mock.patch.object(host_pane.tty, "become") as becomes, \
+                mock.patch.object(host_pane.os, "_exit", side_effect=InterruptedError) as exits, \
+                mock.patch.object(host_pane.os, "chdir") as enters:
             with self.assertRaises(InterruptedError):
                 pane.run()
         exits.assert_called_once_with(127)

@@ -2,8 +2,8 @@
 import socket
 
 from aids import Case, StillLoop
-from roam_live.kept_rows import MOST_ANSWER, MOST_LISTED, AnswerReader, BadAnswer, BufferNote, RowsLink, Snapshot
-from roam_live.shells_link import ShellsLink
+from roam_live.protocol.host_client import ShellsLink
+from roam_live.protocol.scrollback_client import MOST_ANSWER, MOST_LISTED, AnswerReader, BadAnswer, BufferNote, RowsLink, Snapshot
 
 TOLD = (b"keeper 00\nrows 2 5 10 2 9 \nrows 2 5 10 2 9\n +ab\n+c\x1b\nothers 0\nsnapshot 2 5 0 7 1 3\n x\nbuffers 2\n4 5 a b\n3 1 \n"
         b"buffer show 4 5\na\n\nb\nbuffer show 9 none\nmore 2 5 3\nbuffers 0\n")

@@ -1,8 +1,8 @@
 """Keys by tmux's names: what each types, by the sequences of xterm and the VT220."""
 import unittest
 
-from roam_live.key_names import acts_named, named_key, spelled
-from roam_live.keys import Key, keys_in
+from roam_live.input.key_names import acts_named, named_key, spelled
+from roam_live.input.keys import Key, keys_in
 
 
 def characters(text):

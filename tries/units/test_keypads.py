@@ -5,8 +5,8 @@ import tempfile
 import unittest
 
 from aids import StillLoop
-from roam_live.bells import BellFollower, BellSource
-from roam_live.keypads import Keypad
+from roam_live.host.output_scan import Keypad
+from roam_live.protocol.bells import BellFollower, BellSource
 
 # What a program writes, and whether its keypad is an application's then (VT220 Programmer Reference: DECKPAM, DECKPNM, DECSTR; RIS).
 WRITTEN = (

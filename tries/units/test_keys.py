@@ -1,9 +1,9 @@
 """Keys of bytes, and what they ask for: the spellings of xterm and the VT220, and the keys of `C-b ?`."""
 import unittest
 
-from roam_live.bindings import Typing, help_with
-from roam_live.choices import PREFIXES
-from roam_live.keys import Key, Keys, acts_of, acts_of_bytes
+from roam_live.config.environment import PREFIXES
+from roam_live.frontend.bindings import Typing, help_with
+from roam_live.input.keys import Key, Keys, acts_of, acts_of_bytes
 
 KEYS = (
     (b"a", "char 61"), (b"\xc3\xa9", "char e9"), (b"\xe2\x82\xac", "char 20ac"), (b"\xf0\x9f\x98\x80", "char 1f600"), (b"\x00", "char 0"),

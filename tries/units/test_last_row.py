@@ -1,7 +1,7 @@
 """The text of the last row: what is cut where it is narrow, and which windows are shown there."""
 import unittest
 
-from roam_live.last_row import columns, cut, fitted, label_at, row_text, tail, window_label, windows_shown
+from roam_live.frontend.status_line import columns, cut, fitted, label_at, row_text, tail, window_label, windows_shown
 
 # A text, a width, and what of it has room; what is wide is two columns.
 CUTS = (("abc", 5, "abc"), ("abc", 3, "abc"), ("abc", 2, "ab"), ("abc", 0, ""), ("abc", -1, ""), ("中文", 4, "中文"), ("中文", 3, "中"),

@@ -6,9 +6,9 @@ import socket
 from unittest import mock
 
 from aids import Case, read_now, record
-from roam_live.links import EARLIER, FIRST_WAIT, LET_GO, LOST, MOST_ACTS, NO_MORE, PAUSES, SILENT, Keeper, StartLink, opened
-from roam_live.loops import READ, WRITE
-from roam_live.program import Fault
+from roam_live.common.errors import Fault
+from roam_live.common.event_loop import READ, WRITE
+from roam_live.protocol.client_link import EARLIER, FIRST_WAIT, LET_GO, LOST, MOST_ACTS, NO_MORE, PAUSES, SILENT, Keeper, StartLink, opened
 
 
 class SocketPeer:
@@ -172,7 +172,7 @@ class Lines(Linked):
         self.assertTrue(link.begins(5.0))
         self.assertTrue(link.records.begun)
         link, other = self.link(True)
-        with mock.patch("roam_live.links.ready", lambda *_: self.pass_time(0.1) or WRITE):
+        with mock.patch("roam_live.protocol.client_link.ready", lambda *_: self.pass_time(0.1) or WRITE):
             self.assertFalse(link.begins(5.0))
         self.assertEqual((105 <= self.now < 105.2, read_now(other), link.has_ended), (True, b"told\nwatch\n", False))
         other.close()
@@ -194,7 +194,7 @@ class Lines(Linked):
                 other.close()
             return found
 
-        with mock.patch("roam_live.links.ready", waits):
+        with mock.patch("roam_live.protocol.client_link.ready", waits):
             self.assertTrue(link.part())
         self.assertIsNone(link.peer)
         self.assertTrue(link.part())
@@ -203,7 +203,7 @@ class Lines(Linked):
         """A start that doesn't take it in time is left, and that is told."""
         link, _ = self.link(False)
         link.type("char 61")
-        with mock.patch("roam_live.links.ready", lambda *_: self.pass_time(0.5) or 0):
+        with mock.patch("roam_live.protocol.client_link.ready", lambda *_: self.pass_time(0.5) or 0):
             self.assertFalse(link.part())
         self.assertEqual(self.now, 101.5)
         self.assertIsNone(link.peer)
@@ -360,7 +360,7 @@ class Kept(Linked):
 
     def test_full(self):
         """On a full disk it is tried each second."""
-        full = self.patch("roam_live.links.is_disk_full", return_value=True)
+        full = self.patch("roam_live.protocol.client_link.is_disk_full", return_value=True)
         found = []
         for _ in range(8):
             self.link.since = self.now - 1
@@ -428,7 +428,7 @@ class Opened(Linked):
             other.shutdown(socket.SHUT_WR)
             return WRITE
 
-        with mock.patch("roam_live.links.ready", waits):
+        with mock.patch("roam_live.protocol.client_link.ready", waits):
             link = opened(self.place, True)
         self.addCleanup(link.close)
         return link
@@ -448,6 +448,7 @@ class Opened(Linked):
     def test_refused(self):
         with self.assertRaisesRegex(Fault, f"^{NO_MORE}$"):
             self.opened(b"full\n")
-        with mock.patch("roam_live.links.ready", lambda *_: self.pass_time(1) or 0), self.assertRaisesRegex(Fault, f"^{SILENT}$"):
+        waits = mock.patch("roam_live.protocol.client_link.ready", lambda *_: self.pass_time(1) or 0)
+        with waits, self.assertRaisesRegex(Fault, f"^{SILENT}$"):
             opened(self.place, False)
         self.assertEqual(self.place.earlier, [])

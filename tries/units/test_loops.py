@@ -6,8 +6,8 @@ import tempfile
 from unittest import mock
 
 from aids import Case, StillLoop, read_now
-from roam_live.listeners import DEAF, Listener
-from roam_live.loops import READ, WRITE, Loop, comes, is_taken, ready
+from roam_live.common.event_loop import READ, WRITE, Loop, comes, is_taken, ready
+from roam_live.common.listener import DEAF, Listener
 
 
 class Ends(Case):
@@ -372,7 +372,7 @@ class Many(Ends):
 
     def setUp(self):
         super().setUp()
-        self.patch("roam_live.loops.MOST_SELECTED", 0)
+        self.patch("roam_live.common.event_loop.MOST_SELECTED", 0)
 
     test_lowered = None
 

@@ -1,7 +1,7 @@
 """Which word of mux is meant by one that is none, and which names are names."""
 import unittest
 
-from roam_live.meant import TMUX_WORDS, meant, slips, told_of_tmux
+from roam_live.cli.args import TMUX_WORDS, meant, slips, told_of_tmux
 
 WORDS = ["attach", "new", "detach", "ls", "list", "watch", "kill", "send", "capture", "env", "ssh", "far", "help"]
 

@@ -2,9 +2,9 @@
 import unittest
 from unittest import mock
 
-from roam_live.asides import GivenAside
-from roam_live.keys import Key, Keys, acts_of_bytes
-from roam_live.mouse import ASKED, MOUSE, OFF, MouseReport, is_wanted, report_of, sent, tracking_of
+from roam_live.frontend.outer_modes import GivenAside
+from roam_live.input.keys import Key, Keys, acts_of_bytes
+from roam_live.input.mouse_reports import ASKED, MOUSE, OFF, MouseReport, is_wanted, report_of, sent, tracking_of
 
 REPORTS = {
     "\x1b[<0;5;7M": MouseReport(0, 7, 5, False), "\x1b[<2;500;200m": MouseReport(2, 200, 500, True),

@@ -7,14 +7,16 @@ import types
 from unittest import mock
 
 from aids import Case, loaded
-from roam_live import (asked_command, asked_rows, asked_windows, brought, captures, choices, front_end, giving, remote, sending, sessions,
-                       targets)
-from roam_live.own_settings import OWN, settings_path
-from roam_live.places import Places, Rect
-from roam_live.program import Fault
-from roam_live.meant import TMUX_WORDS
-from roam_live.relayed import greeting
-from roam_live.sessions import FolderSession, NearSession, WindowedSession
+from roam_live.cli import capture, cmd, paste, scrollback, send, ssh, targets, windows
+from roam_live.cli.args import TMUX_WORDS
+from roam_live.common.errors import Fault
+from roam_live.config import environment as config_environment
+from roam_live.config.user_file import OWN, settings_path
+from roam_live.frontend import app
+from roam_live.protocol.panes import Places, Rect
+from roam_live.relay.frames import greeting
+from roam_live.session import environment as session_environment, sessions
+from roam_live.session.sessions import FolderSession, NearSession, WindowedSession
 
 mux = loaded("mux")
 PAGE = pathlib.Path(__file__).resolve().parents[2] / "docs/man/roam-mux.1"
@@ -26,12 +28,12 @@ class Mux(Case):
     def setUp(self):
         self.base = self.made_folder() / "roam"
         self.base.mkdir(mode=0o700)
-        for module in (sessions, remote):
+        for module in (sessions, ssh):
             self.patch_of(module, "base", lambda: self.base)
         self.environment(ROAM_PREFIX=None, ROAM_GUESS=None, ROAM_MOUSE=None, ROAM_CLIPBOARD=None, ROAM_PANE=None, ROAM_HISTORY=None,
                          SHELL="/bin/sh", TERM="xterm")
         self.said, self.text = self.heard(), self.printed()
-        self.follows = self.patch_of(front_end, "follow", return_value=7)
+        self.follows = self.patch_of(app, "follow", return_value=7)
         self.is_terminal = True
         self.patch_of(mux.os, "isatty", lambda end: self.is_terminal)
         # What others left is no matter either.
@@ -155,21 +157,21 @@ class Attaches(Mux):
         self.refuses("ROAM_CLIPBOARD is 'yes', and may be external, on or off")
         for word, sets in (("on", True), ("off", False), ("external", False), (None, False)):
             self.environment(ROAM_CLIPBOARD=word)
-            self.assertEqual(choices.sets_clipboard(), sets)
+            self.assertEqual(config_environment.sets_clipboard(), sets)
         for word, has_mouse in (("on", True), ("off", False), ("", False)):
             self.environment(ROAM_MOUSE=word)
-            self.assertEqual(choices.wants_mouse(), has_mouse)
+            self.assertEqual(config_environment.wants_mouse(), has_mouse)
         self.environment(ROAM_GUESS="always")
         self.mux()
         self.assertEqual(self.follows.call_args[0][2:4], ("C-a", "always"))
-        self.assertEqual((choices.chosen_guessing("never"), choices.chosen_guessing()), ("never", "always"))
+        self.assertEqual((config_environment.chosen_guessing("never"), config_environment.chosen_guessing()), ("never", "always"))
         self.refuses("C-a d, typed in the front end, detaches it; the session goes on", "detach")
 
 
     def test_alone(self):
         """With -d all others are told to leave before; of those that don't it is told."""
         self.runs.add("main")
-        with mock.patch.object(asked_windows, "detach_others", side_effect=[0, 2]) as others:
+        with mock.patch.object(windows, "detach_others", side_effect=[0, 2]) as others:
             self.assertEqual((self.mux("attach", "-d", "main"), self.said.getvalue()), (7, ""))
             self.assertEqual((self.mux("attach", "-d", "main"), others.call_args[0][0].name), (7, "main"))
             self.is_terminal = False
@@ -181,7 +183,7 @@ class Attaches(Mux):
     def test_settings(self):
         """It is told where the settings are looked for, and each line of them that isn't done, with status 1."""
         self.environment(XDG_CONFIG_HOME=str(self.base), HOME=str(self.base))
-        self.addCleanup(choices.choose_by_file, {})
+        self.addCleanup(config_environment.choose_by_file, {})
         self.patch_of(OWN, "found", None)
         self.assertEqual((self.mux("settings"), self.text.getvalue()), (0, f"{settings_path()}, which isn't there\n"))
         pathlib.Path(settings_path()).parent.mkdir()
@@ -226,7 +228,7 @@ class Starts(Mux):
     def test_window(self):
         """A window is shut in the same way."""
         self.runs.add("main")
-        with mock.patch.object(asked_windows, "shut", return_value=5) as shuts:
+        with mock.patch.object(windows, "shut", return_value=5) as shuts:
             self.is_terminal = False
             self.refuses("window main runs vi in pane 1; `mux kill -f main` shuts it", "kill", "main:2")
             self.is_terminal = True
@@ -245,9 +247,9 @@ class Starts(Mux):
                                     (("new-window", "main"), "new_window", ("",)),
                                     (("new-window", "-n", "a b", "main"), "new_window", ("a b",)),
                                     (("rename-window", "main:2", "a b"), "rename", ("a b",)), (("rename-window", "main"), "rename", ("",))):
-            with mock.patch.object(asked_windows, does, return_value=6) as done:
+            with mock.patch.object(windows, does, return_value=6) as done:
                 self.assertEqual((self.mux(*words), done.call_args[0][0].name, done.call_args[0][1:]), (6, "main", behind), words)
-        with mock.patch.object(asked_command, "run", return_value=4) as runs:
+        with mock.patch.object(cmd, "run", return_value=4) as runs:
             self.assertEqual((self.mux("cmd", "main.2", "split-window", "-h"), runs.call_args[0][1:]), (4, (2, ["split-window", "-h"])))
         self.refuses("a command stands behind the session", "cmd", "main")
 
@@ -259,7 +261,7 @@ class Starts(Mux):
     def test_ready(self):
         """What types and what looks needs a client start alone."""
         self.runs.add("main")
-        with mock.patch.object(sending, "send", return_value=3) as sends, mock.patch.object(captures, "capture", return_value=4) as takes:
+        with mock.patch.object(send, "send", return_value=3) as sends, mock.patch.object(capture, "capture", return_value=4) as takes:
             self.assertEqual(self.mux("send", "-a", "main", "char 61", "key up"), 3)
             self.assertEqual(sends.call_args[0][1], ["char 61", "key up"])
             self.assertEqual(self.mux("capture", "main"), 4)
@@ -271,8 +273,8 @@ class Starts(Mux):
     def test_rows(self):
         """Rows that left, where some are named, or how they are printed; of the pane in focus where none is named. They aren't drawn."""
         self.runs.add("main")
-        with mock.patch.object(asked_rows, "capture_rows", return_value=4) as takes, \
-                mock.patch.object(asked_rows, "log_rows", return_value=5) as logs:
+        with mock.patch.object(scrollback, "capture_rows", return_value=4) as takes, \
+                mock.patch.object(scrollback, "log_rows", return_value=5) as logs:
             for words, told in ((("-S", "-10", "main.2"), (2, "-10", None, False, False)),
                                 (("-S", "-", "-E", "-", "main"), (0, "-", "-", False, False)),
                                 (("-e", "-J", "main"), (0, None, None, True, True)), (("-E", "0", "main.1"), (1, None, "0", False, False))):
@@ -287,7 +289,7 @@ class Starts(Mux):
         """Buffers are listed, printed and set, and pasted into a pane; they are of no pane."""
         self.runs.add("main")
         names = ("list_buffers", "show_buffer", "set_buffer", "put_buffer")
-        does = [self.patch_of(asked_rows, name, return_value=place) for place, name in enumerate(names)]
+        does = [self.patch_of(scrollback, name, return_value=place) for place, name in enumerate(names)]
         for words, place, told in ((("list", "main"), 0, ()), (("show", "main"), 1, (None,)), (("show", "main", "3"), 1, ("3",)),
                                    (("set", "main"), 2, (None,)), (("set", "main", "a b"), 2, ("a b",)), (("paste", "main"), 3, (None, 0)),
                                    (("paste", "main.2", "7"), 3, ("7", 2))):
@@ -302,8 +304,8 @@ class Starts(Mux):
     def test_texts(self):
         """Words are sent as characters by -l, and standard input pasted, in one piece."""
         self.runs.add("main")
-        with mock.patch.object(giving, "type_text", return_value=3) as types, \
-                mock.patch.object(giving, "read_text", lambda is_raw: f"raw {is_raw}"):
+        with mock.patch.object(paste, "type_text", return_value=3) as types, \
+                mock.patch.object(paste, "read_text", lambda is_raw: f"raw {is_raw}"):
             self.assertEqual(self.mux("send", "-l", "main.2", "a\nb\x1b", "Up"), 3)
             self.assertEqual((types.call_args[0][1:], types.call_args[1]), (("a\rbUp", 2), {"is_plain": True}))
             self.assertEqual(self.mux("paste", "main"), 3)
@@ -325,13 +327,13 @@ class Starts(Mux):
             (("-a", "main", "close", "key up", "Enter"), ["close", "key up", "key return"]), (("main", "-a", "next"), ["next"]),
             (("-a", "main", "split right", "C-l"), ["split right", "char c"]),
         ):
-            with mock.patch.object(sending, "demand_acts"), mock.patch.object(sending, "demand_doable"), \
-                    mock.patch.object(sending, "opened"), mock.patch.object(sending, "type_lines") as types:
+            with mock.patch.object(send, "demand_acts"), mock.patch.object(send, "demand_doable"), \
+                    mock.patch.object(send, "opened"), mock.patch.object(send, "type_lines") as types:
                 self.assertEqual(self.mux("send", *words), 0)
             self.assertEqual(types.call_args[0][2], [" ; ".join(acts)], words)
         for words, text in ((("-l", "main", "Enter", "C-c"), "EnterC-c"), (("main", "-l", "close"), "close"),
                             (("-l", "main", "--", "-a"), "-a")):
-            with mock.patch.object(giving, "type_text", return_value=0) as types:
+            with mock.patch.object(paste, "type_text", return_value=0) as types:
                 self.assertEqual(self.mux("send", *words), 0)
             self.assertEqual(types.call_args[0][1], text, words)
         for words, told in (
@@ -346,7 +348,7 @@ class Starts(Mux):
     def test_panes(self):
         """NAME.P is a pane: what is sent and captured there, and closed, where something else than a shell runs once that is confirmed."""
         self.runs.add("main")
-        with mock.patch.object(sending, "send", return_value=3) as sends, mock.patch.object(captures, "capture", return_value=4) as takes:
+        with mock.patch.object(send, "send", return_value=3) as sends, mock.patch.object(capture, "capture", return_value=4) as takes:
             self.assertEqual((self.mux("send", "-a", "main.3", "char 61"), sends.call_args[0][1:]), (3, (["char 61"], 3)))
             self.assertEqual((self.mux("capture", "main.3"), takes.call_args[0][1:]), (4, (False, 3)))
         places = Places({1: Rect(1, 1, 5, 5), 2: Rect(1, 7, 5, 5)}, 1)
@@ -398,13 +400,13 @@ class Far(Mux):
     def test_ssh(self):
         """A relay is started where none runs, and its status is that of one that didn't answer."""
         starts = self.patch_of(NearSession, "launch_relay", return_value=0)
-        self.patch_of(remote, "host_of", side_effect=lambda asked: f"host of {asked.host}")
+        self.patch_of(ssh, "host_of", side_effect=lambda asked: f"host of {asked.host}")
         self.assertEqual(self.mux("ssh", "-p", "22", "me@there", "work"), 7)
         starts.assert_called_once_with(["ssh", "-p", "22", "me@there", "roam-mux far work"], "host of me@there")
         session = self.follows.call_args[0][0]
         self.assertEqual(session.folder.name.rpartition(":")[0], "ssh:me@there:work")
         self.assertEqual(self.done, [("kill", "work"), ("demand_terminals", "work")])
-        with mock.patch.object(remote, "is_first_start", side_effect=[True, False]):
+        with mock.patch.object(ssh, "is_first_start", side_effect=[True, False]):
             self.assertEqual([self.follows.call_args[0][4](None) for _ in range(2)], [True, False])
         starts.return_value = 255
         self.assertEqual(self.mux("ssh", "--guess", "never", "there"), 255)
@@ -423,18 +425,18 @@ class Far(Mux):
         def host(text):
             stand_in.write_text(f"#!/bin/sh\n{text}\n", encoding="utf-8")
             stand_in.chmod(0o700)
-            return remote.host_of(asked)
+            return ssh.host_of(asked)
 
         self.assertEqual(host(f"echo \"$@\" > {folder}/words; echo user me; echo hostname there.example; echo port 22"), "there.example")
         self.assertEqual((folder / "words").read_text(encoding="utf-8"), "-4 -G -p 22 me@there\n")
         for text in ("exit 3", "echo", "echo hostname", "echo 'hostname a b'", "printf 'hostname \\377\\n'", "echo hostname x; exit 1"):
             self.assertEqual(host(text), "there", text)
-        with mock.patch.object(remote, "HOST_WAIT", 0.1):
+        with mock.patch.object(ssh, "HOST_WAIT", 0.1):
             self.assertEqual(host("sleep 5"), "there")
         stand_in.unlink()
-        self.assertEqual(remote.host_of(asked), "there")
+        self.assertEqual(ssh.host_of(asked), "there")
         with mock.patch.dict(os.environ, ROAM_UDP="never"), mock.patch("subprocess.run", side_effect=AssertionError):
-            self.assertEqual(remote.host_of(asked), "")
+            self.assertEqual(ssh.host_of(asked), "")
 
     def test_options(self):
         """The options before the host are for ssh, but those of mux; a letter may have its word at once, and stand behind others."""
@@ -445,44 +447,44 @@ class Far(Mux):
             ("-p", "", "-p"), ("--ssh", "--ssh", ""), ("-o A=b -J jump me@there w", "me@there w", "-o A=b -J jump"),
             ("--ssh=x there", "--ssh=x there", ""), ("", "", ""), ("-tt -L1:b:2 there", "there", "-tt -L1:b:2"),
         ):
-            self.assertEqual(remote.parted_options(words.split()), (own.split(), options.split()), words)
+            self.assertEqual(ssh.parted_options(words.split()), (own.split(), options.split()), words)
 
     def test_pairs(self):
         """The letters that have a word behind them are those of ssh(1)."""
-        self.assertEqual(sorted(remote.SSH_PAIRS), sorted("BbcDEeFIiJLlmOopQRSWw" + "P"))
+        self.assertEqual(sorted(ssh.SSH_PAIRS), sorted("BbcDEeFIiJLlmOopQRSWw" + "P"))
 
     def test_near(self):
         """One folder a host, a session and a way to get there; a host's odd letters don't leave the folder."""
         asked = argparse.Namespace(ssh="ssh", far="roam-mux", options=[], host="there", name="main")
-        names = [remote.near_session(asked, remote.command_of(asked)).folder.name]
+        names = [ssh.near_session(asked, ssh.command_of(asked)).folder.name]
         asked.options = ["-p", "22"]
-        names.append(remote.near_session(asked, remote.command_of(asked)).folder.name)
+        names.append(ssh.near_session(asked, ssh.command_of(asked)).folder.name)
         asked.options, asked.ssh = [], "ssh -p 23"
-        self.assertEqual(remote.command_of(asked), ["ssh", "-p", "23", "there", "roam-mux far main"])
-        names.append(remote.near_session(asked, remote.command_of(asked)).folder.name)
+        self.assertEqual(ssh.command_of(asked), ["ssh", "-p", "23", "there", "roam-mux far main"])
+        names.append(ssh.near_session(asked, ssh.command_of(asked)).folder.name)
         self.assertEqual((names[0], len(set(names))), ("ssh:there:main", 3))
         for name in names[1:]:
             self.assertRegex(name, "^ssh:there:main:[0-9a-f]{8}$")
         asked.host = "../a b"
-        self.assertTrue(remote.near_session(asked, ["x"]).folder.name.startswith("ssh:.._a_b:main:"))
-        self.assertEqual(remote.near_session(asked, ["x"]).name, "main")
+        self.assertTrue(ssh.near_session(asked, ["x"]).folder.name.startswith("ssh:.._a_b:main:"))
+        self.assertEqual(ssh.near_session(asked, ["x"]).name, "main")
 
     def test_first_start(self):
         """A session is new here where its server has had one start at most, as far as is known."""
         for starts, is_first in ((None, False), (1, True), (2, False)):
             places = None if starts is None else Places({1: Rect(1, 1, 2, 3)}, 1, starts)
-            self.assertEqual(remote.is_first_start(places), is_first)
+            self.assertEqual(ssh.is_first_start(places), is_first)
 
     def test_carry(self):
         """What `mux ssh` runs there starts the session where the other end knows none, and becomes a relay."""
-        becomes, writes = self.patch_of(remote.os, "execv"), self.patch_of(remote.os, "write")
-        greets = self.patch_of(remote, "read_greeting", return_value="-")
+        becomes, writes = self.patch_of(ssh.os, "execv"), self.patch_of(ssh.os, "write")
+        greets = self.patch_of(ssh, "read_greeting", return_value="-")
         self.refuses("standard input is a terminal; `mux ssh` on another machine spawns this end", "far", "main")
         self.is_terminal = False
         self.patch_of(FolderSession, "process", return_value=17)
         self.mux("far", "main")
         self.assertEqual(self.done, [("kill", "main"), ("launch", "main")])
-        words = [str(remote.TOOLS / "relay"), "--far", "--greeted", "--server", "17", "--dir", str(self.base / "main"), "-"]
+        words = [str(ssh.TOOLS / "relay"), "--far", "--greeted", "--server", "17", "--dir", str(self.base / "main"), "-"]
         becomes.assert_called_once_with(words[0], words)
         self.assertEqual(greets.call_args[0], (0,))
         self.done.clear()
@@ -493,8 +495,8 @@ class Far(Mux):
 
     def test_carry_known(self):
         """One that the other end knew and that has ended isn't started anew."""
-        becomes, writes = self.patch_of(remote.os, "execv"), self.patch_of(remote.os, "write")
-        self.patch_of(remote, "read_greeting", return_value="5e55")
+        becomes, writes = self.patch_of(ssh.os, "execv"), self.patch_of(ssh.os, "write")
+        self.patch_of(ssh, "read_greeting", return_value="5e55")
         self.is_terminal = False
         (self.base / "main").mkdir()
         for runs, name in ((False, "5e55"), (True, "another")):
@@ -516,7 +518,7 @@ class Environment(Mux):
         """The lines for a shell, byte by byte; a session that isn't there, and one of another machine, is refused."""
         out = io.TextIOWrapper(io.BytesIO(), encoding="ascii")
         self.patch_of(mux.sys, "stdout", out)
-        lines = self.patch_of(brought, "shell_lines", return_value=["export DISPLAY=:0", "export SSH_AUTH_SOCK='/a\udcff b'"])
+        lines = self.patch_of(session_environment, "shell_lines", return_value=["export DISPLAY=:0", "export SSH_AUTH_SOCK='/a\udcff b'"])
         self.refuses("no session work is running", "env", "work")
         self.runs.add("work")
         self.assertEqual(self.mux("env", "work"), 0)

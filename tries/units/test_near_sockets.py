@@ -4,9 +4,9 @@ import socket
 import unittest
 
 from aids import Case, StillLoop, read_now
-from roam_live import near_sockets
-from roam_live.near_sockets import MOST_FOLLOWERS, MOST_WAITING, NearSockets
-from roam_live.streams import PipeStreams
+from roam_live.relay import near_sockets
+from roam_live.relay.forwarding import PipeStreams
+from roam_live.relay.near_sockets import MOST_FOLLOWERS, MOST_WAITING, NearSockets
 
 LINES = b"1 1 1 23 39 1\n2 1 41 23 39 1\nfocus 1\nstarts 1 of 64\nwatchers 0 of 16\n"
 

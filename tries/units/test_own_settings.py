@@ -4,33 +4,33 @@ import unittest
 from unittest import mock
 
 from aids import Case
-from roam_live import choices
-from roam_live.display import Display
-from roam_live.loops import Loop
-from roam_live.own_settings import OWN, default_command, settings_path, undone
-from roam_live.program import Fault
-from roam_live.status_row import StatusRow
-from roam_live.status_styles import Styled
+from roam_live.common.errors import Fault
+from roam_live.common.event_loop import Loop
+from roam_live.config import environment as config_environment
+from roam_live.config.status_styles import Styled
+from roam_live.config.user_file import OWN, default_command, settings_path, undone
+from roam_live.frontend.display import Display
+from roam_live.frontend.status_segments import StatusRow
 
 # Lines of a file, a variable of the environment and its value, what is asked, and the answer.
 CHOSEN = (
-    ("set -g prefix C-a", {}, choices.chosen_prefix, "C-a"),
-    ("set -g prefix C-a", {"ROAM_PREFIX": "C-x"}, choices.chosen_prefix, "C-x"),
-    ("", {}, choices.chosen_prefix, "C-b"),
-    ("set -g mouse on", {}, choices.wants_mouse, True),
-    ("set -g mouse on", {"ROAM_MOUSE": "off"}, choices.wants_mouse, False),
-    ("set -g guess never", {}, choices.chosen_guessing, "never"),
-    ("set -g history-limit 5", {}, choices.chosen_history, 5),
-    ("set -g history-limit 5", {"ROAM_HISTORY": "7"}, choices.chosen_history, 7),
-    ("set -g set-clipboard on", {}, choices.sets_clipboard, True),
-    ("set -g set-clipboard off", {}, choices.may_set_clipboard, False),
-    ("", {}, choices.may_set_clipboard, True),
-    ("setw -g mode-keys vi", {}, choices.wants_vi, True),
-    ("setw -g mode-keys emacs", {"EDITOR": "vim"}, choices.wants_vi, False),
-    ("", {"EDITOR": "vim"}, choices.wants_vi, True),
-    ("set -g window-size latest", {}, choices.follows_latest, True),
-    ("", {}, choices.follows_latest, False),
-    ("set -g escape-time 500", {}, lambda: choices.number_of("escape-time", choices.ESCAPE_TIME), 500),
+    ("set -g prefix C-a", {}, config_environment.chosen_prefix, "C-a"),
+    ("set -g prefix C-a", {"ROAM_PREFIX": "C-x"}, config_environment.chosen_prefix, "C-x"),
+    ("", {}, config_environment.chosen_prefix, "C-b"),
+    ("set -g mouse on", {}, config_environment.wants_mouse, True),
+    ("set -g mouse on", {"ROAM_MOUSE": "off"}, config_environment.wants_mouse, False),
+    ("set -g guess never", {}, config_environment.chosen_guessing, "never"),
+    ("set -g history-limit 5", {}, config_environment.chosen_history, 5),
+    ("set -g history-limit 5", {"ROAM_HISTORY": "7"}, config_environment.chosen_history, 7),
+    ("set -g set-clipboard on", {}, config_environment.sets_clipboard, True),
+    ("set -g set-clipboard off", {}, config_environment.may_set_clipboard, False),
+    ("", {}, config_environment.may_set_clipboard, True),
+    ("setw -g mode-keys vi", {}, config_environment.wants_vi, True),
+    ("setw -g mode-keys emacs", {"EDITOR": "vim"}, config_environment.wants_vi, False),
+    ("", {"EDITOR": "vim"}, config_environment.wants_vi, True),
+    ("set -g window-size latest", {}, config_environment.follows_latest, True),
+    ("", {}, config_environment.follows_latest, False),
+    ("set -g escape-time 500", {}, lambda: config_environment.number_of("escape-time", config_environment.ESCAPE_TIME), 500),
     ("set -g default-command 'bash -l'", {"SHELL": "/bin/dash"}, default_command, ["/bin/dash", "-c", "bash -l"]),
     ("", {}, default_command, []),
 )
@@ -43,7 +43,7 @@ class Own(Case):
         self.folder = self.made_folder()
         (self.folder / "roam").mkdir()
         self.file = self.folder / "roam" / "roam.conf"
-        self.addCleanup(choices.choose_by_file, {})
+        self.addCleanup(config_environment.choose_by_file, {})
 
     def read(self, text, **environment):
         """Reads a file with this text."""
@@ -67,14 +67,14 @@ class Own(Case):
         self.read("set -g prefix C-a")
         self.file.unlink()
         self.read(None)
-        self.assertEqual((OWN.found, OWN.line(), choices.BY_FILE), (None, "", {}))
+        self.assertEqual((OWN.found, OWN.line(), config_environment.BY_FILE), (None, "", {}))
         with mock.patch.dict(os.environ, {"XDG_CONFIG_HOME": "here", "HOME": "/home/a"}):
             self.assertEqual(settings_path(), "/home/a/.config/roam/roam.conf")
 
     def test_told(self):
         """One line that isn't done is told as it is, of several how many there are."""
         self.read("set -g prefix C-a\nfoo bar\n")
-        self.assertEqual((OWN.line(), choices.chosen_prefix()), ("roam.conf:2: foo isn't there in roam", "C-a"))
+        self.assertEqual((OWN.line(), config_environment.chosen_prefix()), ("roam.conf:2: foo isn't there in roam", "C-a"))
         self.read("foo\nbind x nosuch\nbind y split-window -Q\nbind C-v split-window -h\n")
         self.assertEqual(OWN.line(), "3 lines of roam.conf aren't done here, which `mux settings` prints")
         self.assertEqual(undone(OWN.found)[2], "roam.conf: y isn't bound: split-window: it has no -Q here")
@@ -88,7 +88,7 @@ class Own(Case):
         other = self.folder / "other.conf"
         other.write_text("set -g mouse off\nbind y next-window\nfoo\n")
         OWN.add(str(other))
-        self.assertEqual((choices.chosen_prefix(), choices.wants_mouse(), OWN.line()),
+        self.assertEqual((config_environment.chosen_prefix(), config_environment.wants_mouse(), OWN.line()),
                          ("C-a", False, "other.conf:3: foo isn't there in roam"))
         self.assertEqual(sorted(OWN.found.bindings), [("prefix", "x"), ("prefix", "y")])
         OWN.add(str(self.folder / "none"))
@@ -99,9 +99,9 @@ class Own(Case):
         self.file.write_text("set -g prefix C-a\n")
         self.file.chmod(0o666)
         self.read(None)
-        self.assertEqual((OWN.line(), choices.chosen_prefix()), ("roam.conf: isn't read: others may write it", "C-b"))
+        self.assertEqual((OWN.line(), config_environment.chosen_prefix()), ("roam.conf: isn't read: others may write it", "C-b"))
         with mock.patch.dict(os.environ, {"ROAM_PREFIX": "F1"}), self.assertRaisesRegex(Fault, "ROAM_PREFIX is 'F1'"):
-            choices.chosen_prefix()
+            config_environment.chosen_prefix()
 
 
 class Row(Case):
@@ -113,18 +113,18 @@ class Row(Case):
         self.loop = Loop(lambda: self.now)
         outer = mock.Mock(**{"size.return_value": (24, 40)})
         outer.waiting = bytearray()
-        self.patch("roam_live.display.OuterTerminal", lambda: outer)
+        self.patch("roam_live.frontend.display.OuterTerminal", lambda: outer)
         self.display = Display(self.loop, lambda line: None)
         self.display.asked, self.display.told_size, self.display.labels = (23, 40), (24, 40), "[1]"
         told = mock.Mock(names={2: ""}, runs={2: "vim"})
         self.front = mock.Mock(display=self.display, number=2, **{"windows.told": told, "panes.aside": ("a title", 0)})
         self.front.session.name = "main:2"
         self.row = StatusRow(self.front, self.loop)
-        self.addCleanup(choices.choose_by_file, {})
+        self.addCleanup(config_environment.choose_by_file, {})
 
     def choose(self, left, right):
         """Goes by formats."""
-        choices.choose_by_file({"status-left": left, "status-right": right})
+        config_environment.choose_by_file({"status-left": left, "status-right": right})
         return self.row.choose()
 
     def test_ends(self):

@@ -7,12 +7,14 @@ import unittest
 from unittest import mock
 
 from aids import Case, StillLoop, read_now
-from roam_live import given, pane_commands, terminal, texts, typed
-from roam_live.given import HELD, KEPT, LOST, MOST_SPENT, MOST_TEXTS, PUT, TOO_LONG, TOO_MANY, GivenText, GivenTexts
-from roam_live.loops import comes
-from roam_live.shells import LONGEST_LINE
-from roam_live.texts import CLOSES, MOST_BYTES, OPENS, cleaned, mark_acts, random_name, without_brackets
-from roam_live.typed import Marks, TypedQueue
+from roam_live.common import tty
+from roam_live.common.event_loop import comes
+from roam_live.host import input_queue, pane, pending_pastes
+from roam_live.host.input_queue import Marks, TypedQueue
+from roam_live.host.pending_pastes import HELD, KEPT, LOST, MOST_SPENT, MOST_TEXTS, PUT, TOO_LONG, TOO_MANY, GivenText, GivenTexts
+from roam_live.host.socket_server import LONGEST_LINE
+from roam_live.protocol import paste_text
+from roam_live.protocol.paste_text import CLOSES, MOST_BYTES, OPENS, cleaned, mark_acts, random_name, without_brackets
 from test_shells_socket import NAMED, Sockets
 
 NAME, OTHER = "0123456789abcdef", "fedcba9876543210"
@@ -98,8 +100,8 @@ class Unread(Case):
         self.loop = StillLoop(lambda: self.now)
         self.texts = GivenTexts(self.loop, lambda name, word: None)
         self.queue = TypedQueue(self.texts, lambda: True)
-        asked = pane_commands.Options(folder="/nowhere", command=["sh"])
-        self.pane = pane_commands.PaneCommand(asked, self.loop, 1, 4, (24, 80), False, "", self.queue)
+        asked = pane.Options(folder="/nowhere", command=["sh"])
+        self.pane = pane.PaneCommand(asked, self.loop, 1, 4, (24, 80), False, "", self.queue)
         self.master, self.slave = os.openpty()
         for end in (self.master, self.slave):
             self.addCleanup(os.close, end)
@@ -117,7 +119,7 @@ class Unread(Case):
 
     def test_dropped(self):
         """What it hasn't read of a text is dropped there, and the interrupt comes at once; what it wrote stays."""
-        for change in (lambda modes: modes, terminal.raw):
+        for change in (lambda modes: modes, tty.raw):
             termios.tcsetattr(self.slave, termios.TCSANOW, change(termios.tcgetattr(self.slave)))
             os.write(self.slave, b"written")
             self.write(NAME, OTHER)
@@ -132,7 +134,7 @@ class Unread(Case):
 
     def test_ahead(self):
         """What is typed ahead isn't dropped where no text was, nor once the program has read those that were."""
-        termios.tcsetattr(self.slave, termios.TCSANOW, terminal.raw(termios.tcgetattr(self.slave)))
+        termios.tcsetattr(self.slave, termios.TCSANOW, tty.raw(termios.tcgetattr(self.slave)))
         self.queue.take(b"ahead\x03")
         self.write()
         self.assertTrue(comes(self.slave, 1))
@@ -151,7 +153,7 @@ class Unread(Case):
     def test_refused(self):
         """Where the other end can't be opened the interrupt comes behind what is there."""
         self.write(NAME)
-        with mock.patch.object(pane_commands.fcntl, "ioctl", side_effect=OSError(25, "none")):
+        with mock.patch.object(pane.fcntl, "ioctl", side_effect=OSError(25, "none")):
             self.queue.take(b"\x03")
         self.assertEqual(self.queue.parts[-1], b"\x03")
 
@@ -228,7 +230,7 @@ class Queues(Case):
                 self.texts.spent.clear()
                 self.give(name, waiting)
             queue.take(b"a" + mark(NAME) + b"b" + mark(OTHER) + b"c")
-            with mock.patch.object(typed, "write", side_effect=lambda end, waiting: taken(got, waiting, 1)):
+            with mock.patch.object(input_queue, "write", side_effect=lambda end, waiting: taken(got, waiting, 1)):
                 got = bytearray()
                 for _ in range(count):
                     queue.write(self.writer)
@@ -375,7 +377,7 @@ class Waiting(Case):
             self.texts.drop(GivenText(f"{number:016x}", b"x", False))
             self.texts.take(GivenText(f"{number + 1:016x}", b"x", False))
         self.assertLessEqual(len(self.texts.spent), MOST_SPENT)
-        self.assertEqual(given.PUT, "put")
+        self.assertEqual(pending_pastes.PUT, "put")
 
 
 class Given(Sockets):

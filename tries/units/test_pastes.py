@@ -3,14 +3,14 @@ import unittest
 from unittest import mock
 
 from aids import Case, StillLoop
-from roam_live import pastes
-from roam_live.following import PAUSES
-from roam_live.given import FULL
-from roam_live.keys import BRACKETS
-from roam_live.pastes import (BEHIND_IT, COUNTS, DROPPED, DROPS, ENDS, FULL_BEHIND, HANDING, LOST_WORDS, MOST_BEHIND, NOT_TAKEN, SHORT,
-                              TOO_LONG, Pastes, weight)
-from roam_live.shells_link import GIVES_AGAIN, LATER, MOST_GIVING, UNTOLD, ShellsLink
-from roam_live.texts import mark_acts
+from roam_live.frontend import paste
+from roam_live.frontend.paste import (BEHIND_IT, COUNTS, DROPPED, DROPS, ENDS, FULL_BEHIND, HANDING, LOST_WORDS, MOST_BEHIND, NOT_TAKEN,
+                                      SHORT, TOO_LONG, Pastes, weight)
+from roam_live.host.pending_pastes import FULL
+from roam_live.input.keys import BRACKETS
+from roam_live.protocol.host_client import GIVES_AGAIN, LATER, MOST_GIVING, UNTOLD, ShellsLink
+from roam_live.protocol.panes_client import PAUSES
+from roam_live.protocol.paste_text import mark_acts
 from test_display import Person, PlayedPanes, StartLink, places
 from test_shells_socket import Sockets
 
@@ -57,7 +57,7 @@ class Handed(Case):
         self.why = ""
         self.pastes = Pastes(self.link, self.panes, self.shells, self.loop, lambda: self.why, self.said.append)
         self.names = iter(f"{number:016x}" for number in range(1, 1000))
-        self.patch_of(pastes, "random_name", side_effect=lambda: next(self.names))
+        self.patch_of(paste, "random_name", side_effect=lambda: next(self.names))
 
     def paste(self, text, why=""):
         """Pastes a text."""
@@ -96,15 +96,15 @@ class Handed(Case):
     def test_unspread(self):
         """Where what keeps the shells takes no texts, or not so many, the pane in focus has it alone, which is told."""
         self.pastes.spreads = lambda: [3, 1]
-        for takes, room, why in ((False, None, pastes.NO_TEXTS), (True, 3, pastes.NO_ROOM)):
+        for takes, room, why in ((False, None, paste.NO_TEXTS), (True, 3, paste.NO_ROOM)):
             self.shells.takes, self.shells.room = takes, room
             self.paste("ab")
-            self.assertEqual((self.link.lines.pop(), self.said.pop()), ("paste ; char 61 ; char 62", pastes.ALONE.format(why)))
+            self.assertEqual((self.link.lines.pop(), self.said.pop()), ("paste ; char 61 ; char 62", paste.ALONE.format(why)))
         self.shells.takes, self.shells.room = True, None
         self.paste("ab")
         self.tell(2, UNTOLD)
         self.tell(1, UNTOLD)
-        self.assertEqual((self.link.lines, self.said), (["paste ; char 61 ; char 62"], [pastes.ALONE.format(pastes.NO_TEXTS)]))
+        self.assertEqual((self.link.lines, self.said), (["paste ; char 61 ; char 62"], [paste.ALONE.format(paste.NO_TEXTS)]))
 
     def test_short(self):
         """Up to 40 characters go as acts, between brackets where the program wants them; one more is handed over."""
@@ -332,8 +332,8 @@ class Handed(Case):
 
     def test_too_long(self):
         """More than 16 MB is told of, and not kept; so is what is that long in UTF-8, or with what waits."""
-        self.assertEqual((pastes.MOST_BYTES, MOST_GIVING), (1 << 24, 1 << 25))
-        self.patch_of(pastes, "MOST_BYTES", 1000)
+        self.assertEqual((paste.MOST_BYTES, MOST_GIVING), (1 << 24, 1 << 25))
+        self.patch_of(paste, "MOST_BYTES", 1000)
         for text, before in (("x" * 1001, 0), ("\u4e2d" * 500, 0), ("x" * 990, 1)):
             if before:
                 self.paste(LONG)

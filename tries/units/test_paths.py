@@ -5,12 +5,12 @@ import unittest
 from unittest import mock
 
 from aids import Case
-from roam_live import paths
-from roam_live.bundles import MOST_BUNDLES, PIECE
-from roam_live.paths import (ASKS, ASKS_LARGE, FIRST, HEAD, HELD, LEAST, MOMENT, HeardPackets, Best, Path, PathPace, SentPacket, States,
-                             Trips, frames_in)
-from roam_live.relayed import ENDED, KILLED, LEAVES, Waiting
-from roam_live.sealed import LONGEST_PACKET, LONGEST_TEXT, MOST_PACKETS, Seal
+from roam_live.relay import udp_path
+from roam_live.relay.aead_packets import LONGEST_PACKET, LONGEST_TEXT, MOST_PACKETS, Seal
+from roam_live.relay.batches import MOST_BUNDLES, PIECE
+from roam_live.relay.frames import ENDED, KILLED, LEAVES, Waiting
+from roam_live.relay.udp_path import (ASKS, ASKS_LARGE, FIRST, HEAD, HELD, LEAST, MOMENT, Best, HeardPackets, Path, PathPace, SentPacket,
+                                      States, Trips, frames_in)
 from test_bundles import datagrams, noise, shown, typed
 from test_sealed import Foolish
 
@@ -57,7 +57,7 @@ class Net(Case):
         self.bytes, self.last = {self.near: 0, self.far: 0}, {}
         self.loses = lambda path, packet: False
         self.is_open = True
-        self.patch("roam_live.paths.udp_end", return_value=None)
+        self.patch("roam_live.relay.udp_path.udp_end", return_value=None)
 
     def other(self, path):
         """The other end."""
@@ -266,7 +266,7 @@ class Lives(Net):
         self.begin()
         self.is_open = False
         self.near.is_alone = True
-        with mock.patch("roam_live.paths.udp_end", side_effect=another):
+        with mock.patch("roam_live.relay.udp_path.udp_end", side_effect=another):
             self.run_for(32)
         self.assertEqual(len(ends), 3)
         self.assertEqual(self.near.end.place, ("::1", 3, 0, 0))
@@ -611,7 +611,7 @@ class Parts(Case):
             pace.went(1200)
             went += 1
         self.assertEqual((went, pace.window()), (12, FIRST))
-        self.assertAlmostEqual(pace.wait_time(1200), 1200 / (LEAST / paths.ROUND))
+        self.assertAlmostEqual(pace.wait_time(1200), 1200 / (LEAST / udp_path.ROUND))
         self.now += pace.wait_time(1200)
         self.assertTrue(pace.lets(1200, self.now))
         pace.note(SentPacket(self.now - 0.1, 1200, (), 0, 0.0), self.now, False)
@@ -656,7 +656,7 @@ class Parts(Case):
     def test_trips(self):
         """Trip and spread are smoothed; a packet is lost sooner where a later one came, and later the more often nothing is told."""
         trips = Trips()
-        self.assertEqual((trips.patience(HELD, False), trips.round()), (paths.LATEST, paths.ROUND))
+        self.assertEqual((trips.patience(HELD, False), trips.round()), (udp_path.LATEST, udp_path.ROUND))
         trips.note(0.1)
         self.assertAlmostEqual(trips.patience(0.12, True), 0.2)
         self.assertAlmostEqual(trips.patience(0.12, False), 0.42)
@@ -666,7 +666,7 @@ class Parts(Case):
         trips.tries = 1
         self.assertAlmostEqual(trips.patience(0.025, False), 0.25, places=3)
         trips.tries = 5
-        self.assertAlmostEqual(trips.patience(0.025, False), paths.LATEST, places=3)
+        self.assertAlmostEqual(trips.patience(0.025, False), udp_path.LATEST, places=3)
 
     def test_loss(self):
         """Loss is known within some fifty packets; what came after all wasn't lost."""
@@ -712,7 +712,7 @@ class Parts(Case):
         self.assertEqual((arrivals.told_at, arrivals.peers(self.now + 2, 9)), (None, []))
         for peer in range(20_000):
             arrivals.note_peer(peer, self.now, True)
-        self.assertEqual((len(arrivals.whole_until), len(arrivals.news)), (paths.MOST_TOLD, paths.MOST_TOLD))
+        self.assertEqual((len(arrivals.whole_until), len(arrivals.news)), (udp_path.MOST_TOLD, udp_path.MOST_TOLD))
 
     def test_mask(self):
         """A mask has 32 bytes at most."""
@@ -744,7 +744,7 @@ class LateAnswers(Net):
         self.assertGreater(self.far.trips.mean, 0.3)
         self.run_for(4)
         self.assertLess(self.far.trips.lost, 0.12)
-        self.assertLessEqual(len(self.far.gone), paths.MOST_GONE)
+        self.assertLessEqual(len(self.far.gone), udp_path.MOST_GONE)
 
     def test_narrow(self):
         """Over 100 kB a second with a long queue a stream of large screens takes what there is, and a key is shown soon after."""

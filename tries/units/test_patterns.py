@@ -19,7 +19,7 @@ class Patterns(Case):
             "a.py": 'import re\nMARKS = re.compile("x")\n', "b.py": 'def f(a: re.Match) -> None:\n    return b"\\x1b[2J" in a\n',
             "c.py": "class C:\n    def f(self):\n        return re.sub(r'\\x1b', '', self.painted)\n", "d.py": "from re import sub\n",
             "e.py": "import re as r\n", "f": "#!/bin/sh\nprintf '\\033c'\n", "g": "#!/usr/bin/env python3\nX = '\\033c'\n",
-            "h.py": "def f(text):\n    return text.find(terminal.RESET)\n", "i.py": "from roam_live.terminal import RESET\n",
+            "h.py": "def f(text):\n    return text.find(terminal.RESET)\n", "i.py": "from roam_live.common.tty import RESET\n",
             "j.py": 'def f(found: re.Match[str]) -> None:\n    """Nothing."""\n', "k.py": 'X: "re.Pattern" = f"{1}"\n',
         }
         for name, text in texts.items():
@@ -31,4 +31,4 @@ class Patterns(Case):
         printed = self.printed()
         self.assertEqual(patterns.main(), 1)
         self.assertIn("NOT LISTED", printed.getvalue())
-        self.assertIn("listed, and not there any more: roam_live/keys.py WHOLE ESC", printed.getvalue())
+        self.assertIn("listed, and not there any more: roam_live/input/keys.py WHOLE ESC", printed.getvalue())

@@ -6,10 +6,10 @@ from unittest import mock
 
 from aids import Case, loaded
 from painted import PaintedCells, cells_of_rows, width_of
-from roam_live import cells as told_cells
-from roam_live.cells import ShownCells, Style, styled
-from roam_live.program import Fault, Home
-from roam_live.told import NoRecord
+from roam_live.common.errors import Fault, Home
+from roam_live.protocol import screen_cells
+from roam_live.protocol.display_records import NoRecord
+from roam_live.protocol.screen_cells import ShownCells, Style, styled
 
 picture = loaded("picture")
 PLACE = "{http://www.w3.org/2000/svg}"
@@ -50,7 +50,7 @@ class Told(Case):
 
     def test_decode(self):
         """Each has its style, which SGR before a cell changes from that of the one before, and the default is before the first."""
-        shown = told_cells.cells_of(self.SCREEN.encode())
+        shown = screen_cells.cells_of(self.SCREEN.encode())
         bold, red, plain = Style(frozenset({"bold"})), Style(frozenset({"bold"}), 1), Style()
         self.assertEqual([shown.cells[1, col] for col in range(1, 5)], [("a", bold), ("\u4e2d", red), ("", red), (" ", plain)])
         self.assertEqual([shown.cells[2, col] for col in range(1, 5)],
@@ -60,10 +60,10 @@ class Told(Case):
     def test_none(self):
         for text in ("", "2 4 1 3 hidden\na\n", "1 1 1 1 visible\n\x1b[xm \n", "1 1 1 1 visible\n\x1b[1\n", "1 1 1 1 visible\n\x1b[1;m\n"):
             if text.endswith(";m\n"):
-                self.assertEqual(told_cells.cells_of(text.encode()).cells, {(1, 1): ("", Style())})
+                self.assertEqual(screen_cells.cells_of(text.encode()).cells, {(1, 1): ("", Style())})
                 continue
             with self.assertRaises(NoRecord, msg=text):
-                told_cells.cells_of(text.encode())
+                screen_cells.cells_of(text.encode())
 
 
 class Shown(Case):

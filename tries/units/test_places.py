@@ -4,8 +4,8 @@ import time
 import unittest
 
 from aids import Case
-from roam_live import places
-from roam_live.places import Places, Rect, ToldPanes
+from roam_live.protocol import panes
+from roam_live.protocol.panes import Places, Rect, ToldPanes
 
 # What is no text for the clipboard.
 NO_CLIPS = ("Y", "YQ", "YQ=", "YQ===", "=", "====", "YQ==YQ==", "Y-==", "YQ==\n", "YQ==\x07", "\x1b\\\\\\", "?", "\u00e9AAA",
@@ -34,7 +34,7 @@ class Labels(Case):
     def test_none(self):
         """Rectangles through which no cut goes, as none of a session are, are in the order of their numbers."""
         pinwheel = {2: Rect(1, 1, 3, 6), 1: Rect(1, 7, 6, 3), 3: Rect(4, 4, 3, 3), 5: Rect(4, 1, 6, 3), 4: Rect(7, 4, 3, 6)}
-        self.assertEqual(places.in_order(pinwheel), [1, 2, 3, 4, 5])
+        self.assertEqual(panes.in_order(pinwheel), [1, 2, 3, 4, 5])
 
 
 class Modes(Case):
@@ -186,7 +186,7 @@ class Told(Case):
 
         server = threading.Thread(target=serve, daemon=True)
         server.start()
-        found = places.asked_places(folder / "panes", seconds)
+        found = panes.asked_places(folder / "panes", seconds)
         server.join(5)
         return found
 
@@ -205,11 +205,11 @@ class Told(Case):
         self.assertIsNone(self.asked(seconds=0.05))
         self.assertIsNone(self.asked(b"1 1 1 23 80 1\n", ends=True))
         self.assertIsNone(self.asked(b"x" * 4096, seconds=0.05))
-        self.assertIsNone(places.asked_places(self.made_folder() / "panes", 0.05))
+        self.assertIsNone(panes.asked_places(self.made_folder() / "panes", 0.05))
 
     def test_limits(self):
         """A server knows 64 starts that edit, and a session has nine panes."""
-        self.assertEqual((places.MOST_STARTS, places.MOST_PANES), (64, 9))
+        self.assertEqual((panes.MOST_STARTS, panes.MOST_PANES), (64, 9))
 
 
 if __name__ == "__main__":

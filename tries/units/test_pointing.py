@@ -1,8 +1,8 @@
 """What a person points at: reports as acts for the programs in panes, on a terminal that shows a part of the session."""
 from aids import Case
-from roam_live.mouse import report_of
-from roam_live.places import Places, Rect
-from roam_live.told import ToldRecord
+from roam_live.input.mouse_reports import report_of
+from roam_live.protocol.display_records import ToldRecord
+from roam_live.protocol.panes import Places, Rect
 from test_display import Person
 
 # A pane to the left over all rows, and two beside it, one above the other; 1 is in focus.

@@ -6,22 +6,24 @@ import sys
 from unittest import mock
 
 from aids import Case, StillLoop, record
-from roam_live import copying, last_row, preloading
-from roam_live.preloading import BEGINS, MODULES, REPLACED, STEP, Preloading
+from roam_live.frontend import preload, status_line
+from roam_live.frontend.copymode import controller
+from roam_live.frontend.preload import BEGINS, MODULES, REPLACED, STEP, Preloading
 from test_display import painting
 from test_front_end import Fronts
 
-LIVE = pathlib.Path(preloading.__file__).resolve().parent.parent
+LIVE = pathlib.Path(preload.__file__).resolve().parents[2]
 
 # What a process has loaded in which a front end runs: `mux`, or `attach`.
-ROOTS = ("roam_live.front_end", "roam_live.sessions", "roam_live.ports")
+ROOTS = ("roam_live.frontend.app", "roam_live.session.sessions", "roam_live.session.port_session")
 
 
 def names_of(node):
     """The modules that a statement imports."""
     if isinstance(node, ast.Import):
         return [one.name for one in node.names]
-    return [f"roam_live.{one.name}" for one in node.names] if node.module == "roam_live" else [node.module]
+    named = [f"{node.module}.{one.name}" for one in node.names]
+    return [name if (LIVE / f"{name.replace('.', '/')}.py").exists() else node.module for name in named]
 
 
 def imports(path):
@@ -123,7 +125,8 @@ class Gone(Fronts):
         """A key that needs a module that is gone is told of, and the next ones are typed."""
         start = self.connect()
         self.paints()
-        with mock.patch.object(copying.Copying, "open", side_effect=ModuleNotFoundError("No module named 'roam_live.copy_keys'")):
+        gone = ModuleNotFoundError("No module named 'roam_live.frontend.copymode.keys'")
+        with mock.patch.object(controller.Copying, "open", side_effect=gone):
             self.type(b"\x02[x")
         self.assertEqual((self.front.display.told, self.front.left), (REPLACED, None))
         self.assertIn(b"char 78\n", start.recv(9999))
@@ -146,5 +149,5 @@ class Gone(Fronts):
 
     def test_width(self):
         """A row is written without the table of widths."""
-        with mock.patch.dict(sys.modules, {"roam_live.copy_rows": None}):
-            self.assertEqual((last_row.columns("a\u00e9"), last_row.fitted("\u4e2d\u4e2d", 3)), (3, "\u4e2d "))
+        with mock.patch.dict(sys.modules, {"roam_live.frontend.copymode.rows": None}):
+            self.assertEqual((status_line.columns("a\u00e9"), status_line.fitted("\u4e2d\u4e2d", 3)), (3, "\u4e2d "))

@@ -9,17 +9,20 @@ import unittest
 from unittest import mock
 
 from aids import Case, read_now, record
-from roam_live import captures, carriers, ports, processes, sending, sessions, window_shells, windows
-from roam_live.carriers import LONGEST, SHORTEST, Carrier
-from roam_live.links import StartLink
-from roam_live.loops import READ, WRITE
-from roam_live.parsing import WordParser
-from roam_live.ports import PortSession
-from roam_live.processes import Processes, is_note
-from roam_live.program import Fault, Home, begun
-from roam_live.places import Places, Rect
-from roam_live.relayed import greeting, read_greeting
-from roam_live.sessions import VERSION, NearSession, FolderSession
+from roam_live.cli import capture, send
+from roam_live.cli.parsing import WordParser
+from roam_live.common.errors import Fault, Home, begun
+from roam_live.common.event_loop import READ, WRITE
+from roam_live.host import window, windows
+from roam_live.protocol import datagram_stream
+from roam_live.protocol.client_link import StartLink
+from roam_live.protocol.datagram_stream import LONGEST, SHORTEST, Carrier
+from roam_live.protocol.panes import Places, Rect
+from roam_live.relay.frames import greeting, read_greeting
+from roam_live.session import port_session, processes, sessions
+from roam_live.session.port_session import PortSession
+from roam_live.session.processes import Processes, is_note
+from roam_live.session.sessions import VERSION, FolderSession, NearSession
 
 OWN = [os.getpid(), begun(os.getpid())]
 
@@ -99,7 +102,7 @@ class Read(Based):
 
     def test_busy(self):
         """What runs is known by what keeps the shells."""
-        busy = self.patch("roam_live.programs.busy_panes", return_value={1: "vi"})
+        busy = self.patch("roam_live.session.foreground.busy_panes", return_value={1: "vi"})
         self.note(server=OWN, shells=OWN)
         self.assertEqual(self.session().busy(), {1: "vi"})
         busy.assert_called_once_with(os.getpid())
@@ -374,7 +377,7 @@ class Spawned(Based):
 
     def test_ended(self):
         """SIGTERM ends a process, and SIGKILL one that doesn't end in three seconds, which is more than a keeper needs."""
-        self.assertGreater(processes.END_WAIT, windows.ALL_END + window_shells.LOGS_END)
+        self.assertGreater(processes.END_WAIT, windows.ALL_END + window.LOGS_END)
         self.stop_clock()
         kills, left = self.patch("os.kill"), [7, 7, 7]
         self.patch_of(Processes, "process", lambda session, role: left[0] if left else None)
@@ -514,13 +517,13 @@ class Ports(Case):
         start.send_signal(signal.SIGSTOP)
         os.waitid(os.P_PID, start.pid, os.WSTOPPED | os.WNOWAIT)
         self.session.start = start
-        self.patch_of(ports, "END_WAIT", 0.05)
+        self.patch_of(port_session, "END_WAIT", 0.05)
         self.session.close()
         self.assertEqual(start.returncode, -signal.SIGKILL)
 
     def test_revived(self):
         """Its start is started where it doesn't run, and ends with the server or the session."""
-        started = self.patch_of(ports.subprocess, "Popen", return_value=self.process())
+        started = self.patch_of(port_session.subprocess, "Popen", return_value=self.process())
         with mock.patch.object(Home, "attach_words", lambda _, more: ["roam", *more]):
             self.session.revive()
             self.session.revive()
@@ -544,14 +547,14 @@ class Sends(Based):
     def setUp(self):
         super().setUp()
         self.stop_clock()
-        self.opens = self.patch_of(sending, "opened")
+        self.opens = self.patch_of(send, "opened")
         self.link = self.opens.return_value = StartLink(self.folder / "terminals", False)
         self.link.peer, self.start = self.pair()
         self.link.records.begun = True
-        self.runs = self.patch_of(sending.subprocess, "run", return_value=mock.Mock(returncode=0))
-        self.patch("roam_live.program.program", return_value="/roam")
+        self.runs = self.patch_of(send.subprocess, "run", return_value=mock.Mock(returncode=0))
+        self.patch("roam_live.common.errors.program", return_value="/roam")
         self.answers, self.asked = [], []
-        self.patch("roam_live.links.ready", self.ready)
+        self.patch("roam_live.protocol.client_link.ready", self.ready)
 
     def ready(self, link, events, seconds):
         """What a start does while it is waited for: the next of its answers, where what is given is taken."""
@@ -570,7 +573,7 @@ class Sends(Based):
         """They are read by a start that takes no turn, and typed once all can be done; it ends once the session has taken all of them."""
         self.answers = [record("paint", data=b"x"), b"", record("taken", 1), record("taken", 2)]
         self.link.lines = 1
-        self.assertEqual(sending.send(self.session(), ["a", "Up"]), 0)
+        self.assertEqual(send.send(self.session(), ["a", "Up"]), 0)
         words = ["/roam", "attach", "--dir", str(self.folder), "--keys", "/dev/stdin", "--turns", "0"]
         self.assertEqual((self.runs.call_args[0][0], self.runs.call_args[1]["input"]), (words, b"char 61\nkey up\n"))
         self.assertFalse(self.opens.call_args[0][1])
@@ -579,16 +582,16 @@ class Sends(Based):
     def test_slow(self):
         """Ten seconds may pass between two that are taken."""
         self.link.lines, self.answers = 2, [b""] * 90 + [record("taken", 1)] + [b""] * 90 + [record("taken", 3)]
-        self.assertEqual((sending.send(self.session(), ["char 61"]), sending.SEND_WAIT), (0, 10.0))
+        self.assertEqual((send.send(self.session(), ["char 61"]), send.SEND_WAIT), (0, 10.0))
 
     def test_no_act(self):
         """What is no act is named, and none is typed."""
         self.runs.return_value = mock.Mock(returncode=1, stderr=b"roam: line 2: what is this\nmore\n")
         with self.assertRaisesRegex(Fault, r"^'b\\\\nc' is no act, which the page roam\(1\) lists, and no key. None was typed$"):
-            sending.send(self.session(), ["a", "b\nc"])
+            send.send(self.session(), ["a", "b\nc"])
         self.runs.return_value.stderr = b"roam: no server\nx\n"
         with self.assertRaisesRegex(Fault, "^roam: no server$"):
-            sending.send(self.session(), ["a"])
+            send.send(self.session(), ["a"])
         self.opens.assert_not_called()
 
     def test_not_done(self):
@@ -596,12 +599,12 @@ class Sends(Based):
         told = [Places({1: Rect(1, 1, 23, 80)}, 1, 1)]
         self.patch_of(FolderSession, "places", lambda _: told[0])
         with self.assertRaisesRegex(Fault, "^'focus 2' can't be done: there is no pane 2. None was typed$"):
-            sending.send(self.session(), ["focus 2"])
+            send.send(self.session(), ["focus 2"])
         self.assertTrue(101.0 < self.now <= 101.1)
         self.opens.assert_not_called()
         self.answers = [record("taken", 1)]
         self.patch("time.sleep", lambda _: told.insert(0, Places({1: Rect(1, 1, 9, 9), 2: Rect(1, 11, 9, 9)}, 1, 1)))
-        self.assertEqual(sending.send(self.session(), ["focus 2"]), 0)
+        self.assertEqual(send.send(self.session(), ["focus 2"]), 0)
 
     def test_refused(self):
         """Why not all is taken is told: a line is refused, the start ends, nothing more is taken; not where the session ended by it."""
@@ -615,13 +618,13 @@ class Sends(Based):
             words = f"session main: {told}" if told else "session main takes no more acts; some may have been typed"
             with mock.patch.object(FolderSession, "runs", return_value=runs):
                 if told is None:
-                    self.assertEqual(sending.send(session, ["char 61"]), 0)
+                    self.assertEqual(send.send(session, ["char 61"]), 0)
                     continue
                 with self.assertRaisesRegex(Fault, f"^{words}$"):
-                    sending.send(session, ["char 61"])
+                    send.send(session, ["char 61"])
         self.opens.side_effect = Fault("no more terminals are taken: 16 are there")
         with self.assertRaisesRegex(Fault, "^no more terminals are taken: 16 are there$"):
-            sending.send(self.session(), ["char 61"])
+            send.send(self.session(), ["char 61"])
 
 
 class Captures(Based):
@@ -632,7 +635,7 @@ class Captures(Based):
     def setUp(self):
         super().setUp()
         self.stop_clock()
-        self.opens = self.patch_of(captures, "opened")
+        self.opens = self.patch_of(capture, "opened")
         self.link = self.opens.return_value = StartLink(self.folder / "terminals", True)
         self.link.peer, self.start = self.pair()
         self.link.has_come = self.link.records.begun = True
@@ -640,7 +643,7 @@ class Captures(Based):
     def capture(self, told, is_drawn=False):
         """What capture does where a start tells this."""
         self.start.send(told)
-        return captures.capture(self.session(), is_drawn)
+        return capture.capture(self.session(), is_drawn)
 
     def test_printed(self):
         """Without the spaces at their ends, and wide characters in their columns."""
@@ -658,9 +661,9 @@ class Captures(Based):
         printed.buffer.write.assert_called_once_with(f"{syllable}x\n".encode())
 
     def test_drawn(self):
-        with mock.patch.object(captures.subprocess, "run", return_value=mock.Mock(returncode=3)) as runs:
+        with mock.patch.object(capture.subprocess, "run", return_value=mock.Mock(returncode=3)) as runs:
             self.assertEqual(self.capture(record("screen", data=self.SCREEN), True), 3)
-        self.assertEqual((runs.call_args[0][0], runs.call_args[1]["input"]), ([str(captures.TOOLS / "picture")], self.SCREEN))
+        self.assertEqual((runs.call_args[0][0], runs.call_args[1]["input"]), ([str(capture.TOOLS / "picture")], self.SCREEN))
         self.assertEqual(read_now(self.start), b"look sgr\n")
 
     def test_none(self):
@@ -679,13 +682,13 @@ class Captures(Based):
             self.pass_time(seconds)
             return 0
 
-        with mock.patch("sys.stdout") as printed, mock.patch("roam_live.links.ready", ready):
-            captures.capture(self.session(), False)
+        with mock.patch("sys.stdout") as printed, mock.patch("roam_live.protocol.client_link.ready", ready):
+            capture.capture(self.session(), False)
             printed.buffer.write.assert_called_once_with("ab  c\n\n \u4e2dx\n".encode())
             self.assertEqual((round(self.now, 3), read_now(self.start)), (100.04, b"look\n" * 3))
             self.link.peer, self.start = self.pair()
             told += [blank] * 1000
-            captures.capture(self.session(), False)
+            capture.capture(self.session(), False)
             self.assertTrue(105 <= self.now < 105.1, self.now)
             printed.buffer.write.assert_called_with(b"\n")
 
@@ -694,12 +697,12 @@ class Captures(Based):
         self.start.send(record("refused", 3, words="bad act"))
         self.start.close()
         with self.assertRaisesRegex(Fault, "^the client start refused a line: bad act$"):
-            captures.capture(self.session(), False)
+            capture.capture(self.session(), False)
         self.link.peer, self.start = self.pair()
         self.link.forget()
-        with mock.patch("roam_live.links.ready", lambda *_: self.pass_time(1) or 0):
+        with mock.patch("roam_live.protocol.client_link.ready", lambda *_: self.pass_time(1) or 0):
             with self.assertRaisesRegex(Fault, "^the client start tells nothing$"):
-                captures.capture(self.session(), False)
+                capture.capture(self.session(), False)
         self.assertEqual(self.now, 105.0)
         self.assertIsNone(self.link.peer)
 
@@ -739,8 +742,8 @@ class Carried(Case):
             one, other = self.pair()
             other.send(length.to_bytes(2, "big") + bytes(length))
             self.assertEqual(Carrier(one).received(), [bytes(length)] if is_one else None, length)
-            self.assertEqual(carriers.is_datagram(self.datagram(length)[:length]), is_one, length)
-        self.assertFalse(carriers.is_datagram(b"RX" + bytes(60)))
+            self.assertEqual(datagram_stream.is_datagram(self.datagram(length)[:length]), is_one, length)
+        self.assertFalse(datagram_stream.is_datagram(b"RX" + bytes(60)))
         self.other.close()
         self.assertIsNone(self.carrier.received())
 
@@ -758,7 +761,7 @@ class Carried(Case):
         self.carrier.send(self.datagram(100, 1))
         self.assertEqual(len(self.carrier.going), 0)
         self.carrier.send(self.datagram(100, 0))
-        self.carrier.going += bytes(carriers.MOST)
+        self.carrier.going += bytes(datagram_stream.MOST)
         before = len(self.carrier.going)
         self.carrier.send(self.datagram(100, 1))
         self.assertEqual(len(self.carrier.going), before)

@@ -8,10 +8,13 @@ import socket
 from unittest import mock
 
 from aids import Case, read_now
-from roam_live import (carriers, choices, ends, far, following, lasting, links, logs, loops, near, program, programs, relayed,
-                       sessions, watches, words)
-from roam_live.loops import Loop
-from roam_live.program import Fault, Home
+from roam_live.common import errors, event_loop, files as common_files, text as common_text
+from roam_live.common.errors import Fault, Home
+from roam_live.common.event_loop import Loop
+from roam_live.config import environment
+from roam_live.protocol import client_link, datagram_stream, panes_client
+from roam_live.relay import common, far, frames, near
+from roam_live.session import foreground, host_watchdog, sessions, tmp_keepalive
 
 
 class Programs(Case):
@@ -25,26 +28,26 @@ class Programs(Case):
             path.touch()
         for path in files[2:]:
             path.chmod(0o755)
-        self.patch_of(program, "PLACES", tuple(files))
+        self.patch_of(errors, "PLACES", tuple(files))
         self.environment(ROAM=None)
-        self.assertEqual(program.program(), str(files[2]))
+        self.assertEqual(errors.program(), str(files[2]))
         self.environment(ROAM=str(files[3]))
-        self.assertEqual(program.program(), str(files[3]))
+        self.assertEqual(errors.program(), str(files[3]))
         for named in (files[0], files[1], folder):
             self.environment(ROAM=str(named))
             with self.assertRaisesRegex(Fault, f"^{named} isn't there; make builds it$"):
-                program.program()
+                errors.program()
         self.environment(ROAM=None)
-        self.patch_of(program, "PLACES", tuple(files[:2]))
+        self.patch_of(errors, "PLACES", tuple(files[:2]))
         with self.assertRaisesRegex(Fault, f"^{files[0]} isn't there; make builds it$"):
-            program.program()
+            errors.program()
 
     def test_ids(self):
         """An id is 1 to 16 hexadecimal digits; a new one has 15, of which the first is none."""
         for word, is_one in (("5e55", True), ("0", True), ("ABCdef0123456789", True), ("ABCdef01234567890", False), ("", False),
                              ("g", False), ("\u0663", False)):
-            self.assertEqual(program.is_id(word), is_one, word)
-        found = {program.random_id() for _ in range(200)}
+            self.assertEqual(errors.is_id(word), is_one, word)
+        found = {errors.random_id() for _ in range(200)}
         self.assertEqual((len(found), {len(one) for one in found}), (200, {15}))
         self.assertFalse([one for one in found if one[0] in "01234567"])
 
@@ -65,7 +68,7 @@ class Homes(Case):
 
     def test_attach_words(self):
         """No id stands in a process's words where the folder keeps others out."""
-        self.patch_of(program, "program", return_value="/roam")
+        self.patch_of(errors, "program", return_value="/roam")
         self.assertEqual(Home(folder="/d").attach_words(["--watch"]), ["/roam", "attach", "--dir", "/d", "--watch"])
         words = Home(port=9, session="5e55").attach_words(["--watch"])
         self.assertEqual((words[:7], len(words[7]), words[8:]),
@@ -89,7 +92,7 @@ class Homes(Case):
             port = one.getsockname()[1]
             self.assertTrue(Home(port=port, session="0").is_served())
             self.assertEqual(one.recv(10), b"\0")
-        self.assertFalse(program.is_port_served(port))
+        self.assertFalse(errors.is_port_served(port))
         self.assertEqual(Home(port=port, session="0").why_unserved(), "")
 
 
@@ -104,67 +107,67 @@ class Waits(Case):
         """A socket that isn't there yet is waited for ten seconds, and after half of one that is said, once."""
         path = self.made_folder() / "clients"
         with self.assertRaisesRegex(Fault, f"^{path}: No such file or directory$"):
-            program.connected(path)
+            errors.connected(path)
         self.assertTrue(110.0 <= self.now < 110.1)
         self.assertEqual(self.said.getvalue().count(f"waiting for {path}\n"), 1)
         self.now = 100.0
         self.said.truncate(0)
         tries = [FileNotFoundError(2, "none")] * 20 + [ConnectionRefusedError(111, "none"), BlockingIOError(11, "full"), mock.sentinel.peer]
-        with mock.patch.object(program, "connected_now", side_effect=tries):
-            self.assertIs(program.connected(path), mock.sentinel.peer)
+        with mock.patch.object(errors, "connected_now", side_effect=tries):
+            self.assertIs(errors.connected(path), mock.sentinel.peer)
         self.assertEqual(self.said.getvalue(), "")
 
     def test_refused(self):
         """What won't come isn't waited for."""
-        with mock.patch.object(program, "connected_now", side_effect=OSError(24, "Too many open files")):
+        with mock.patch.object(errors, "connected_now", side_effect=OSError(24, "Too many open files")):
             with self.assertRaisesRegex(Fault, "^x: Too many open files$"):
-                program.connected("x")
+                errors.connected("x")
         self.assertEqual(self.now, 100.0)
 
     def test_in(self):
-        with mock.patch.object(program, "connected_now", side_effect=BlockingIOError(11, "full")) as connects:
+        with mock.patch.object(errors, "connected_now", side_effect=BlockingIOError(11, "full")) as connects:
             with self.assertRaises(BlockingIOError):
-                program.connected_in("x", 0.5)
+                errors.connected_in("x", 0.5)
         self.assertTrue(0.5 <= self.now - 100 <= 0.52 and connects.call_count >= 50)
-        with mock.patch.object(program, "connected_now", side_effect=[BlockingIOError(11, "full"), 5]):
-            self.assertEqual(program.connected_in("x", 0.5), 5)
+        with mock.patch.object(errors, "connected_now", side_effect=[BlockingIOError(11, "full"), 5]):
+            self.assertEqual(errors.connected_in("x", 0.5), 5)
 
 
 class Begun(Case):
     """Processes by their begin."""
 
     def test_own(self):
-        own = program.begun(os.getpid())
+        own = errors.begun(os.getpid())
         self.assertEqual(own, int(pathlib.Path("/proc/self/stat").read_text(encoding="utf-8").rpartition(")")[2].split()[19]))
-        self.assertTrue(program.is_running(os.getpid(), own))
-        self.assertFalse(program.is_running(os.getpid(), own + 1) or program.is_running(os.getpid(), None))
-        self.assertIsNone(program.begun(1 << 30))
+        self.assertTrue(errors.is_running(os.getpid(), own))
+        self.assertFalse(errors.is_running(os.getpid(), own + 1) or errors.is_running(os.getpid(), None))
+        self.assertIsNone(errors.begun(1 << 30))
 
     def test_ended(self):
         """What is left of one that has ended is none."""
         process = self.process("true")
         os.waitid(os.P_PID, process.pid, os.WEXITED | os.WNOWAIT)
-        self.assertIsNone(program.begun(process.pid))
-        self.assertFalse(program.is_running(process.pid, None))
+        self.assertIsNone(errors.begun(process.pid))
+        self.assertFalse(errors.is_running(process.pid, None))
 
     def test_opened(self):
         """A process can be read once it has ended."""
         process = self.process("cat", stdin=-1)
-        end = program.opened_process(process.pid)
+        end = errors.opened_process(process.pid)
         self.addCleanup(os.close, end)
-        self.assertEqual(loops.comes(end, 0), False)
+        self.assertEqual(event_loop.comes(end, 0), False)
         process.stdin.close()
-        self.assertEqual(loops.comes(end, 10), True)
+        self.assertEqual(event_loop.comes(end, 10), True)
         process.wait()
         with self.assertRaisesRegex(Fault, "^the session has ended$"):
-            program.opened_process(process.pid)
+            errors.opened_process(process.pid)
 
     def test_end(self):
         """An end is noted by the process and its begin; where that can't be written nothing is."""
         folder = self.made_folder()
-        program.note_end(folder, 17, 99)
+        errors.note_end(folder, 17, 99)
         self.assertEqual((folder / "ended").read_text(encoding="utf-8"), "17 99\n")
-        program.note_end(folder / "none", 17, 99)
+        errors.note_end(folder / "none", 17, 99)
 
 
 class Notes(Case):
@@ -179,44 +182,44 @@ class Notes(Case):
         process = self.process()
         (self.folder / "attached").mkdir(exist_ok=True)
         note = self.folder / "attached" / str(process.pid)
-        note.write_text(f"{program.begun(process.pid)} {kind}\n", encoding="utf-8")
+        note.write_text(f"{errors.begun(process.pid)} {kind}\n", encoding="utf-8")
         return note
 
     def test_noted(self):
         """Its file is named by the process, and has its begin and what it does; who was killed isn't counted."""
-        note = program.noted_front_end(self.folder)
-        self.assertEqual((note.name, note.read_text(encoding="utf-8")), (str(os.getpid()), f"{program.begun(os.getpid())} edits\n"))
-        self.assertEqual((program.count_front_ends(self.folder), program.has_others(self.folder)), (1, False))
+        note = errors.noted_front_end(self.folder)
+        self.assertEqual((note.name, note.read_text(encoding="utf-8")), (str(os.getpid()), f"{errors.begun(os.getpid())} edits\n"))
+        self.assertEqual((errors.count_front_ends(self.folder), errors.has_others(self.folder)), (1, False))
         watcher = self.other("watches")
-        self.assertEqual((program.count_front_ends(self.folder), program.has_others(self.folder)), (2, False))
+        self.assertEqual((errors.count_front_ends(self.folder), errors.has_others(self.folder)), (2, False))
         self.other("edits")
-        self.assertEqual((program.count_front_ends(self.folder), program.has_others(self.folder)), (3, True))
+        self.assertEqual((errors.count_front_ends(self.folder), errors.has_others(self.folder)), (3, True))
         watcher.write_text("1 watches\n", encoding="utf-8")
         for name, text in (("1073741824", "5 edits\n"), ("1073741825", ""), ("x", "1 edits\n"), ("1073741826", "x")):
             (self.folder / "attached" / name).write_text(text, encoding="utf-8")
-        self.assertEqual(program.count_front_ends(self.folder), 2)
+        self.assertEqual(errors.count_front_ends(self.folder), 2)
         self.assertEqual(len(list((self.folder / "attached").iterdir())), 2)
 
     def test_none(self):
-        self.assertEqual((program.noted_front_end(None), program.has_others(None), program.count_front_ends(self.folder)), (None, False, 0))
+        self.assertEqual((errors.noted_front_end(None), errors.has_others(None), errors.count_front_ends(self.folder)), (None, False, 0))
         with self.assertRaisesRegex(Fault, "/none is no folder$"):
-            program.noted_front_end(self.folder / "none")
+            errors.noted_front_end(self.folder / "none")
         (self.folder / "attached").touch()
-        self.assertIsNone(program.noted_front_end(self.folder))
+        self.assertIsNone(errors.noted_front_end(self.folder))
         self.assertIn("this front end isn't counted: ", self.said.getvalue())
-        self.assertEqual(program.kind_of(self.folder / "no"), "")
+        self.assertEqual(errors.kind_of(self.folder / "no"), "")
 
     def test_replaced(self):
         """Who reads a file finds the old or the new text whole; where it can't be written the old one stays, and nothing beside it."""
         path = self.folder / "note"
-        program.replace_text(path, "one")
-        program.replace_text(path, "two", f"{path}.new")
+        errors.replace_text(path, "one")
+        errors.replace_text(path, "two", f"{path}.new")
         self.assertEqual([one.name for one in self.folder.iterdir()], ["note"])
         with mock.patch("os.replace", side_effect=OSError(28, "full")), self.assertRaises(OSError):
-            program.replace_text(path, "three")
+            errors.replace_text(path, "three")
         self.assertEqual((path.read_text(encoding="utf-8"), [one.name for one in self.folder.iterdir()]), ("two", ["note"]))
         with self.assertRaises(OSError):
-            program.replace_text(self.folder / "none/x", "y")
+            errors.replace_text(self.folder / "none/x", "y")
 
 
 class Ends(Case):
@@ -225,32 +228,32 @@ class Ends(Case):
     def test_read(self):
         """Nothing now is None, and no more ever is nothing; 65,536 bytes at most come at once."""
         one, other = self.pair()
-        self.assertIsNone(program.read(one.fileno()))
+        self.assertIsNone(errors.read(one.fileno()))
         other.send(b"ab")
-        self.assertEqual(program.read(one.fileno()), b"ab")
+        self.assertEqual(errors.read(one.fileno()), b"ab")
         other.close()
-        self.assertEqual((program.read(one.fileno()), program.read(1 << 20)), (b"", b""))
+        self.assertEqual((errors.read(one.fileno()), errors.read(1 << 20)), (b"", b""))
         with mock.patch("os.read", return_value=b"x") as reads:
-            program.read(7)
+            errors.read(7)
         reads.assert_called_once_with(7, 65536)
 
     def test_write(self):
         one, other = self.pair()
         waiting = bytearray(b"abc")
-        self.assertTrue(program.write(one.fileno(), waiting))
+        self.assertTrue(errors.write(one.fileno(), waiting))
         self.assertEqual((waiting, read_now(other)), (b"", b"abc"))
         waiting += bytes(100_000)
         with mock.patch("os.write", side_effect=[65536, BlockingIOError(11, "full")]) as writes:
-            self.assertTrue(program.write(7, waiting) and program.write(7, waiting))
+            self.assertTrue(errors.write(7, waiting) and errors.write(7, waiting))
             self.assertEqual((len(writes.call_args_list[0][0][1]), len(waiting)), (65536, 34464))
         other.close()
-        self.assertFalse(program.write(one.fileno(), waiting))
+        self.assertFalse(errors.write(one.fileno(), waiting))
         self.assertEqual(waiting, b"")
 
     def test_woken(self):
         """Signals that come are told over a pipe."""
         before = signal.getsignal(signal.SIGUSR2)
-        reader = program.woken(signal.SIGUSR2)
+        reader = errors.woken(signal.SIGUSR2)
         try:
             os.kill(os.getpid(), signal.SIGUSR2)
             self.assertEqual(os.read(reader, 9), bytes([signal.SIGUSR2]))
@@ -264,7 +267,7 @@ class Ends(Case):
         """The status with which a tool ends, or its line."""
         self.words("/x/tool")
         with mock.patch("signal.signal"), mock.patch.dict(os.environ), self.assertRaises(SystemExit) as way:
-            program.run_tool(main)
+            errors.run_tool(main)
         return way.exception.code
 
     def test_ends(self):
@@ -286,7 +289,7 @@ class Ends(Case):
 
     def test_nobody_reads(self):
         """Where nobody reads what it prints it ends as by SIGPIPE."""
-        with mock.patch.object(program, "nobody_reads", return_value=True):
+        with mock.patch.object(errors, "nobody_reads", return_value=True):
             self.assertEqual(self.run_with(mock.Mock(side_effect=BrokenPipeError(32, "Broken pipe"))), 141)
             self.assertEqual(self.run_with(mock.Mock(side_effect=OSError(28, "full"))), "tool: full")
 
@@ -296,9 +299,9 @@ class Ends(Case):
         kept = os.dup(1)
         try:
             os.dup2(writer, 1)
-            self.assertFalse(program.nobody_reads())
+            self.assertFalse(errors.nobody_reads())
             os.close(reader)
-            self.assertTrue(program.nobody_reads())
+            self.assertTrue(errors.nobody_reads())
             os.write(1, b"x")
         finally:
             os.dup2(kept, 1)
@@ -309,11 +312,11 @@ class Ends(Case):
         """What nobody foresaw is told in full in the log of the session's folder, where there is one, and in a line."""
         folder = self.made_folder()
         log = folder / "log"
-        self.addCleanup(program.logs.clear)
-        program.log_to(folder)
-        self.assertEqual(program.logs, [])
+        self.addCleanup(errors.logs.clear)
+        errors.log_to(folder)
+        self.assertEqual(errors.logs, [])
         log.touch()
-        program.log_to(folder)
+        errors.log_to(folder)
         code = self.run_with(lambda: [][0])
         self.assertEqual(code, f"roam: tool failed: IndexError: list index out of range; {log} has more")
         text = log.read_text(encoding="utf-8")
@@ -323,20 +326,20 @@ class Ends(Case):
         """A line that can't be said is no fault."""
         self.words("/x/tool")
         said = self.heard()
-        program.say("a\x1bb")
+        errors.say("a\x1bb")
         self.assertEqual(said.getvalue(), "tool: a?b\n")
         with mock.patch("sys.stderr", mock.Mock(write=mock.Mock(side_effect=OSError(28, "full")))):
-            program.say("x")
-        self.assertEqual(program.reason(OSError(28, "full")), "full")
-        self.assertEqual(program.reason(Fault("why")), "why")
+            errors.say("x")
+        self.assertEqual(errors.reason(OSError(28, "full")), "full")
+        self.assertEqual(errors.reason(Fault("why")), "why")
 
     def test_lines(self):
         """Lines come whole, wherever they are cut."""
         for cut in range(26):
-            lines = program.Lines()
+            lines = errors.Lines()
             text = b"1 23 80 1\nfocus 1\n\xc3\xa9\xff\n2 "
             self.assertEqual(lines.fed(text[:cut]) + lines.fed(text[cut:]), ["1 23 80 1", "focus 1", "\u00e9\ufffd"], cut)
-        lines = program.Lines()
+        lines = errors.Lines()
         self.assertEqual((lines.fed(b"x" * 65535), lines.fed(b"\n")), ([], ["x" * 65535]))
         self.assertEqual((lines.fed(b"x" * 65536), lines.fed(b"y\nz\n")), ([], ["z"]))
         self.assertEqual((lines.fed(b"x" * 65535), lines.fed(b"y"), lines.fed(b"y" * 70000), lines.fed(b"\n\nz\n")), ([], [], [], ["", "z"]))
@@ -393,15 +396,15 @@ class Steps(Case):
             raise ValueError(name)
 
         with self.assertRaisesRegex(ValueError, "^a$"):
-            program.all_done(lambda: fails("a"), lambda: done.append("b"), lambda: fails("c"), lambda: done.append("d"))
+            errors.all_done(lambda: fails("a"), lambda: done.append("b"), lambda: fails("c"), lambda: done.append("d"))
         self.assertEqual(done, ["a", "b", "c", "d"])
         with self.assertRaisesRegex(KeyError, "before"):
             try:
                 raise KeyError("before")
             finally:
-                program.all_done(lambda: fails("e"), lambda: done.append("f"))
+                errors.all_done(lambda: fails("e"), lambda: done.append("f"))
         self.assertEqual(done[4:], ["e", "f"])
-        program.all_done(lambda: done.append("g"))
+        errors.all_done(lambda: done.append("g"))
 
     def test_unwoken(self):
         """Signals have their default action again."""
@@ -409,7 +412,7 @@ class Steps(Case):
         self.addCleanup(lambda: [signal.signal(number, action) for number, action in before.items()])
         for number in before:
             signal.signal(number, lambda number, frame: None)
-        program.unwoken(*before)
+        errors.unwoken(*before)
         self.assertEqual({signal.getsignal(number) for number in before}, {signal.SIG_DFL})
 
 
@@ -436,10 +439,10 @@ class Running(Case):
                    "21/comm": "vi\n", "30/stat": "30 " + stat.format("-zsh", 30, 30), "30/comm": "-zsh\n",
                    "40/stat": "40 " + stat.format("sh", 40, 41), "50/stat": "50 " + stat.format("sh", 50, 50), "50/comm": "vi\n"})
         self.environment(SHELL="/opt/mine")
-        self.assertEqual(programs.busy_panes(7), {2: "vi", 4: "a program"})
-        self.assertIsNone(programs.busy_panes(8))
-        self.assertEqual((programs.foreground(10), programs.foreground(99)), ("bash", ""))
-        self.assertEqual((programs.pane_of(30), programs.pane_of(50)), (("/x:y/main", 3), ("", 0)))
+        self.assertEqual(foreground.busy_panes(7), {2: "vi", 4: "a program"})
+        self.assertIsNone(foreground.busy_panes(8))
+        self.assertEqual((foreground.foreground(10), foreground.foreground(99)), ("bash", ""))
+        self.assertEqual((foreground.pane_of(30), foreground.pane_of(50)), (("/x:y/main", 3), ("", 0)))
 
     def test_jobs(self):
         """A shell with a stopped job, one in the background or another program in front is busy, and one alone isn't. The ended don't
@@ -447,7 +450,7 @@ class Running(Case):
         self.environment(SHELL="/opt/mine")
         panes = {f"{one}0/environ": f"ROAM_PANE=/w:{one}\0" for one in range(1, 7)}
         numbers = "7 10 11 12 20 21 22 23 30 31 40 41 42 50 51 60 62 self 99"
-        self.patch_of(programs.os, "listdir", return_value=numbers.split())
+        self.patch_of(foreground.os, "listdir", return_value=numbers.split())
         stats = {10: "bash S 10 10 10", 11: "vim T 11 10 10", 12: "rg T 11 10 10", 20: "zsh S 20 20 20", 21: "(a) S 21 20 20",
                  22: "make S 22 20 20", 23: "cc Z 23 20 20", 30: "bash S 30 30 30", 31: "old Z 31 30 30", 40: "sh S 40 40 41",
                  41: "fish S 41 40 41", 42: "vi T 42 40 41", 50: "sh S 50 50 50", 51: "apart S 51 51 51", 60: "htop S 60 60 60",
@@ -458,31 +461,31 @@ class Running(Case):
         names = {f"{number}/comm": text.partition("(")[2].rpartition(")")[0] + "\n" for number, text in stats.items()}
         texts = {f"{number}/stat": text for number, text in stats.items()}
         self.proc({"7/task/7/children": "10 20 30 40 50 60 ", **panes, **texts, **names})
-        self.assertEqual([programs.jobs_in(leader) for leader in (10, 20, 30, 40, 50, 60, 70)],
+        self.assertEqual([foreground.jobs_in(leader) for leader in (10, 20, 30, 40, 50, 60, 70)],
                          [["vim (stopped)"], ["(a) (background)", "make (background)"], [], ["fish", "vi (stopped)"], [],
                           ["cat (background)"], []])
-        self.assertEqual(programs.busy_panes(7), {1: "vim (stopped)", 2: "(a) (background), make (background)", 4: "fish, vi (stopped)",
+        self.assertEqual(foreground.busy_panes(7), {1: "vim (stopped)", 2: "(a) (background), make (background)", 4: "fish, vi (stopped)",
                                                   6: "htop, cat (background)"})
 
     def test_many_jobs(self):
         """A question names three jobs of a pane, and how many more there are."""
         self.proc({"10/stat": "10 (bash) S 7 10 10 34817 10 4194304", "10/comm": "bash\n"})
         for count, told in ((1, "a0"), (3, "a0, a1, a2"), (5, "a0, a1, a2 and 2 more")):
-            self.assertEqual(programs.running("10", [f"a{place}" for place in range(count)]), told)
-        self.assertEqual(programs.running("11", ["vi"]), "")
+            self.assertEqual(foreground.running("10", [f"a{place}" for place in range(count)]), told)
+        self.assertEqual(foreground.running("11", ["vi"]), "")
 
     def test_shells(self):
         self.environment(SHELL="/opt/mine")
-        found = [programs.is_shell(name) for name in ("sh", "-bash", "fish", "mine", "vi", "shx", "")]
+        found = [foreground.is_shell(name) for name in ("sh", "-bash", "fish", "mine", "vi", "shx", "")]
         self.assertEqual(found, [True, True, True, True, False, False, False])
 
     def test_told(self):
-        self.assertEqual(programs.told({2: "vi", 1: "less"}), "less in pane 1 and vi in pane 2")
+        self.assertEqual(foreground.told({2: "vi", 1: "less"}), "less in pane 1 and vi in pane 2")
 
     def test_cut_stat(self):
         """A process of which less is told is none."""
         self.proc({"10/stat": "10 (sh) S 1"})
-        self.assertEqual(programs.foreground(10), "")
+        self.assertEqual(foreground.foreground(10), "")
 
 
 class Numbers(Case):
@@ -491,49 +494,49 @@ class Numbers(Case):
     def test_holder(self):
         """Who holds a folder is known by the system's list of locks."""
         folder = self.made_folder()
-        self.assertEqual((program.holder_of(folder), program.holder_of(folder / "none")), (None, None))
+        self.assertEqual((errors.holder_of(folder), errors.holder_of(folder / "none")), (None, None))
         holds = "import fcntl, os, sys, time; fcntl.flock(os.open(sys.argv[1], 0), 2); print(flush=True); time.sleep(60)"
         other = self.process(sys.executable, "-c", holds, str(folder), stdout=subprocess.PIPE)
         self.addCleanup(other.stdout.close)
         other.stdout.readline()
-        self.assertEqual((program.holder_of(folder), program.is_locked(folder)), (other.pid, True))
+        self.assertEqual((errors.holder_of(folder), errors.is_locked(folder)), (other.pid, True))
         other.kill()
         other.wait()
-        self.assertEqual((program.holder_of(folder), program.is_locked(folder)), (None, False))
+        self.assertEqual((errors.holder_of(folder), errors.is_locked(folder)), (None, False))
 
     def test_age(self):
         """How long a process has been there."""
-        self.assertTrue(0 <= program.age_of(self.process().pid) < 30)
-        self.assertEqual(program.age_of(0), 0.0)
+        self.assertTrue(0 <= errors.age_of(self.process().pid) < 30)
+        self.assertEqual(errors.age_of(0), 0.0)
 
     def test_full(self):
         """A disk is full where it has no blocks or no files left; one that counts neither never is."""
         for blocks, left, files, free, wanted in ((9, 0, 9, 9, True), (9, 9, 9, 0, True), (9, 1, 9, 1, False), (0, 0, 0, 0, False)):
             found = mock.Mock(f_blocks=blocks, f_bavail=left, f_files=files, f_favail=free)
             with mock.patch("os.statvfs", return_value=found) as asked:
-                self.assertIs(program.is_disk_full("/x/y/terminals"), wanted)
+                self.assertIs(errors.is_disk_full("/x/y/terminals"), wanted)
             asked.assert_called_once_with("/x/y")
-        self.assertFalse(program.is_disk_full("/nowhere/at/all"))
+        self.assertFalse(errors.is_disk_full("/nowhere/at/all"))
 
     def test_limits(self):
-        self.assertEqual((program.LONGEST_WAIT, program.SAID_AFTER, program.UNREAD_LIMIT, program.LONGEST_LINE), (10.0, 0.5, 65536, 65536))
-        self.assertEqual((logs.LOG_LIMIT, logs.KEPT, words.SAID_LIMIT), (1 << 20, 1 << 19, 64 * 1024))
-        self.assertEqual((choices.PREFIX, choices.GUESSING), ("C-b", ("adaptive", "always", "never")))
+        self.assertEqual((errors.LONGEST_WAIT, errors.SAID_AFTER, errors.UNREAD_LIMIT, errors.LONGEST_LINE), (10.0, 0.5, 65536, 65536))
+        self.assertEqual((common_files.LOG_LIMIT, common_files.KEPT, common_text.SAID_LIMIT), (1 << 20, 1 << 19, 64 * 1024))
+        self.assertEqual((environment.PREFIX, environment.GUESSING), ("C-b", ("adaptive", "always", "never")))
         codes = {"C-a": 1, "C-z": 26, "C-]": 29, "C-\\": 28, "C-^": 30, "C-_": 31}
-        self.assertEqual({name: ord(choices.PREFIXES[name]) for name in codes}, codes)
+        self.assertEqual({name: ord(environment.PREFIXES[name]) for name in codes}, codes)
 
     def test_pauses(self):
         """A start follows another after 0.1 s, a keeper of shells after 0.3 s, and then after pauses that grow; a folder is used each six hours."""
-        self.assertEqual((links.PAUSES, following.PAUSES), ((0.1, 1, 2, 4, 8, 15),) * 2)
-        self.assertEqual((watches.PAUSES, watches.SOUND, following.QUIET), ((0.3, 1, 2, 4, 8, 15), 5.0, 3.0))
-        self.assertEqual((lasting.USED_EACH, lasting.LOOKS), (6 * 60 * 60, 60))
+        self.assertEqual((client_link.PAUSES, panes_client.PAUSES), ((0.1, 1, 2, 4, 8, 15),) * 2)
+        self.assertEqual((host_watchdog.PAUSES, host_watchdog.SOUND, panes_client.QUIET), ((0.3, 1, 2, 4, 8, 15), 5.0, 3.0))
+        self.assertEqual((tmp_keepalive.USED_EACH, tmp_keepalive.LOOKS), (6 * 60 * 60, 60))
 
     def test_relay(self):
         """A relay is alone for an hour, its far end half a minute; seven seconds are silence; `ls` tells of more than 32 starts."""
         self.assertEqual((sessions.ALONE, sessions.MANY_STARTS), (3600, 32))
-        self.assertEqual((near.SILENT, far.ALONE, ends.PEER_LIMIT, relayed.HEARTBEAT), (7.0, 30.0, 256, 3.0))
-        self.assertEqual((relayed.VERSION, relayed.NOISE_LIMIT, relayed.MOST_TOLD, relayed.WAITING_LIMIT), (2, 65536, 4097, 4 << 20))
+        self.assertEqual((near.SILENT, far.ALONE, common.PEER_LIMIT, frames.HEARTBEAT), (7.0, 30.0, 256, 3.0))
+        self.assertEqual((frames.VERSION, frames.NOISE_LIMIT, frames.MOST_TOLD, frames.WAITING_LIMIT), (2, 65536, 4097, 4 << 20))
 
     def test_wide(self):
         """A datagram has 43 to 1,242 bytes: a header of 42, and 1 to 1,200 behind it."""
-        self.assertEqual((carriers.SHORTEST, carriers.LONGEST), (42 + 1, 42 + 1200))
+        self.assertEqual((datagram_stream.SHORTEST, datagram_stream.LONGEST), (42 + 1, 42 + 1200))

@@ -2,10 +2,10 @@
 import unittest
 
 from aids import Case
-from roam_live.colours import ASKED, Colours, colour_of, told_in
-from roam_live.keys import Key, Keys
-from roam_live.program import TOOLS
-from roam_live.questions import VERSION, holds_frames, question_in
+from roam_live.common.errors import TOOLS
+from roam_live.input.keys import Key, Keys
+from roam_live.protocol.colours import ASKED, Colours, colour_of, told_in
+from roam_live.protocol.queries import VERSION, holds_frames, question_in
 
 ANSWERS = ("\x1b]10;rgb:ffff/ffff/ffff\x07", "\x1b]11;rgb:1e/1E/2e\x1b\\")
 
@@ -40,7 +40,7 @@ class Answered(Case):
     def test_frames(self):
         """Whether a server holds frames together is told by its words, and not known where these can't be read."""
         folder = self.made_folder()
-        self.patch("roam_live.questions.pathlib.Path", side_effect=lambda path: folder / path.split("/")[2])
+        self.patch("roam_live.protocol.queries.pathlib.Path", side_effect=lambda path: folder / path.split("/")[2])
         for process, words, wanted in ((7, b"roam\0serve\0--as-meant\0--dir\0D\0", True), (8, b"roam\0serve\0--dir\0--as-meanti\0", False)):
             (folder / str(process)).write_bytes(words)
             self.assertEqual(holds_frames(process), wanted)

@@ -7,12 +7,12 @@ import zlib
 from unittest import mock
 
 from aids import Case, StillLoop, ended, loaded, read_now
-from roam_live import ends, far, near
-from roam_live.carriers import LONGEST, SHORTEST
-from roam_live.program import Fault
+from roam_live.common.errors import Fault
+from roam_live.protocol.datagram_stream import LONGEST, SHORTEST
+from roam_live.relay import common, far, near
 from test_relayed import HOSTILE, ODD
-from roam_live.relayed import COUNT, ENDED, HAD, HEADER, KILLED, UNPACKS, WAITING_LIMIT, BadWords, RelayStream, Waiting, greeting
-from roam_live.streams import BYTES, CARRIES, OPEN
+from roam_live.relay.forwarding import BYTES, CARRIES, OPEN
+from roam_live.relay.frames import COUNT, ENDED, HAD, HEADER, KILLED, UNPACKS, WAITING_LIMIT, BadWords, RelayStream, Waiting, greeting
 
 relay = loaded("relay")
 
@@ -223,7 +223,7 @@ class Nears(Ends):
             with self.subTest(noted):
                 self.answer()
                 self.links[-1].say(packed((0, text)))
-                with self.assertRaises(ends.Ended) as way:
+                with self.assertRaises(common.Ended) as way:
                     self.turn()
                 self.assertEqual(way.exception.args, (0,))
                 self.close(self.near)
@@ -367,7 +367,7 @@ class Nears(Ends):
         self.now += 30
         self.turn()
         self.links[-1].say(greeting("def"))
-        with self.assertRaises(ends.Ended) as way:
+        with self.assertRaises(common.Ended) as way:
             self.turn()
         self.assertEqual((way.exception.args, self.near.is_over), ((0,), True))
 
@@ -389,7 +389,7 @@ class Nears(Ends):
     @property
     def tool(self):
         """The name under which this runs."""
-        from roam_live.program import tool_name
+        from roam_live.common.errors import tool_name
 
         return tool_name()
 
@@ -500,7 +500,7 @@ class Nears(Ends):
             self.now += 5
             self.near.look()
         self.now += 5
-        with self.assertRaises(ends.Ended) as way:
+        with self.assertRaises(common.Ended) as way:
             self.near.look()
         self.assertEqual(way.exception.args, (0,))
 
@@ -514,15 +514,15 @@ class Nears(Ends):
         self.near = self.near_end(owner=process.pid)
         self.turn()
         os.close(writer)
-        with self.assertRaises(ends.Ended) as way:
+        with self.assertRaises(common.Ended) as way:
             self.turn()
         self.assertEqual(way.exception.args, (0,))
         self.near.loop.remove(reader)
         os.write(self.wakes, bytes([signal.SIGCHLD, signal.SIGTERM]))
-        with self.assertRaises(ends.Ended) as way:
+        with self.assertRaises(common.Ended) as way:
             self.turn()
         self.assertEqual(way.exception.args, (143,))
-        ends.end_for(self.wakeup)
+        common.end_for(self.wakeup)
 
     def test_clients(self):
         """256 clients are taken; another waits, and so does one for whom no descriptor is left, a second long."""
@@ -594,7 +594,7 @@ class Nears(Ends):
         port = self.near.port.getsockname()[1]
         self.answer()
         self.assertEqual(self.printed_text.getvalue(), f"port {port} session abc\n")
-        one = ends.loopback_socket()
+        one = common.loopback_socket()
         self.addCleanup(one.close)
         one.sendto(datagram(1), ("127.0.0.1", port))
         one.sendto(b"no datagram", ("127.0.0.1", port))
@@ -755,14 +755,14 @@ class Fars(Ends):
     def test_left(self):
         """The other end's end is its own, with status 0; so is one that takes nothing more, and a signal."""
         os.close(self.said_end)
-        with self.assertRaises(ends.Ended) as way:
+        with self.assertRaises(common.Ended) as way:
             self.far.turn()
         self.assertEqual(way.exception.args, (0,))
         os.write(self.wakes, bytes([signal.SIGHUP]))
-        with self.assertRaises(ends.Ended) as way:
+        with self.assertRaises(common.Ended) as way:
             self.far.turn()
         self.assertEqual(way.exception.args, (129,))
-        with mock.patch.object(self.far.stream, "flush", return_value=False), self.assertRaises(ends.Ended) as way:
+        with mock.patch.object(self.far.stream, "flush", return_value=False), self.assertRaises(common.Ended) as way:
             self.far.stream.going += b"x"
             self.far.flush()
         self.assertEqual(way.exception.args, (0,))
@@ -774,7 +774,7 @@ class Fars(Ends):
             self.far.place = mock.Mock(ending=mock.Mock(return_value=("", status)))
             self.far.loop.add(reader, self.far.tell_end)
             os.close(writer)
-            with self.assertRaises(ends.Ended) as way:
+            with self.assertRaises(common.Ended) as way:
                 self.far.turn()
             self.assertEqual((way.exception.args, self.other.frames()[-1]), ((0,), (0, told)))
 
@@ -789,7 +789,7 @@ class Fars(Ends):
         self.far.turn()
         self.assertEqual((self.far.place, far.opened_process.call_args_list), (heir, [mock.call(5), mock.call(77)]))
         ended(servers[1][1])
-        with self.assertRaises(ends.Ended):
+        with self.assertRaises(common.Ended):
             self.far.turn()
         self.assertEqual(self.other.frames()[-1], (0, ENDED))
 
@@ -803,7 +803,7 @@ class Fars(Ends):
 
     def test_port(self):
         """A server that has a port is reached there."""
-        server = ends.loopback_socket()
+        server = common.loopback_socket()
         self.addCleanup(server.close)
         server.bind(("127.0.0.1", 0))
         self.far.asked.port = server.getsockname()[1]
@@ -1073,13 +1073,13 @@ class Words(Ends):
 
     def test_main(self):
         """It turns until its end, whose status it has, and leaves nothing."""
-        end = mock.Mock(turn=mock.Mock(side_effect=[None, ends.Ended(129)]))
+        end = mock.Mock(turn=mock.Mock(side_effect=[None, common.Ended(129)]))
         made = self.patch_of(near, "Near", return_value=end)
         self.patch_of(relay, "woken", return_value=5)
         self.words("relay", "0", "ssh")
         self.assertEqual(relay.main(), 129)
         self.assertEqual((made.call_args[0][1], end.turn.call_count, end.close.call_count), (5, 2, 1))
-        end.turn.side_effect = [ends.Ended(0)]
+        end.turn.side_effect = [common.Ended(0)]
         self.patch_of(far, "Far", return_value=end)
         self.words("relay", "--far", "1")
         with mock.patch("os.isatty", return_value=False):

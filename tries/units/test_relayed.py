@@ -6,11 +6,11 @@ import zlib
 from unittest import mock
 
 from aids import Case
-from roam_live.bundles import LONGEST_TEXT, joined, pack_large
-from roam_live.carriers import LONGEST, SHORTEST
-from roam_live.relayed import (COUNT, ENDED, HAD, HEADER, MOST_TOLD, PACKED, PACKED_HEAD, UNPACKS, BadWords, RelayStream, Waiting,
-                               greeting)
-from roam_live.streams import BYTES, CARRIES, END, NUMBER, OPEN, TAKEN, TAKEN_COUNT
+from roam_live.protocol.datagram_stream import LONGEST, SHORTEST
+from roam_live.relay.batches import LONGEST_TEXT, joined, pack_large
+from roam_live.relay.forwarding import BYTES, CARRIES, END, NUMBER, OPEN, TAKEN, TAKEN_COUNT
+from roam_live.relay.frames import (COUNT, ENDED, HAD, HEADER, MOST_TOLD, PACKED, PACKED_HEAD, UNPACKS, BadWords, RelayStream, Waiting,
+                                    greeting)
 
 
 def frame(peer, text):
@@ -141,7 +141,7 @@ class Goes(Case):
         self.carried()
         self.assertTrue(self.far.packs)
         self.assertLess(self.carried()[1], 10)
-        with mock.patch("roam_live.relayed.has_lzma", return_value=False):
+        with mock.patch("roam_live.relay.frames.has_lzma", return_value=False):
             one = RelayStream(0, 1, "abc")
             one.session = "abc"
             one.fill(Waiting())

@@ -9,10 +9,10 @@ import types
 
 from aids import Case, StillLoop
 from filtered import FAKE, played
-from roam_live import row_filter
-from roam_live.loops import Loop
-from roam_live.row_filter import (BATCH, ENDS, GATHERS, LONGEST_LINE, MOST_RECORD, PIPE_SIZE, SAID_SIZE, BadRecord, RowFilter, RowRecords,
-                                  spawned)
+from roam_live.common.event_loop import Loop
+from roam_live.host import scrollback_process
+from roam_live.host.scrollback_process import (BATCH, ENDS, GATHERS, LONGEST_LINE, MOST_RECORD, PIPE_SIZE, SAID_SIZE, BadRecord, RowFilter,
+                                               RowRecords, spawned)
 
 PRINTED = b"rows 0 2 7\n a\n+bc\nlost 3 17\ncleared 1023\nscreen 2 0 0\nrows 1 1 2\n \nscreen 4 1 9\n \x1b[1mrow\n"
 RECORDS = [("rows", 0, 2, b" a\n+bc\n"), ("lost", 3, 17, b""), ("cleared", 1023, 0, b""), ("screen", 2, 0, b""), ("rows", 1, 1, b" \n"),
@@ -198,7 +198,7 @@ class Spawned(Case):
 
     def test_pipes(self):
         """Its pipes hold what is said of them, also by a Python that names no such call."""
-        self.patch_of(row_filter, "fcntl", types.SimpleNamespace(fcntl=fcntl.fcntl))
+        self.patch_of(scrollback_process, "fcntl", types.SimpleNamespace(fcntl=fcntl.fcntl))
         process, ends = spawned([sys.executable, "-S", "-E", "-c", ""])
         os.waitpid(process, 0)
         # F_GETPIPE_SZ of Linux.

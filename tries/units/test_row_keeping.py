@@ -6,10 +6,10 @@ from unittest import mock
 
 from aids import Case, StillLoop
 from filtered import FAKE, played
-from roam_live import row_keeping
-from roam_live.loops import Loop
-from roam_live.row_keeping import BEHIND, EARLIER, LAST_WAIT, PAUSES, QUEUE, SCREEN_WAIT, TOLD_FOR, WAITS, RowKeeper, chosen_rows
-from roam_live.row_pieces import LOST_ROWS, LOST_SOME
+from roam_live.common.event_loop import Loop
+from roam_live.host import scrollback
+from roam_live.host.scrollback import BEHIND, EARLIER, LAST_WAIT, PAUSES, QUEUE, SCREEN_WAIT, TOLD_FOR, WAITS, RowKeeper, chosen_rows
+from roam_live.host.scrollback_store import LOST_ROWS, LOST_SOME
 
 SIZE = (23, 80)
 LOST = LOST_SOME[:-1].encode()
@@ -25,7 +25,7 @@ class Keeping(Case):
         self.fakes = played(self, self.filters)
         self.fake = self.fakes[0]
         self.said, self.told = [], []
-        patch = mock.patch.object(row_keeping, "program", lambda: "/roam")
+        patch = mock.patch.object(scrollback, "program", lambda: "/roam")
         patch.start()
         self.addCleanup(patch.stop)
         self.keeper = RowKeeper(self.loop, self.said.append, 100)
@@ -245,7 +245,7 @@ class Ended(Keeping):
         self.ask()
         self.end()
         self.assertEqual(self.told, [None])
-        self.assertEqual(self.said, [row_keeping.ENDED.format("it took nothing more")])
+        self.assertEqual(self.said, [scrollback.ENDED.format("it took nothing more")])
         self.keeper.feed(1, b"lost")
         self.ask()
         self.assertEqual(self.told, [None, None])
@@ -287,13 +287,13 @@ class Ended(Keeping):
         self.prints(b"rows 0 1 3\n a\n")
         self.prints(b"rows 0 2 3\n a\n")
         self.assertIsNone(self.keeper.filter)
-        self.assertEqual(self.said, [row_keeping.ENDED.format("it printed another number of rows than it said")])
+        self.assertEqual(self.said, [scrollback.ENDED.format("it printed another number of rows than it said")])
         self.assertEqual(self.rows(), [b" a"])
 
     def test_sound(self):
         """One that was sound for a while is followed at once."""
         for _ in range(2):
-            self.pass_time(row_keeping.SOUND)
+            self.pass_time(scrollback.SOUND)
             self.end()
             self.pass_time(PAUSES[0])
             self.assertIsNotNone(self.keeper.filter)

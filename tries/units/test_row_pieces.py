@@ -3,7 +3,7 @@ import random
 import time
 import unittest
 
-from roam_live.row_pieces import BESIDE, LOST_ROWS, LOST_SOME, KeptRange, Piece, RowsRoom, Search, all_of, characters
+from roam_live.host.scrollback_store import BESIDE, LOST_ROWS, LOST_SOME, KeptRange, Piece, RowsRoom, Search, all_of, characters
 
 
 def rows_of(*texts):

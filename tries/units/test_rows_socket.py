@@ -4,10 +4,11 @@ from unittest import mock
 
 from aids import read_now
 from filtered import played
-from roam_live import row_keeping, shells
-from roam_live.buffers import EMPTY, MOST_BUFFER, MOST_BUFFERS, MOST_COMING, TOO_LONG, TOO_MUCH, UNKNOWN, WATCHES, Buffers, sample
-from roam_live.row_keeping import SCREEN_WAIT, RowKeeper
-from roam_live.shells import CommonShells, MOST_WAITING, UNREAD, ShellsSocket
+from roam_live.host import scrollback, socket_server
+from roam_live.host.paste_buffers import (EMPTY, MOST_BUFFER, MOST_BUFFERS, MOST_COMING, TOO_LONG, TOO_MUCH, UNKNOWN, WATCHES, Buffers,
+                                          sample)
+from roam_live.host.scrollback import SCREEN_WAIT, RowKeeper
+from roam_live.host.socket_server import MOST_WAITING, UNREAD, CommonShells, ShellsSocket
 from test_shells_socket import NAMED, Sockets
 
 NAME = "00112233445566aa"
@@ -20,7 +21,7 @@ class Rows(Sockets):
         super().setUp()
         self.socket.close()
         self.fake = played(self)[0]
-        with mock.patch.object(row_keeping, "program", lambda: "/roam"):
+        with mock.patch.object(scrollback, "program", lambda: "/roam"):
             self.keeper = RowKeeper(self.loop, self.fail, 100)
         self.addCleanup(self.keeper.close)
         self.socket = ShellsSocket(self.folder, self.loop, lambda: None, CommonShells(self.loop, self.keeper))
@@ -199,7 +200,7 @@ class Asked(Rows):
         self.assertEqual(found.count(rows), printed + 1)
         while not self.socket.common.has_full_log():
             self.prints(b"rows 0 100 600\n" + rows)
-        self.now += shells.LOG_WAIT
+        self.now += socket_server.LOG_WAIT
         self.loop.turns(2)
         self.assertTrue(self.keeper.reads())
         for _ in range(300):
@@ -274,7 +275,7 @@ class Taken(Rows):
     def test_all(self):
         """Of answers to all no more waits than may."""
         self.wide()
-        with mock.patch.object(shells, "MOST_ANSWERS", 1_000_000):
+        with mock.patch.object(socket_server, "MOST_ANSWERS", 1_000_000):
             ends = [self.connect(b"rows 1 5 0 2000\n" * 2) for _ in range(10)]
             self.loop.turns(20)
         self.assertLess(sum(peer.answers for peer in self.socket.peers), 1_000_001)

@@ -7,9 +7,9 @@ import unittest
 from unittest import mock
 
 from aids import Case
-from roam_live import sealed
-from roam_live.sealed import (LONGEST_PACKET, LONGEST_TEXT, MOST_PACKETS, PORTS, TO_NEAR, WINDOW, Seal, Window, came_to, cipher, places_of,
-                              udp_end)
+from roam_live.relay import aead_packets
+from roam_live.relay.aead_packets import (LONGEST_PACKET, LONGEST_TEXT, MOST_PACKETS, PORTS, TO_NEAR, WINDOW, Seal, Window, came_to, cipher,
+                                          places_of, udp_end)
 
 
 class Foolish:
@@ -158,7 +158,7 @@ class Sockets(Case):
         """An answer goes from the address to which was sent, in both families."""
         for family, own, address in ((socket.AF_INET6, "::ffff:127.0.0.9", None), (socket.AF_INET, "127.0.0.9", None)):
             with self.subTest(family=family):
-                end = sealed.socket_of(family)
+                end = aead_packets.socket_of(family)
                 self.addCleanup(end.close)
                 end.bind(("", 0))
                 other = socket.socket(socket.AF_INET, socket.SOCK_DGRAM)
@@ -170,7 +170,7 @@ class Sockets(Case):
                 _, told, _, place = end.recvmsg(10, 64)
                 source = came_to(told)
                 self.assertEqual(len(source), 1)
-                sealed.send(end, b"answer", place, source)
+                aead_packets.send(end, b"answer", place, source)
                 self.assertEqual(other.recvfrom(10)[1][0], "127.0.0.9")
         self.assertEqual(came_to([]), ())
         self.assertEqual(came_to([(socket.IPPROTO_IPV6, socket.IPV6_PKTINFO, b"short"), (0, 8, b"short"), (1, 1, b"")]), ())
@@ -178,7 +178,7 @@ class Sockets(Case):
     def test_send(self):
         """Where an address is gone it goes from another; what the system refuses is lost."""
         end = mock.Mock(sendmsg=mock.Mock(side_effect=OSError(errno.EADDRNOTAVAIL, "no")))
-        sealed.send(end, b"x", ("::1", 1, 0, 0), [(41, 50, bytes(20))])
+        aead_packets.send(end, b"x", ("::1", 1, 0, 0), [(41, 50, bytes(20))])
         self.assertEqual([call.args[1] for call in end.sendmsg.call_args_list], [[(41, 50, bytes(20))], ()])
 
     def test_places(self):

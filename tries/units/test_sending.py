@@ -1,8 +1,8 @@
 """Which acts can't be done, where it is known where the panes are."""
 import unittest
 
-from roam_live.places import Places, Rect
-from roam_live.sending import wrong_in
+from roam_live.cli.send import wrong_in
+from roam_live.protocol.panes import Places, Rect
 
 ONE = Places({1: Rect(1, 1, 23, 80)}, 1)
 TWO = Places({1: Rect(1, 1, 23, 39), 2: Rect(1, 41, 23, 40)}, 2)

@@ -12,9 +12,9 @@ import time
 import unittest
 from unittest import mock
 
-from roam_live import sessions
-from roam_live.program import Fault, begun, note_end
-from roam_live.sessions import VERSION, NearSession, FolderSession
+from roam_live.common.errors import Fault, begun, note_end
+from roam_live.session import sessions
+from roam_live.session.sessions import VERSION, FolderSession, NearSession
 
 # A process that ended: no process has begun at this moment.
 ENDED = [1, 1]
@@ -41,7 +41,7 @@ class Sessions(unittest.TestCase):
         self.addCleanup(made.cleanup)
         self.base = pathlib.Path(made.name, "roam")
         self.base.mkdir(mode=0o700)
-        patched = mock.patch("roam_live.sessions.base", lambda: self.base)
+        patched = mock.patch("roam_live.session.sessions.base", lambda: self.base)
         patched.start()
         self.addCleanup(patched.stop)
         self.folder = self.base / "main"
@@ -255,7 +255,7 @@ class Starts(Sessions):
             with mock.patch.object(self.session, "note_own", side_effect=OSError(28, "No space left on device")):
                 with self.assertRaisesRegex(Fault, "^session new: the server can't be spawned: it can't be noted in "):
                     self.session.spawned("server", ["sleep", "60"])
-            with mock.patch("roam_live.processes.replace_text", side_effect=OSError(28, "No space left on device")):
+            with mock.patch("roam_live.session.processes.replace_text", side_effect=OSError(28, "No space left on device")):
                 with self.assertRaisesRegex(Fault, "^session new: the server can't be spawned: No space left on device"):
                     self.session.spawned("server", ["sleep", "60"])
             with mock.patch("subprocess.Popen", side_effect=BlockingIOError(11, "Resource temporarily unavailable")):
@@ -266,7 +266,7 @@ class Starts(Sessions):
         """A try to reach another machine that fails leaves no folder; one where something is logged leaves the log."""
         for logged in (False, True):
             near = NearSession(self.base / "ssh:there:main", "main")
-            with near.locked(), mock.patch("roam_live.sessions.TOOLS", self.base), mock.patch("roam_live.sessions.in_front"):
+            with near.locked(), mock.patch("roam_live.session.sessions.TOOLS", self.base), mock.patch("roam_live.session.sessions.in_front"):
                 relay = self.base / "relay"
                 relay.write_text(f"#!/bin/sh\n{'echo said >> $4' if logged else ''}\nexit 3\n", encoding="utf-8")
                 relay.chmod(0o700)

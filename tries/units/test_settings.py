@@ -4,9 +4,9 @@ import unittest
 from unittest import mock
 
 from aids import Case
-from roam_live import settings
-from roam_live.settings import DEEPEST, LONGEST_TOLD, MOST_BYTES, MOST_FILES, MOST_TOLD, FileSettings
-from roam_live.settings_words import BadWord, key_named
+from roam_live.config import loader
+from roam_live.config.loader import DEEPEST, LONGEST_TOLD, MOST_BYTES, MOST_FILES, MOST_TOLD, FileSettings
+from roam_live.config.parser import BadWord, key_named
 
 ENVIRONMENT = {"HOME": "/home/me", "USER": "me", "EMPTY": "", "SHELL": "/bin/zsh"}
 COMMANDS = {"split-window", "kill-pane", "select-pane", "source-file", "display", "run-shell", "new-window", "resize-pane", "send-keys"}
@@ -282,7 +282,7 @@ class Files(Case):
                 (str(self.folder / "none"), "can't be read: No such file or directory"), ("a\0b", "can't be read: no name of a file")):
             found, name = self.read(path), os.path.basename(path).replace("\0", "?")
             self.assertEqual((found.told, found.values, found.runs, found.open), ([f"{name}: {why}"], {}, [], []))
-        with mock.patch.object(settings.os, "fstat", return_value=other):
+        with mock.patch.object(loader.os, "fstat", return_value=other):
             found = self.read(self.made("c", text))
         self.assertEqual((found.told, found.values), (["c: isn't read: it is another user's"], {}))
 

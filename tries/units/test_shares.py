@@ -2,10 +2,10 @@
 import unittest
 
 from lived import Lived, by_chance
-from roam_live.borders import least_of, splits_of
-from roam_live.places import Rect
-from roam_live.shares import Evened, above, area_of, growths, laid, length_of, row_of, shares, size_at, size_for
-from roam_live.terminal import MOST
+from roam_live.common.tty import MOST
+from roam_live.frontend.borders import least_of, splits_of
+from roam_live.frontend.split_math import Evened, above, area_of, growths, laid, length_of, row_of, shares, size_at, size_for
+from roam_live.protocol.panes import Rect
 
 SIZES = ((24, 80), (50, 160))
 

@@ -13,12 +13,12 @@ import unittest
 import unittest.mock
 
 from aids import StillLoop
-from roam_live import pane_commands
-from roam_live.brought import Brought
-from roam_live.given import GivenTexts
-from roam_live.program import TOOLS
-from roam_live.programs import group_in_front, working_folder
-from roam_live.typed import TypedQueue
+from roam_live.common.errors import TOOLS
+from roam_live.host import pane as host_pane
+from roam_live.host.input_queue import TypedQueue
+from roam_live.host.pending_pastes import GivenTexts
+from roam_live.session.environment import Brought
+from roam_live.session.foreground import group_in_front, working_folder
 
 
 def comes(test):
@@ -35,7 +35,7 @@ class Surroundings(unittest.TestCase):
     def test_not_asked(self):
         """The pane's name, and nothing that tells of another terminal or asks the programs of a session why they ended."""
         with unittest.mock.patch.dict(os.environ, {"ROAM_WHY": "1", "TMUX": "another", "KEPT": "one"}):
-            found = pane_commands.surroundings(pane_commands.Options(folder="folder"), 3, Brought())
+            found = host_pane.surroundings(host_pane.Options(folder="folder"), 3, Brought())
         self.assertEqual((found.get("ROAM_WHY"), found.get("TMUX"), found["KEPT"], found["ROAM_PANE"]), (None, None, "one", "folder:3"))
 
 
@@ -82,9 +82,9 @@ class Working(unittest.TestCase):
         here = os.getcwd()
         self.addCleanup(os.chdir, here)
         for folder in ("", str(self.folder / "none")):
-            self.assertEqual(pane_commands.entered(folder), {})
+            self.assertEqual(host_pane.entered(folder), {})
             self.assertEqual(os.getcwd(), here)
-        self.assertEqual(pane_commands.entered(str(self.folder)), {"PWD": str(self.folder)})
+        self.assertEqual(host_pane.entered(str(self.folder)), {"PWD": str(self.folder)})
         self.assertEqual(os.getcwd(), str(self.folder))
 
 
@@ -94,7 +94,7 @@ class Typed(unittest.TestCase):
     def test_dropped(self):
         """65,536 bytes wait; what is above is dropped, which is told once until all was read."""
         typed = TypedQueue(GivenTexts(StillLoop(), lambda name, word: None), lambda: False)
-        pane = pane_commands.PaneCommand(pane_commands.Options(folder="/no"), StillLoop(), 4, 1, (23, 80), False, "", typed)
+        pane = host_pane.PaneCommand(host_pane.Options(folder="/no"), StillLoop(), 4, 1, (23, 80), False, "", typed)
         said = io.StringIO()
         with contextlib.redirect_stderr(said):
             for _ in range(3):

@@ -6,14 +6,15 @@ import unittest
 from unittest import mock
 
 from aids import Case, StillLoop, read_now
-from roam_live import fronts, presence
-from roam_live.following import PAUSES
-from roam_live.presence import MOST_OTHERS, Presence, ToldOthers, presence_said, terminal_name
-from roam_live.program import begun
-from roam_live.shells import LONGEST_LINE, MEETS_AGAIN, MOST_PEERS, MOST_WAITING, ShellsSocket
-from roam_live.shells_link import KNOWS, ShellsLink
-from roam_live.unmet import MEETS, TICKS, ticks
-from roam_live.zoom_notes import OVER, ZoomNote
+from roam_live.common.errors import begun
+from roam_live.host import foreground_watch
+from roam_live.host.pending_clients import MEETS, TICKS, ticks
+from roam_live.host.socket_server import LONGEST_LINE, MEETS_AGAIN, MOST_PEERS, MOST_WAITING, ShellsSocket
+from roam_live.protocol import presence
+from roam_live.protocol.host_client import KNOWS, ShellsLink
+from roam_live.protocol.panes_client import PAUSES
+from roam_live.protocol.presence import MOST_OTHERS, Presence, ToldOthers, presence_said, terminal_name
+from roam_live.protocol.zoom_record import OVER, ZoomNote
 
 A, B = "here:/dev/pts/1 24 80 edits", "there:/dev/pts/2 12 40 watches"
 
@@ -142,11 +143,11 @@ class Fronts(Case):
 
     def setUp(self):
         self.loop, self.told = StillLoop(lambda: self.now), []
-        self.fronts = fronts.Fronts(self.loop, lambda *words: self.told.append(words))
+        self.fronts = foreground_watch.Fronts(self.loop, lambda *words: self.told.append(words))
         self.fronts.is_wanted = True
         self.pane = mock.Mock(number=3, life=7, terminal=5)
-        self.looks = self.patch_of(fronts, "group_in_front", return_value=70)
-        self.patch_of(fronts, "name_of", side_effect=lambda group: f"a{group}")
+        self.looks = self.patch_of(foreground_watch, "group_in_front", return_value=70)
+        self.patch_of(foreground_watch, "name_of", side_effect=lambda group: f"a{group}")
 
     def touch(self, seconds=0.0):
         """Has something be typed in a pane, and so many seconds pass."""

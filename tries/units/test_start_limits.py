@@ -4,7 +4,7 @@ import os
 import struct
 
 from aids import Case
-from roam_live.start_limits import EDITS, WATCHES, Start, StartLimit, room_at, start_in
+from roam_live.relay.client_limits import EDITS, WATCHES, Start, StartLimit, room_at, start_in
 
 SESSION = 0x5E55
 

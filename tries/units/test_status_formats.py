@@ -3,7 +3,7 @@ import os
 import time
 import unittest
 
-from roam_live.status_formats import MOST_FORMAT, changes_in, filled, read_format, restyled
+from roam_live.config.formats import MOST_FORMAT, changes_in, filled, read_format, restyled
 
 VALUES = {"session": "main", "window": "bash", "index": "2", "pane": "3", "title": "a\x1b]0;b\x07c", "host": "here.example",
           "short_host": "here", "flags": "*"}

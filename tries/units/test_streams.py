@@ -4,10 +4,10 @@ import socket
 import unittest
 
 from aids import Case, StillLoop, read_now
-from roam_live import path_streams, streams
-from roam_live.path_streams import LONGEST_PIECE, MOST_PIECES, STREAM, STREAM_KIND, TAKEN_KIND, PathStreams, StreamPiece
-from roam_live.streams import (BYTES, CREDIT, END, MOST_CARRIED, NAMES, NUMBER, OPEN, TAKEN, TAKEN_AFTER, TAKEN_COUNT, BadStream,
-                               PipeStreams)
+from roam_live.relay import forwarding, path_forwarding
+from roam_live.relay.forwarding import (BYTES, CREDIT, END, MOST_CARRIED, NAMES, NUMBER, OPEN, TAKEN, TAKEN_AFTER, TAKEN_COUNT, BadStream,
+                                        PipeStreams)
+from roam_live.relay.path_forwarding import LONGEST_PIECE, MOST_PIECES, STREAM, STREAM_KIND, TAKEN_KIND, PathStreams, StreamPiece
 
 ROOM = 1137
 
@@ -153,10 +153,10 @@ class Carries:
 
     def test_numbers(self):
         """A number isn't given again while it is used, and after the last comes the first."""
-        self.near.last = streams.MOST_NUMBER - 1
+        self.near.last = forwarding.MOST_NUMBER - 1
         for _ in range(2):
             self.client()
-        self.near.last = streams.MOST_NUMBER - 1
+        self.near.last = forwarding.MOST_NUMBER - 1
         self.client()
         self.assertEqual(list(self.near.all), [65535, 1, 2])
         self.turn(3)
@@ -179,8 +179,8 @@ class Limits(Case):
 
     def test_limits(self):
         """65,536 bytes beyond what the reader took, of which it tells each 16,384; as many are read ahead."""
-        self.assertEqual((streams.CREDIT, streams.TAKEN_AFTER, streams.READ_AHEAD), (65536, 16384, 16384))
-        self.assertEqual((streams.MOST_ENDING, streams.LONGEST_NAME, path_streams.MOST_PIECES), (64, 32, 64))
+        self.assertEqual((forwarding.CREDIT, forwarding.TAKEN_AFTER, forwarding.READ_AHEAD), (65536, 16384, 16384))
+        self.assertEqual((forwarding.MOST_ENDING, forwarding.LONGEST_NAME, path_forwarding.MOST_PIECES), (64, 32, 64))
 
 
 class Pipes(Both, Carries):
@@ -402,10 +402,10 @@ class Paths(Both, Carries):
         self.assertEqual(self.far.all, {})
         self.far.take(STREAM_KIND, 1, 0, b"panes\n")
         self.assertEqual((self.far.all, len(self.servers)), ({}, 1))
-        for number in range(2, path_streams.MOST_ENDED + 10):
+        for number in range(2, path_forwarding.MOST_ENDED + 10):
             self.far.take(STREAM_KIND, number, 0, b"bells\n")
             self.far.take(STREAM_KIND, number, 6, b"")
-        self.assertEqual(len(self.far.ended), path_streams.MOST_ENDED)
+        self.assertEqual(len(self.far.ended), path_forwarding.MOST_ENDED)
 
     def test_taken_again(self):
         """What was taken is told again where that is lost, by the newest count."""

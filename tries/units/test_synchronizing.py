@@ -3,8 +3,8 @@ import random
 import unittest
 
 from lived import Attached, Lived
-from roam_live import synchronizing
-from roam_live.synchronizing import AGAIN, FOCUS_WAIT, MOST_ACTS, lines_of
+from roam_live.frontend import synchronize_panes
+from roam_live.frontend.synchronize_panes import AGAIN, FOCUS_WAIT, MOST_ACTS, lines_of
 
 
 def typed_in(lines, focus):
@@ -127,7 +127,7 @@ class Person(Attached):
         panes.awaited, panes.place.told = True, None
         self.commands.fed(b"x")
         self.assertEqual((self.person.said(), self.commands.is_full()), ([], False))
-        self.patch_of(synchronizing, "MOST_KEYS", 1)
+        self.patch_of(synchronize_panes, "MOST_KEYS", 1)
         self.assertTrue(self.commands.is_full())
         self.person.tell(told)
         self.assertEqual((self.person.said(), self.commands.is_full()), (["char 78 ; focus 1 ; char 78 ; focus 2"], False))

@@ -5,16 +5,16 @@ import unittest
 from unittest import mock
 
 from aids import Case, read_now
-from roam_live import captures, giving, sending, targets
-from roam_live.cells import cells_of, part_of, sgr_of
-from roam_live.given import PUT
-from roam_live.loops import ready
-from roam_live.places import Places, Rect
-from roam_live.program import Fault
-from roam_live.sending import lines_in_pane
-from roam_live.targets import Target, close_pane, pane_places, target_of, wants_brackets
-from roam_live.texts import MOST_BYTES, mark_acts
-from roam_live.told import screen_of
+from roam_live.cli import capture, paste, send, targets
+from roam_live.cli.send import lines_in_pane
+from roam_live.cli.targets import Target, close_pane, pane_places, target_of, wants_brackets
+from roam_live.common.errors import Fault
+from roam_live.common.event_loop import ready
+from roam_live.host.pending_pastes import PUT
+from roam_live.protocol.display_records import screen_of
+from roam_live.protocol.panes import Places, Rect
+from roam_live.protocol.paste_text import MOST_BYTES, mark_acts
+from roam_live.protocol.screen_cells import cells_of, part_of, sgr_of
 from test_shells_socket import Sockets
 
 PLACES = Places({1: Rect(1, 1, 2, 3), 2: Rect(1, 5, 2, 4)}, 1, 1)
@@ -95,19 +95,19 @@ class Captures(Case):
         session.name = "main"
         plain = "\n".join("\x1f".join(text.rpartition("m")[2] if text.startswith("\x1b") else text for text in line.split("\x1f"))
                           for line in SCREEN.decode().split("\n")).encode()
-        self.patch_of(captures, "opened")
-        asks = self.patch_of(captures, "asked_screen", return_value=plain)
+        self.patch_of(capture, "opened")
+        asks = self.patch_of(capture, "asked_screen", return_value=plain)
         printed = mock.Mock(buffer=io.BytesIO())
         with mock.patch("sys.stdout", printed):
-            self.assertEqual(captures.capture(session, False, 2), 0)
+            self.assertEqual(capture.capture(session, False, 2), 0)
         self.assertEqual(printed.buffer.getvalue().decode(), "dm\n\u4e2dvw\n")
         asks.return_value = SCREEN
         with mock.patch.object(subprocess, "run", return_value=mock.Mock(returncode=5)) as runs:
-            self.assertEqual(captures.capture(session, True, 1), 5)
+            self.assertEqual(capture.capture(session, True, 1), 5)
         self.assertEqual(cells_of(runs.call_args[1]["input"]).cells[1, 1][0], "a")
         session.places = lambda: Places({1: Rect(1, 1, 3, 8)}, 1)
         with self.assertRaisesRegex(Fault, "^pane 1 has just got another place$"):
-            captures.capture(session, False, 1)
+            capture.capture(session, False, 1)
 
 
 class Panes(Case):
@@ -191,12 +191,12 @@ class Given(Sockets):
         self.stop_clock()
         self.session = mock.Mock(folder=self.folder, places=lambda: PLACES)
         self.session.name = "main"
-        self.patch_of(giving, "opened")
+        self.patch_of(paste, "opened")
         self.typed, self.texts, self.wants = [], [], True
-        self.patch_of(giving, "type_lines", self.type)
-        self.patch_of(giving, "wants_brackets", lambda session, pane: self.wants)
-        self.patch_of(giving, "ready", self.ready)
-        self.patch_of(giving, "random_name", return_value="0123456789abcdef")
+        self.patch_of(paste, "type_lines", self.type)
+        self.patch_of(paste, "wants_brackets", lambda session, pane: self.wants)
+        self.patch_of(paste, "ready", self.ready)
+        self.patch_of(paste, "random_name", return_value="0123456789abcdef")
         self.is_put = True
 
     def ready(self, end, events, seconds):
@@ -218,23 +218,23 @@ class Given(Sockets):
     def test_given(self):
         """A text is given, its mark typed in one line, and it ends once the text is put there."""
         text = "\u00e9" * 100000
-        self.assertEqual(giving.type_text(self.session, text, 0, False), 0)
+        self.assertEqual(paste.type_text(self.session, text, 0, False), 0)
         self.assertEqual(self.texts, [(text.encode(), False)])
         self.assertEqual(self.typed, [" ; ".join(["paste", *mark_acts("0123456789abcdef")])])
         self.socket.texts.texts.clear()
-        self.assertEqual(giving.type_text(self.session, "ab", 2, True), 0)
+        self.assertEqual(paste.type_text(self.session, "ab", 2, True), 0)
         self.assertEqual((self.texts[1:], self.typed[1][:18], self.typed[1][-7:]), ([(b"ab", True)], "paste ; focus 2 ; ", "focus 1"))
 
     def test_no_keeper(self):
         """Where no keeper takes it, it is typed as acts, between brackets where the program wants them and it isn't plain."""
         self.socket.close()
-        giving.type_text(self.session, "a\r", 0, False)
-        giving.type_text(self.session, "a\r", 0, True)
+        paste.type_text(self.session, "a\r", 0, False)
+        paste.type_text(self.session, "a\r", 0, True)
         self.assertEqual([line.count("char") for line in self.typed], [14, 1])
         self.assertEqual(self.typed[1], "paste ; char 61 ; key return")
         listener = self.listening(self.folder / "shells")
-        with mock.patch.object(giving, "ready", lambda end, events, seconds: (self.taken(listener).close(), events)[1]):
-            giving.type_text(self.session, "b", 0, True)
+        with mock.patch.object(paste, "ready", lambda end, events, seconds: (self.taken(listener).close(), events)[1]):
+            paste.type_text(self.session, "b", 0, True)
         self.assertEqual(self.typed[2], "paste ; char 62")
 
     def test_refused(self):
@@ -243,38 +243,38 @@ class Given(Sockets):
                                 ("x" * (MOST_BYTES + 1), 0, "a text has 16 MB at most; nothing was typed"),
                                 ("x", 3, "session main has no pane 3")):
             with self.assertRaisesRegex(Fault, f"^{why}$"):
-                giving.type_text(self.session, text, pane, False)
+                paste.type_text(self.session, text, pane, False)
         with mock.patch.object(self.socket.texts, "refusal", return_value="64 texts wait to be pasted"):
             with self.assertRaisesRegex(Fault, "^session main: 64 texts wait to be pasted. Nothing was typed$"):
-                giving.type_text(self.session, "x", 0, False)
-        with mock.patch.object(giving, "ready", lambda end, events, seconds: self.pass_time(seconds) or 0):
+                paste.type_text(self.session, "x", 0, False)
+        with mock.patch.object(paste, "ready", lambda end, events, seconds: self.pass_time(seconds) or 0):
             with self.assertRaisesRegex(Fault, "^session main: what keeps its shells doesn't take the text$"):
-                giving.type_text(self.session, "x", 0, False)
+                paste.type_text(self.session, "x", 0, False)
         self.assertEqual((self.typed, PUT), ([], "put"))
 
     def test_lost(self):
         """Where the keeper ends before the mark comes that is told."""
         self.is_put = None
         with self.assertRaisesRegex(Fault, "^session main: what keeps its shells ended, and nothing was typed$"):
-            giving.type_text(self.session, "x", 0, False)
+            paste.type_text(self.session, "x", 0, False)
 
     def test_read(self):
         """Standard input is cleaned; raw it keeps escapes, and has no bracket."""
         for is_raw, wanted in ((False, "a[20[201~1~\rb\ufffd"), (True, "a\rb\ufffd")):
             with mock.patch("sys.stdin", mock.Mock(buffer=io.BytesIO(b"a\x1b[20\x1b[201~1~\r\nb\x00\x07\xff"))):
-                self.assertEqual(giving.read_text(is_raw), wanted)
+                self.assertEqual(paste.read_text(is_raw), wanted)
         with mock.patch("sys.stdin", mock.Mock(buffer=io.BytesIO(bytes(MOST_BYTES + 1)))):
             with self.assertRaisesRegex(Fault, "^a text has 16 MB at most; nothing was typed$"):
-                giving.read_text(False)
+                paste.read_text(False)
 
     def test_sent(self):
         """Acts for a pane are looked at with it in focus."""
-        with mock.patch.object(sending, "demand_acts"), mock.patch.object(sending, "demand_doable") as demands, \
-                mock.patch.object(sending, "opened"), mock.patch.object(sending, "type_lines") as types:
-            sending.send(self.session, ["close"], 2)
+        with mock.patch.object(send, "demand_acts"), mock.patch.object(send, "demand_doable") as demands, \
+                mock.patch.object(send, "opened"), mock.patch.object(send, "type_lines") as types:
+            send.send(self.session, ["close"], 2)
             self.assertEqual((demands.call_args[0][1], types.call_args[0][2]), (["focus 2", "close"], ["focus 2 ; close"]))
             with self.assertRaisesRegex(Fault, "^session main has no pane 9$"):
-                sending.send(self.session, ["close"], 9)
+                send.send(self.session, ["close"], 9)
 
 
 if __name__ == "__main__":

@@ -12,7 +12,7 @@ import termios
 from unittest import mock
 
 from aids import Case, read_now
-from roam_live import terminal
+from roam_live.common import tty
 
 
 class Resets(Case):
@@ -20,15 +20,15 @@ class Resets(Case):
 
     def test_erases(self):
         """It has no reset, which would erase what scrolled off a person's own screen, and ends with all erased and the cursor at home."""
-        for text in (terminal.CLEARED, terminal.ENTERED, terminal.LEFT):
+        for text in (tty.CLEARED, tty.ENTERED, tty.LEFT):
             self.assertNotIn(b"\x1bc", text)
             self.assertNotIn(b"\x1b[3J", text)
-        self.assertTrue(terminal.CLEARED.endswith(b"\x1b[2J\x1b[H"))
-        self.assertTrue(terminal.ENTERED.startswith(b"\x1b[?1049h\x1b[?2004h"))
-        self.assertTrue(terminal.LEFT.endswith(b"\x1b[?1049l") and b"\x1b[?2004l" in terminal.LEFT)
+        self.assertTrue(tty.CLEARED.endswith(b"\x1b[2J\x1b[H"))
+        self.assertTrue(tty.ENTERED.startswith(b"\x1b[?1049h\x1b[?2004h"))
+        self.assertTrue(tty.LEFT.endswith(b"\x1b[?1049l") and b"\x1b[?2004l" in tty.LEFT)
 
     def test_unwrapped(self):
-        self.assertEqual(terminal.unwrapped("a\ud800"), b"\x1b[?7la?\x1b[?7h")
+        self.assertEqual(tty.unwrapped("a\ud800"), b"\x1b[?7la?\x1b[?7h")
 
 
 class Sizes(Case):
@@ -37,11 +37,11 @@ class Sizes(Case):
     def test_limits(self):
         """A session has 4 to 200 rows and 8 to 500 columns."""
         for size, is_large in (((4, 8), True), ((3, 8), False), ((4, 7), False), ((300, 7), False), ((300, 600), True)):
-            self.assertEqual(terminal.is_large_enough(size), is_large, size)
-        self.assertEqual(terminal.largest((300, 600)), (200, 500))
-        self.assertEqual(terminal.largest((24, 80)), (24, 80))
-        self.assertEqual(terminal.size_act((300, 80)), "size 200 80")
-        self.assertEqual((terminal.LEAST, terminal.MOST, terminal.LEAST_SHOWN), ((4, 8), (200, 500), (3, 4)))
+            self.assertEqual(tty.is_large_enough(size), is_large, size)
+        self.assertEqual(tty.largest((300, 600)), (200, 500))
+        self.assertEqual(tty.largest((24, 80)), (24, 80))
+        self.assertEqual(tty.size_act((300, 80)), "size 200 80")
+        self.assertEqual((tty.LEAST, tty.MOST, tty.LEAST_SHOWN), ((4, 8), (200, 500), (3, 4)))
 
 
 class Modes(Case):
@@ -55,14 +55,14 @@ class Modes(Case):
     def test_raw(self):
         """Each byte comes as it is, and all is as before in the end."""
         before = termios.tcgetattr(self.slave)
-        self.assertEqual(terminal.make_raw(self.slave), before)
+        self.assertEqual(tty.make_raw(self.slave), before)
         os.write(self.master, b"\x03\x1a\r\x13\x04x\x7f\x16\x0f")
         self.assertEqual(os.read(self.slave, 64), b"\x03\x1a\r\x13\x04x\x7f\x16\x0f")
         os.write(self.slave, b"a\nb")
         self.assertEqual(os.read(self.master, 64), b"a\nb")
         os.write(self.master, b"rm -rf x\n")
         select.select([self.slave], [], [], 10)
-        terminal.restore(self.slave, before)
+        tty.restore(self.slave, before)
         self.assertEqual(termios.tcgetattr(self.slave), before)
         os.set_blocking(self.slave, False)
         with self.assertRaises(BlockingIOError):
@@ -71,7 +71,7 @@ class Modes(Case):
     def test_bits(self):
         """Those modes are changed that POSIX names for it, and no others."""
         modes = [-1, -1, -1 & ~termios.CSIZE | termios.CS7, -1, 1, 2, [b"\x09"] * 32]
-        found = terminal.raw(list(modes))
+        found = tty.raw(list(modes))
         off = termios.BRKINT | termios.ICRNL | termios.INLCR | termios.IGNCR | termios.INPCK | termios.ISTRIP | termios.IXON
         self.assertEqual(found[0], ~off)
         self.assertEqual(found[1], ~termios.OPOST)
@@ -82,33 +82,33 @@ class Modes(Case):
     def test_no_terminal(self):
         """What is none can't be made raw, and to restore it is no fault."""
         reader, _ = self.pipe()
-        self.assertIsNone(terminal.make_raw(reader))
-        terminal.restore(reader, [0] * 6 + [[b"\0"] * 32])
+        self.assertIsNone(tty.make_raw(reader))
+        tty.restore(reader, [0] * 6 + [[b"\0"] * 32])
 
     def test_interrupted(self):
         """A signal between has it asked for anew; another fault is one."""
         interrupted = termios.error(errno.EINTR, "Interrupted")
         with mock.patch("termios.tcsetattr", side_effect=[interrupted, interrupted, None]) as sets:
-            terminal.set_modes(self.slave, termios.TCSADRAIN, [])
+            tty.set_modes(self.slave, termios.TCSADRAIN, [])
             self.assertEqual(sets.call_args_list, [mock.call(self.slave, termios.TCSADRAIN, [])] * 3)
         with mock.patch("termios.tcsetattr", side_effect=termios.error(errno.EIO, "gone")), self.assertRaises(termios.error):
-            terminal.set_modes(self.slave, termios.TCSADRAIN, [])
+            tty.set_modes(self.slave, termios.TCSADRAIN, [])
 
     def test_size(self):
         """A size is given and told; a terminal that tells none has 24 by 80."""
-        terminal.set_size(self.slave, 33, 101)
-        self.assertEqual(terminal.size_of(self.master), (33, 101))
+        tty.set_size(self.slave, 33, 101)
+        self.assertEqual(tty.size_of(self.master), (33, 101))
         self.assertEqual(struct.unpack("HHHH", fcntl.ioctl(self.slave, termios.TIOCGWINSZ, bytes(8))), (33, 101, 0, 0))
-        terminal.set_size(self.slave, 0, 0)
-        self.assertEqual(terminal.size_of(self.slave), (24, 80))
+        tty.set_size(self.slave, 0, 0)
+        self.assertEqual(tty.size_of(self.slave), (24, 80))
 
     def test_opened(self):
         """A terminal is opened anew and doesn't wait there; what has no name is taken twice."""
         for end in (self.slave, self.pipe()[1]):
-            opened = terminal.opened_for_writing(end)
+            opened = tty.opened_for_writing(end)
             self.addCleanup(os.close, opened)
             self.assertNotEqual(opened, end)
-        again = terminal.opened_for_writing(self.slave)
+        again = tty.opened_for_writing(self.slave)
         self.addCleanup(os.close, again)
         self.assertFalse(os.get_blocking(again))
         self.assertTrue(os.get_blocking(self.slave))
@@ -129,14 +129,14 @@ class Modes(Case):
                 return 8
 
             with mock.patch("os.open", opens), mock.patch("os.tcgetpgrp", side_effect=None if is_controlling else OSError(25, "none")):
-                self.assertEqual(terminal.opened_for_writing(3), 8 if is_controlling else 7)
+                self.assertEqual(tty.opened_for_writing(3), 8 if is_controlling else 7)
             self.assertEqual((opened, dups.call_count), (names, not is_controlling))
 
     def test_frozen(self):
         """Neither to be made raw nor to be given back waits until the terminal has shown what was written."""
         with mock.patch("termios.tcsetattr") as sets:
-            before = terminal.make_raw(self.slave)
-            terminal.restore(self.slave, before)
+            before = tty.make_raw(self.slave)
+            tty.restore(self.slave, before)
         self.assertEqual([call[0][1] for call in sets.call_args_list], [termios.TCSANOW] * 2)
 
 
@@ -152,13 +152,13 @@ class Commands(Case):
         runs = self.patch("os.execvpe")
         gets = self.patch("termios.tcgetattr", return_value=[0, 1, 2])
         sets = self.patch("termios.tcsetattr")
-        terminal.become(["sh", "-c", "x"], {"A": "b"})
+        tty.become(["sh", "-c", "x"], {"A": "b"})
         gets.assert_called_once_with(0)
         sets.assert_called_once_with(0, termios.TCSANOW, [0o40000, 1, 2])
         wakes.assert_called_once_with(-1)
-        self.assertEqual({call[0] for call in handles.call_args_list}, {(number, signal.SIG_DFL) for number in terminal.SIGNALS})
+        self.assertEqual({call[0] for call in handles.call_args_list}, {(number, signal.SIG_DFL) for number in tty.SIGNALS})
         for number in (signal.SIGCHLD, signal.SIGTERM, signal.SIGHUP, signal.SIGINT, signal.SIGPIPE):
-            self.assertIn(number, terminal.SIGNALS)
+            self.assertIn(number, tty.SIGNALS)
         self.assertEqual(runs.call_args_list[0][0], ("sh", ["sh", "-c", "x"], {"A": "b"}))
 
     def test_instead(self):
@@ -168,13 +168,13 @@ class Commands(Case):
         self.patch("termios.tcgetattr", side_effect=termios.error(5, "gone"))
         runs = self.patch("os.execvpe", side_effect=[FileNotFoundError(2, "No such file or directory"), None])
         writes = self.patch("os.write")
-        terminal.become(["/no\x1b[c"], {"A": "b"}, "/bin/sh")
+        tty.become(["/no\x1b[c"], {"A": "b"}, "/bin/sh")
         self.assertEqual(writes.call_args[0], (2, b"/no?[c: No such file or directory; this is /bin/sh\n"))
         self.assertEqual(runs.call_args[0], ("/bin/sh", ["/bin/sh"], {"A": "b", "SHELL": "/bin/sh"}))
 
     def forked(self, size):
         """What a shell tells of its terminal that is forked there, and its process."""
-        process, master = terminal.forked(size)
+        process, master = tty.forked(size)
         if process == 0:
             os.execvp("sh", ["sh", "-c", "stty size; tty; ps -o sid= -p $$; ls -l /proc/$$/fd | grep -c ptmx"])
         text = b""
@@ -198,8 +198,8 @@ class Commands(Case):
         before = signal.signal(signal.SIGHUP, lambda number, frame: None), signal.set_wakeup_fd(writer, warn_on_full_buffer=False)
         self.addCleanup(lambda: (signal.set_wakeup_fd(before[1]), signal.signal(signal.SIGHUP, before[0])))
         for takes in (lambda slave: os.kill(os.getpid(), signal.SIGHUP), lambda slave: signal.pause()):
-            with mock.patch.object(terminal, "take", takes):
-                process, master = terminal.forked((7, 33))
+            with mock.patch.object(tty, "take", takes):
+                process, master = tty.forked((7, 33))
             if process == 0:
                 os._exit(0)
             os.kill(process, signal.SIGHUP)
@@ -214,14 +214,14 @@ class Commands(Case):
         # What other tests left is closed before.
         gc.collect()
         before = sorted(os.listdir("/proc/self/fd"))
-        for name in ("os.fork", "roam_live.terminal.set_size"):
+        for name in ("os.fork", "roam_live.common.tty.set_size"):
             with mock.patch(name, side_effect=OSError(11, "none")), self.assertRaises(OSError):
-                terminal.forked((7, 33))
+                tty.forked((7, 33))
         self.assertEqual(sorted(os.listdir("/proc/self/fd")), before)
 
     def test_not_run(self):
         writes, runs = self.patch("os.write"), self.patch("os.execvpe", side_effect=PermissionError(13, "Permission denied"))
-        terminal.execute(["x", "y"], {})
+        tty.execute(["x", "y"], {})
         self.assertEqual(writes.call_args[0], (2, b"x: Permission denied\n"))
         runs.assert_called_once_with("x", ["x", "y"], {})
 
@@ -231,7 +231,7 @@ class Names(Case):
 
     def setUp(self):
         self.folder = self.made_folder()
-        self.patch_of(terminal, "FOLDERS", (str(self.folder / "system"),))
+        self.patch_of(tty, "FOLDERS", (str(self.folder / "system"),))
         self.environment(HOME=str(self.folder / "home"), TERMINFO=None, TERMINFO_DIRS=None)
 
     def enter(self, place, name):
@@ -241,11 +241,11 @@ class Names(Case):
         path.touch()
 
     def test_first(self):
-        self.assertEqual(terminal.names(), {"TERM": "vt220", "COLORTERM": "truecolor"})
+        self.assertEqual(tty.names(), {"TERM": "vt220", "COLORTERM": "truecolor"})
         self.enter("system/s", "screen-256color")
-        self.assertEqual(terminal.names()["TERM"], "screen-256color")
+        self.assertEqual(tty.names()["TERM"], "screen-256color")
         self.enter("system/t", "tmux-256color")
-        self.assertEqual(terminal.names()["TERM"], "tmux-256color")
+        self.assertEqual(tty.names()["TERM"], "tmux-256color")
 
     def test_places(self):
         """It is looked for where terminfo is: in TERMINFO, the home, TERMINFO_DIRS, and by a letter or its number."""
@@ -255,14 +255,14 @@ class Names(Case):
                 self.enter(place, "tmux-256color")
                 more = {name: ":".join(str(self.folder / word) for word in text.split(":")) for name, text in words.items()}
                 with mock.patch.dict(os.environ, more):
-                    self.assertTrue(terminal.has_entry("tmux-256color"))
-                    self.assertFalse(terminal.has_entry("tmux"))
+                    self.assertTrue(tty.has_entry("tmux-256color"))
+                    self.assertFalse(tty.has_entry("tmux"))
                 (self.folder / place / "tmux-256color").unlink()
-                self.assertFalse(terminal.has_entry("tmux-256color"))
+                self.assertFalse(tty.has_entry("tmux-256color"))
 
     def test_empty(self):
         """An empty name of a folder isn't the root."""
         self.environment(TERMINFO="", TERMINFO_DIRS="::")
         with mock.patch("os.path.exists", return_value=False) as looks:
-            self.assertFalse(terminal.has_entry("vt220"))
+            self.assertFalse(tty.has_entry("vt220"))
         self.assertFalse([call for call in looks.call_args_list if call[0][0].startswith("/v/") or call[0][0].startswith("/76/")])

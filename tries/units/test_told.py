@@ -1,8 +1,8 @@
 """Records of a stream, cut at each place, and what is none."""
 import unittest
 
-from roam_live import told
-from roam_live.told import NoRecord, ToldRecord, Records, screen_of
+from roam_live.protocol import display_records
+from roam_live.protocol.display_records import NoRecord, Records, ToldRecord, screen_of
 
 STREAM = (b"\x1bc painted\n before\ntold\nsize 24 80\npart 0 3\nanew 5\n\x1bc\na\npaint 3\n\n\ntrefused 3 bad act\ntaken 2\n"
           b"silent 11\nheard\nscreen 0\nfull\n")
@@ -35,14 +35,14 @@ class TestRecords(unittest.TestCase):
         for _ in range(100):
             self.assertEqual(records.came(b"full\n" * 1000), [])
             self.assertLess(len(records.kept), 64)
-        self.assertEqual(records.came(told.BEGIN), [ToldRecord("told")])
+        self.assertEqual(records.came(display_records.BEGIN), [ToldRecord("told")])
 
     def test_none(self) -> None:
         """What is no record is told, and never waited for."""
         for line in (b"what\n", b"size 1\n", b"size 1 2 3\n", b"size 01 2\n", b"size -1 2\n", b"size \xd9\xa1 2\n", b"taken 1_0\n",
                      b"paint 99999999\n", b"taken 111111111111111111111\n", b"heard 1\n", b"\xff\n", b"x" * 600, b"\n"):
             records = Records()
-            records.came(told.BEGIN)
+            records.came(display_records.BEGIN)
             with self.assertRaises(NoRecord, msg=line):
                 records.came(line)
 

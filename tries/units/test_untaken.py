@@ -2,7 +2,7 @@
 import unittest
 
 from aids import Case, StillLoop, record
-from roam_live.untaken import LOOKS, MOMENT, NO_KEYS, NOT_TAKEN, UNTAKEN, UNTAKEN_SILENTLY, UntakenLines
+from roam_live.frontend.stalled_input import LOOKS, MOMENT, NOT_TAKEN, NO_KEYS, UNTAKEN, UNTAKEN_SILENTLY, UntakenLines
 from test_front_end import Fronts
 
 

@@ -4,8 +4,8 @@ import unittest
 from unittest import mock
 
 from aids import StillLoop
-from roam_live.program import Fault
-from roam_live.watches import LOOKS, PAUSES, SOUND, STOPPED, ShellsWatch
+from roam_live.common.errors import Fault
+from roam_live.session.host_watchdog import LOOKS, PAUSES, SOUND, STOPPED, ShellsWatch
 
 
 class AnySession:
@@ -35,7 +35,7 @@ class Watches(unittest.TestCase):
 
     def setUp(self):
         self.now, self.writer = 100.0, None
-        for patched in (mock.patch("time.monotonic", lambda: self.now), mock.patch("roam_live.watches.opened_process", self.opened)):
+        for patched in (mock.patch("time.monotonic", lambda: self.now), mock.patch("roam_live.session.host_watchdog.opened_process", self.opened)):
             patched.start()
             self.addCleanup(patched.stop)
         self.place = AnySession()
@@ -85,7 +85,7 @@ class Watches(unittest.TestCase):
 
     def patch_of_stop(self, is_stopped):
         """Has the process be stopped or not."""
-        patched = mock.patch("roam_live.watches.is_stopped", return_value=is_stopped)
+        patched = mock.patch("roam_live.session.host_watchdog.is_stopped", return_value=is_stopped)
         self.addCleanup(patched.stop)
         return patched.start()
 

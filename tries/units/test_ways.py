@@ -6,15 +6,15 @@ import unittest
 from unittest import mock
 
 from aids import Case, StillLoop, ended, read_now
-from roam_live import asking, far, near, ways
-from roam_live.asking import SEALED_HEAD, wish
-from roam_live.bundles import MOST_BUNDLES
-from roam_live.ends import Ended
-from roam_live.paths import Path
-from roam_live.program import Fault, count_front_ends
-from roam_live.relayed import ENDED, HAD, KILLED, LEAVES, WINDOWS, RelayStream, Waiting, greeting
-from roam_live.streams import CARRIES
-from roam_live.sealed import Seal, udp_end
+from roam_live.common.errors import Fault, count_front_ends
+from roam_live.relay import far, near, path_setup, transport_switch
+from roam_live.relay.aead_packets import Seal, udp_end
+from roam_live.relay.batches import MOST_BUNDLES
+from roam_live.relay.common import Ended
+from roam_live.relay.forwarding import CARRIES
+from roam_live.relay.frames import ENDED, HAD, KILLED, LEAVES, WINDOWS, RelayStream, Waiting, greeting
+from roam_live.relay.path_setup import SEALED_HEAD, wish
+from roam_live.relay.udp_path import Path
 from test_bundles import shown, typed
 from test_relay import FakeLink, Other, packed
 from test_sealed import Foolish
@@ -33,8 +33,8 @@ class Both(Case):
     def setUp(self):
         self.stop_clock()
         self.environment(ROAM_UDP=None, SSH_CONNECTION="127.0.0.1 1 127.0.0.1 22")
-        self.patch_of(asking, "hide_memory")
-        self.patch_of(asking, "cipher", return_value=Foolish)
+        self.patch_of(path_setup, "hide_memory")
+        self.patch_of(path_setup, "cipher", return_value=Foolish)
         self.folder = self.made_folder()
         self.wakeup, self.wakes = self.pipe()
         self.said = self.heard()
@@ -47,7 +47,7 @@ class Both(Case):
 
     def place(self, port):
         """A port of this machine, as a socket of both families has it."""
-        return asking.places_of("127.0.0.1", port, self.family)[0]
+        return path_setup.places_of("127.0.0.1", port, self.family)[0]
 
     @contextlib.contextmanager
     def ends(self):
@@ -74,8 +74,8 @@ class Near(Both):
         self.printed()
         self.far = Path(Seal(Foolish(KEY), False), self.end())
         self.port = self.far.end.getsockname()[1]
-        self.patch_of(asking, "PORTS", range(1, 65536))
-        self.patch_of(asking.Finder, "look", lambda _, path: setattr(path, "places", [self.place(path.port)]))
+        self.patch_of(path_setup, "PORTS", range(1, 65536))
+        self.patch_of(path_setup.Finder, "look", lambda _, path: setattr(path, "places", [self.place(path.port)]))
         self.near = near.Near(self.asked(), self.wakeup, StillLoop())
         self.is_closed = False
         self.addCleanup(self.close)
@@ -259,7 +259,7 @@ class Near(Both):
         self.sound()
         begun = self.now
         self.is_closed = True
-        self.patch_of(ways, "comes", lambda end, seconds: self.pass_time(seconds) or self.came.extend(drained(self.far))
+        self.patch_of(transport_switch, "comes", lambda end, seconds: self.pass_time(seconds) or self.came.extend(drained(self.far))
                       or self.far.fill(self.waiting))
         self.near.close()
         self.assertIn((0, LEAVES), self.came)
@@ -269,7 +269,7 @@ class Near(Both):
         """Where nobody hears it ends after a second; without an answer over the path at once."""
         self.sound()
         self.is_closed, begun = True, self.now
-        self.patch_of(ways, "comes", lambda end, seconds: self.pass_time(seconds))
+        self.patch_of(transport_switch, "comes", lambda end, seconds: self.pass_time(seconds))
         self.near.close()
         self.assertAlmostEqual(self.now - begun, near.END_WAIT, delta=0.1)
 
@@ -282,7 +282,7 @@ class Near(Both):
             self.near.take(0, SEALED_HEAD.pack(b"s", 1, self.port, bytes([number]) * 32) + b"evil.example")
             self.near.take(0, b"s" + bytes(number))
         self.assertEqual(len(os.listdir("/proc/self/fd")), before)
-        with mock.patch.object(asking, "udp_end", return_value=None):
+        with mock.patch.object(path_setup, "udp_end", return_value=None):
             self.near.take(0, SEALED_HEAD.pack(b"s", 1, self.port, KEY))
         self.assertEqual(self.near.ways.path.seal.cipher.key, bytes([49]) * 32)
 
@@ -312,7 +312,7 @@ class Far(Both):
         self.parts = self.patch_of(far, "part_from_command", side_effect=self.part)
         self.letting_go = None
         self.near = Path(Seal(Foolish(KEY), True), self.end())
-        self.patch_of(asking, "random_key", return_value=KEY)
+        self.patch_of(path_setup, "random_key", return_value=KEY)
         self.waiting, self.came, self.is_open = Waiting(), [], True
         self.far = far.Far(self.asked(far=True, command=[]), self.wakeup, StillLoop())
         self.addCleanup(self.far.close)
@@ -376,7 +376,7 @@ class Far(Both):
         """Without the wish, the library, a port, a process, or a version that it knows, there is none, and the command is all."""
         self.ask()
         self.far.ways.drop_path()
-        for patch in (mock.patch.dict(os.environ, ROAM_UDP="never"), mock.patch.object(asking, "cipher", return_value=None),
+        for patch in (mock.patch.dict(os.environ, ROAM_UDP="never"), mock.patch.object(path_setup, "cipher", return_value=None),
                       mock.patch.object(far, "udp_end", return_value=None), mock.patch.object(far, "part_from_command", return_value=None)):
             with patch:
                 self.far.held = None
@@ -503,7 +503,7 @@ class Far(Both):
     def test_session_ends(self):
         """The session's end is told by the path alone, until it is acknowledged, 30 s at most."""
         self.sound()
-        self.patch_of(ways, "comes", lambda end, seconds: self.pass_time(seconds) or self.came.extend(drained(self.near))
+        self.patch_of(transport_switch, "comes", lambda end, seconds: self.pass_time(seconds) or self.came.extend(drained(self.near))
                       or self.near.fill(self.waiting))
         begun = self.now
         with self.ends():
@@ -515,7 +515,7 @@ class Far(Both):
     def test_session_ends_unheard_by_the_path(self):
         """Where nobody hears by the path it is told by the command."""
         self.sound()
-        self.patch_of(ways, "comes", lambda end, seconds: self.pass_time(seconds))
+        self.patch_of(transport_switch, "comes", lambda end, seconds: self.pass_time(seconds))
         self.patch_of(far, "is_taken", return_value=True)
         with self.ends():
             self.far.tell_end()
@@ -526,7 +526,7 @@ class Far(Both):
         self.sound()
         ended(self.said_end)
         self.run_for(1)
-        self.patch_of(ways, "comes", lambda end, seconds: self.pass_time(seconds))
+        self.patch_of(transport_switch, "comes", lambda end, seconds: self.pass_time(seconds))
         begun = self.now
         with self.ends():
             self.far.tell_end()
@@ -572,7 +572,7 @@ class Choice(Both):
 
     def test_chosen(self):
         """A sound path, else the stream where it is there, else the path."""
-        both = ways.Ways(StillLoop())
+        both = transport_switch.Ways(StillLoop())
         self.assertIsNone(both.chosen(False))
         both.stream = mock.Mock(resume=mock.Mock())
         self.assertIs(both.chosen(True), both.stream)
@@ -582,7 +582,7 @@ class Choice(Both):
         self.assertIs(both.chosen(True), both.path)
         both.rest()
         self.assertFalse(both.rests)
-        self.now += ways.SOUND
+        self.now += transport_switch.SOUND
         both.rest()
         self.assertTrue(both.rests)
         both.path.is_sound.return_value = False

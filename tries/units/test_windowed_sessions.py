@@ -8,14 +8,15 @@ import time
 from unittest import mock
 
 from aids import Case, read_now
-from roam_live import asked_windows, programs, sessions, targets
-from roam_live.asked_windows import (WindowsAsked, check_title, detach_others, is_there, list_clients, list_windows, new_window, rename,
-                                     shut, windows_of)
-from roam_live.places import Places, Rect
-from roam_live.program import Fault, begun, count_front_ends, end_words, is_listened, is_running
-from roam_live.sessions import VERSION, FolderSession, Window, WindowedSession, session_named, window_in
-from roam_live.targets import session_of, target_of, window_of
-from roam_live.window_notes import WINDOWS_VERSION, numbers_in, stands_ready
+from roam_live.cli import targets, windows as cli_windows
+from roam_live.cli.targets import session_of, target_of, window_of
+from roam_live.cli.windows import (WindowsAsked, check_title, detach_others, is_there, list_clients, list_windows, new_window, rename, shut,
+                                   windows_of)
+from roam_live.common.errors import Fault, begun, count_front_ends, end_words, is_listened, is_running
+from roam_live.protocol.panes import Places, Rect
+from roam_live.session import foreground, sessions
+from roam_live.session.sessions import VERSION, FolderSession, Window, WindowedSession, session_named, window_in
+from roam_live.session.window_state import WINDOWS_VERSION, numbers_in, stands_ready
 
 PLACES = Places({1: Rect(1, 1, 23, 80)}, 1, 1)
 
@@ -162,11 +163,11 @@ class Found(Sessions):
         """What runs in a window's panes is that window's."""
         session = self.session()
         busy = {(str(self.base / "main/w/2"), 1): "vi", (str(self.base / "main/w/7"), 1): "top"}
-        with mock.patch.object(programs, "busy_programs", lambda keeper: busy):
+        with mock.patch.object(foreground, "busy_programs", lambda keeper: busy):
             self.assertEqual((session.window(2).busy(), session.window(7).busy()), ({1: "vi"}, {1: "top"}))
             self.assertEqual(session.busy_programs(), {(2, 1): "vi", (7, 1): "top"})
-            self.assertEqual(programs.told_in_windows(session.busy_programs()), "vi in pane 1 of window 2 and top in pane 1 of window 7")
-        with mock.patch.object(programs, "busy_programs", lambda keeper: None):
+            self.assertEqual(foreground.told_in_windows(session.busy_programs()), "vi in pane 1 of window 2 and top in pane 1 of window 7")
+        with mock.patch.object(foreground, "busy_programs", lambda keeper: None):
             self.assertEqual((session.window(2).busy(), session.busy_programs()), (None, None))
 
     def test_clean(self):
@@ -333,7 +334,7 @@ class Launched(Sessions):
         window = self.session().window(7)
         with self.assertRaisesRegex(Fault, "^session main: what keeps its windows opens them$"):
             window.launch()
-        with mock.patch.object(programs, "busy_panes", return_value={1: "vi"}) as busy:
+        with mock.patch.object(foreground, "busy_panes", return_value={1: "vi"}) as busy:
             self.assertEqual((window.busy(), busy.call_args), ({1: "vi"}, mock.call(os.getpid(), str(window.folder))))
             self.noted("main", shells=[1, 1])
             self.assertEqual(window.busy(), {})
@@ -356,7 +357,7 @@ class Named(Sessions):
         for folder, is_in in (("main", True), ("main/w/9", True), ("mainly/w/1", False), ("main/x", False)):
             self.assertEqual(targets.is_in(f"{self.base}/{folder}", session), is_in)
         for value in ("", "x", "/a:", "/a:0", "/a:12", "/a:x", ":"):
-            self.assertEqual(programs.pane_in(value), programs.NOWHERE, value)
+            self.assertEqual(foreground.pane_in(value), foreground.NOWHERE, value)
 
 
 class Near(Sessions):
@@ -411,13 +412,13 @@ class Asked(Sessions):
         super().setUp()
         self.window = self.session().window(2)
         self.listener = self.listening(self.window.folder / "shells")
-        self.patch_of(asked_windows, "comes", self.comes)
+        self.patch_of(cli_windows, "comes", self.comes)
         self.answers = []
         self.keeper = None
 
     def comes(self, peer, seconds):
         """Has the keeper tell what it answers next, to who waits for it no longer than he may."""
-        self.assertTrue(peer.fileno() >= 0 and 0 <= seconds <= asked_windows.ANSWERS)
+        self.assertTrue(peer.fileno() >= 0 and 0 <= seconds <= cli_windows.ANSWERS)
         self.keeper = self.keeper or self.taken(self.listener)
         if self.answers:
             self.keeper.send(self.answers.pop(0))
@@ -432,16 +433,16 @@ class Asked(Sessions):
 
     def test_programs(self):
         """A window without a name is named by what runs in front in it, as in the last row, where that is told soon."""
-        self.patch_of(asked_windows, "RUNS_TOLD", 0.2)
+        self.patch_of(cli_windows, "RUNS_TOLD", 0.2)
         self.answers = [b"window 1 -\nwindow 2 6162\nwindows 2\n", b"runs 2 vi\nruns 9 x\nruns x y\nruns 1 less a\n"]
         self.assertEqual(windows_of(self.window, has_programs=True), [(1, "less a"), (2, "ab")])
         self.answers, self.keeper = [b"window 1 -\nwindows 1\nwindow 1 -\n"], None
-        self.patch_of(asked_windows, "comes", lambda peer, seconds: self.comes(peer, seconds) if self.answers else False)
+        self.patch_of(cli_windows, "comes", lambda peer, seconds: self.comes(peer, seconds) if self.answers else False)
         self.assertEqual(windows_of(self.window, has_programs=True), [(1, "")])
 
     def test_listed(self):
         """Each window has a line: its name, its size, its panes, and what runs there."""
-        self.patch_of(asked_windows, "RUNS_TOLD", 0.0)
+        self.patch_of(cli_windows, "RUNS_TOLD", 0.0)
         wide = Places({1: Rect(1, 1, 23, 39), 2: Rect(1, 41, 23, 40)}, 2)
         for number, places, busy, line in ((2, PLACES, {1: "vi"}, " 2 a?b              24 by 80     1 pane, vi in pane 1"),
                                            (7, wide, {}, " 7 -                24 by 80     2 panes"),
@@ -485,19 +486,19 @@ class Asked(Sessions):
         """It is waited until nothing of the window is there, for so long."""
         self.stop_clock()
         self.begin_shutting(b"gone 2\n")
-        there = self.patch_of(asked_windows, "is_there", side_effect=[True, False])
+        there = self.patch_of(cli_windows, "is_there", side_effect=[True, False])
         self.assertEqual((shut(self.window), there.call_args), (0, mock.call(self.window, os.getpid())))
         self.assertEqual(read_now(self.keeper), b"windows\nshut 2\n")
         self.begin_shutting(b"gone 2\n")
-        self.patch_of(asked_windows, "is_there", return_value=True)
+        self.patch_of(cli_windows, "is_there", return_value=True)
         with self.assertRaisesRegex(Fault, "^window main:2 doesn't end$"):
             shut(self.window)
         self.assertAlmostEqual(self.now, 112.0, 1)
 
     def test_shut_last(self):
         """Where it was the last the keeper may end before it tells that; where the window runs it is told that nobody answers."""
-        self.patch_of(asked_windows, "comes", lambda peer, seconds: bool(self.answers) and self.comes(peer, seconds))
-        self.patch_of(asked_windows, "is_there", return_value=False)
+        self.patch_of(cli_windows, "comes", lambda peer, seconds: bool(self.answers) and self.comes(peer, seconds))
+        self.patch_of(cli_windows, "is_there", return_value=False)
         self.begin_shutting()
         self.patch_of(Window, "runs", return_value=False)
         self.assertEqual(shut(self.window), 0)
@@ -540,7 +541,7 @@ class Asked(Sessions):
         one = b"client 3 a:/dev/pts/1 24 80 2 0 edits\nclients 1\n"
         for last, count in ((b"clients 0\n", 0), (one, 1)):
             self.answers = [one, b"left 3\n", last]
-            self.patch_of(asked_windows, "LEAVES", 0.03)
+            self.patch_of(cli_windows, "LEAVES", 0.03)
             if count:
                 self.answers += [one] * 100
             self.assertEqual(detach_others(self.window), count)
@@ -558,7 +559,7 @@ class Asked(Sessions):
         asked = WindowsAsked(self.window)
         self.taken(self.listener).close()
         with self.assertRaisesRegex(Fault, "what keeps its shells has ended$"):
-            self.patch_of(asked_windows, "comes", lambda peer, seconds: True)
+            self.patch_of(cli_windows, "comes", lambda peer, seconds: True)
             asked.until("windows")
         self.listener.close()
         with self.assertRaisesRegex(Fault, "^session main:2: nobody keeps its shells: "):

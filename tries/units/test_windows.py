@@ -8,14 +8,15 @@ import socket
 from unittest import mock
 
 from aids import Case, StillLoop, read_now
-from roam_live import mending, pane_commands, program, window_processes, window_shells, windows
-from roam_live.handed import Begins
-from roam_live.places import Rect
-from roam_live.program import Fault, begun
-from roam_live.window_lines import ASKED_AGAIN, MOST_WINDOWS, name_in, name_word
-from roam_live.window_notes import note_ends, numbers_in, stands_ready
-from roam_live.window_processes import SERVER, TERMINALS, WindowProcesses
-from roam_live.windows import ENDING, ENDS, FULL, OPENS, OVER, THERE, Windows
+from roam_live.common import errors
+from roam_live.common.errors import Fault, begun
+from roam_live.host import pane as host_pane, repair, window as host_window, window_processes, windows
+from roam_live.host.pending_spawns import Begins
+from roam_live.host.window_commands import ASKED_AGAIN, MOST_WINDOWS, name_in, name_word
+from roam_live.host.window_processes import SERVER, TERMINALS, WindowProcesses
+from roam_live.host.windows import ENDING, ENDS, FULL, OPENS, OVER, THERE, Windows
+from roam_live.protocol.panes import Rect
+from roam_live.session.window_state import note_ends, numbers_in, stands_ready
 
 
 class Played(Case):
@@ -27,15 +28,15 @@ class Played(Case):
         self.folder, self.said = self.made_folder(), self.heard()
         self.wakeup = self.pipe()[0]
         self.made, self.spawned, self.killed = [], [], []
-        self.patch_of(pane_commands.terminal, "forked", side_effect=self.forked)
-        self.patch_of(window_shells, "has_ended", return_value=False)
+        self.patch_of(host_pane.tty, "forked", side_effect=self.forked)
+        self.patch_of(host_window, "has_ended", return_value=False)
         self.patch_of(WindowProcesses, "spawn", lambda processes, role, words: self.spawn(processes, role))
         self.patch_of(window_processes, "program", lambda: "/roam")
         self.patch_of(window_processes, "is_running", lambda process, moment: process in self.alive)
         self.patch("os.kill", self.kill)
         self.alive, self.servers = set(), {}
-        self.common = window_shells.Common(self.wakeup, StillLoop(lambda: self.now))
-        self.windows = Windows(pane_commands.Options(folder=str(self.folder), command=["sh"]), self.common)
+        self.common = host_window.Common(self.wakeup, StillLoop(lambda: self.now))
+        self.windows = Windows(host_pane.Options(folder=str(self.folder), command=["sh"]), self.common)
         self.addCleanup(self.leave)
 
     def leave(self):
@@ -123,8 +124,8 @@ class Fronts(Played):
     def test_runs(self):
         """What runs in front in the pane in focus is told to who asked for windows, and again where it is another."""
         self.opened()
-        self.patch("roam_live.fronts.group_in_front", lambda terminal: 5)
-        name = self.patch("roam_live.fronts.name_of", return_value="vim")
+        self.patch("roam_live.host.foreground_watch.group_in_front", lambda terminal: 5)
+        name = self.patch("roam_live.host.foreground_watch.name_of", return_value="vim")
         one = self.asker(1)
         self.turns(3)
         self.assertEqual(read_now(one), b"window 1 -\nwindows 1\nruns 1 vim\n")
@@ -168,7 +169,7 @@ class Opened(Played):
         self.assertEqual(start.recv(100), b"size 40 120\n")
         start.close()
         self.turns(2)
-        sizes = self.patch_of(pane_commands.terminal, "set_size")
+        sizes = self.patch_of(host_pane.tty, "set_size")
         self.servers[2].send(b"1 1 1 39 120 4\n")
         self.turns()
         sizes.assert_not_called()
@@ -201,7 +202,7 @@ class Opened(Played):
         """A size that isn't had goes by what is told."""
         self.opened()
         self.opened((40, 120))
-        sizes = self.patch_of(pane_commands.terminal, "set_size")
+        sizes = self.patch_of(host_pane.tty, "set_size")
         self.now += OPENS
         self.turns()
         self.assertEqual(sizes.call_args[0][1:], (23, 80))
@@ -504,7 +505,7 @@ class Told(Played):
         self.turns(2)
         told = f"keeper {self.common.shells.name}\nothers 0\n".encode()
         self.assertEqual([read_now(one), read_now(two)], [told, told])
-        self.assertEqual(pane_commands.surroundings(self.windows.windows[2].shells.asked, 3, mock.Mock(set_values=dict))["ROAM_PANE"],
+        self.assertEqual(host_pane.surroundings(self.windows.windows[2].shells.asked, 3, mock.Mock(set_values=dict))["ROAM_PANE"],
                          f"{self.folder}/w/2:3")
 
     def test_names(self):
@@ -572,7 +573,7 @@ class Ended(Played):
         self.opened((24, 80))
         one = self.asker(1)
         read_now(one)
-        self.patch_of(window_shells, "is_running", lambda process, moment: process in self.alive)
+        self.patch_of(host_window, "is_running", lambda process, moment: process in self.alive)
         self.alive -= {2000, 2001}
         self.servers[2].close()
         self.turns(4)
@@ -737,11 +738,11 @@ class Mended(Played):
         self.minutes()
         self.assertEqual(self.names(), [told] * 2)
         self.assertEqual(self.said_by(self.one, b"windows\n"), told)
-        self.assertIn(window_shells.MENDED, self.said.getvalue())
+        self.assertIn(host_window.MENDED, self.said.getvalue())
         before = {window.shells.socket.listener.made for window in self.windows.windows.values()}
         self.minutes(3)
         self.assertEqual({window.shells.socket.listener.made for window in self.windows.windows.values()}, before)
-        self.assertEqual((self.said.getvalue().count(window_shells.MENDED), self.common.faults.count), (1, 0))
+        self.assertEqual((self.said.getvalue().count(host_window.MENDED), self.common.faults.count), (1, 0))
 
     def test_folder(self):
         """So is the folder, with the notes of its processes, and each window's id, by which its server knows the folder."""
@@ -798,15 +799,15 @@ class Mended(Played):
         other.mkdir()
         self.clean(True)
         self.folder.mkdir(0o700)
-        state = {"version": 4, "command": [], "shells": [1, program.begun(1)]}
+        state = {"version": 4, "command": [], "shells": [1, errors.begun(1)]}
         self.alive.add(1)
-        with mock.patch("roam_live.processes.is_running", lambda process, moment: process == 1):
+        with mock.patch("roam_live.session.processes.is_running", lambda process, moment: process == 1):
             (self.folder / "state.json").write_text(json.dumps(state))
             self.minutes()
         self.assertEqual(sorted(path.name for path in self.folder.iterdir()), ["lock", "state.json"])
         self.assertEqual(json.loads((more / "state.json").read_text())["shells"][0], os.getpid())
         self.assertEqual(json.loads((more / "w/2/state.json").read_text())["server"][0], 2000)
-        words = mending.RENAMED.format(more.name)
+        words = repair.RENAMED.format(more.name)
         self.assertIn(words, self.said.getvalue())
         self.assertIn(f"say {words}\n".encode(), read_now(bells))
         self.folder = more
@@ -819,13 +820,13 @@ class Mended(Played):
     def test_refused(self):
         """Where it can't be made anew that is told once, and tried again."""
         self.clean()
-        with mock.patch("roam_live.listeners.listening", side_effect=OSError(28, "No space left on device")):
+        with mock.patch("roam_live.common.listener.listening", side_effect=OSError(28, "No space left on device")):
             self.minutes(3)
-        self.assertEqual(self.said.getvalue().count(window_shells.UNMENDED.format("No space left on device")), 1)
+        self.assertEqual(self.said.getvalue().count(host_window.UNMENDED.format("No space left on device")), 1)
         self.minutes()
         self.assertEqual(len(self.names()), 2)
 
     def test_names(self):
         """The names of one whose own another has are names."""
-        names = mending.names_beside("x" * 32)
+        names = repair.names_beside("x" * 32)
         self.assertEqual((names[0], names[-1], len(names)), ("x" * 30 + "-2", "x" * 28 + "-999", 998))

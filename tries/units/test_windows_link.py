@@ -1,6 +1,6 @@
 """What a front end is told of windows, whatever a keeper, also one of another machine, says."""
 from aids import Case, StillLoop, read_now
-from roam_live.windows_link import ToldWindows, WindowsLink
+from roam_live.frontend.windows_client import ToldWindows, WindowsLink
 
 LIST = ("window 1 -", "window 2 68c3a920", "window 10 1b5b324a0a", "windows 3")
 

@@ -6,15 +6,16 @@ from unittest import mock
 
 from aids import Case, StillLoop, closed, read_now, record
 from emulated import Emulated
-from roam_live import command_runner, front_end, terminal, visits
-from roam_live.choices import choose_by_file
-from roam_live.front_end import FrontEnd
-from roam_live.keys import acts_of_bytes
-from roam_live.loops import comes
-from roam_live.own_settings import OWN, settings_path
-from roam_live.program import Fault
-from roam_live.choosing import WINDOWS_LINE
-from roam_live.window_wishes import DROPPED, EARLIER, FAR, LATE, LISTS, NO_ROOM, NOT_AWAITED, OPENING, OPENS, SMALL, TAKES_LONG
+from roam_live.common import tty
+from roam_live.common.errors import Fault
+from roam_live.common.event_loop import comes
+from roam_live.config.environment import choose_by_file
+from roam_live.config.user_file import OWN, settings_path
+from roam_live.frontend import app, command_line, window_view
+from roam_live.frontend.app import FrontEnd
+from roam_live.frontend.choose_list import WINDOWS_LINE
+from roam_live.frontend.windows import DROPPED, EARLIER, FAR, LATE, LISTS, NOT_AWAITED, NO_ROOM, OPENING, OPENS, SMALL, TAKES_LONG
+from roam_live.input.keys import acts_of_bytes
 from test_display import PlayedPanes, painting, places
 from test_front_end import AnySession
 
@@ -57,14 +58,14 @@ class Windows(Case):
         self.place = self.add(1)
         self.add(2)
         self.master, slave = pty.openpty()
-        terminal.set_size(slave, 24, 80)
+        tty.set_size(slave, 24, 80)
         kept = os.dup(0), os.dup(1)
         os.dup2(slave, 0), os.dup2(slave, 1)
         self.addCleanup(self.give_back, kept, slave)
         os.set_blocking(self.master, False)
-        self.patch_of(front_end, "woken", return_value=self.pipe()[0])
-        self.brings = self.patch_of(front_end, "brings_to", return_value=[])
-        self.patch_of(front_end, "PanesFollower", lambda folder, loop, changed, tells: self.played(folder))
+        self.patch_of(app, "woken", return_value=self.pipe()[0])
+        self.brings = self.patch_of(app, "brings_to", return_value=[])
+        self.patch_of(app, "PanesFollower", lambda folder, loop, changed, tells: self.played(folder))
         self.loop = StillLoop(lambda: self.now)
         self.front = self.front_of()
 
@@ -272,7 +273,7 @@ class Switches(Windows):
     def test_not_had(self):
         """A window of which the system refuses what is needed isn't gone to: all stays as it is, and says why."""
         self.windows[2].processes["server"] = 1
-        with mock.patch.object(visits, "opened_process", side_effect=Fault("no descriptor is left")):
+        with mock.patch.object(window_view, "opened_process", side_effect=Fault("no descriptor is left")):
             self.type(b"a\x022b")
         self.assertEqual((self.front.number, self.typed, self.rows()[1]), (1, {1: "ab", 2: ""}, "no descriptor is left"))
         self.assertEqual(self.front.parting.visits, {})
@@ -306,7 +307,7 @@ class Switches(Windows):
         self.add(3).told = places(24, 80)
         self.type(b"\x022\x023\x021")
         self.windows[3].told = places(24, 90)
-        terminal.set_size(0, 20, 70)
+        tty.set_size(0, 20, 70)
         self.front.resized()
         self.now += 1
         self.turn()
@@ -405,7 +406,7 @@ class Opened(Windows):
 
     def test_no_room(self):
         """Where one can't be asked for either what stands behind in the same read is dropped, and what is typed later isn't."""
-        terminal.set_size(0, 3, 80)
+        tty.set_size(0, 3, 80)
         self.front.resized()
         self.type(b"\x02cab")
         self.turn()
@@ -742,7 +743,7 @@ class Settings(Windows):
 
     def test_runs(self):
         """What it has the shell run is run as it is read, and keys that it binds do all that they are bound to."""
-        with mock.patch.object(command_runner, "ShellRun") as runs:
+        with mock.patch.object(command_line, "ShellRun") as runs:
             runs.return_value.has_ended.return_value = True
             self.read("run-shell 'echo one'\nbind y { run-shell two ; select-window -t 2 }\n")
             self.assertEqual([one.args[1] for one in runs.call_args_list], ["echo one"])

@@ -8,12 +8,12 @@ import tempfile
 import unittest
 from unittest import mock
 
-from roam_live import logs, program
-from roam_live.logs import KEPT, LOG_LIMIT, make_room
-from roam_live.processes import Processes
-from roam_live.program import TOOLS
-from roam_live.programs import foreground
-from roam_live.words import SAID_LIMIT, Said, one_line, printable
+from roam_live.common import errors, files
+from roam_live.common.errors import TOOLS
+from roam_live.common.files import KEPT, LOG_LIMIT, make_room
+from roam_live.common.text import SAID_LIMIT, Said, one_line, printable
+from roam_live.session.foreground import foreground
+from roam_live.session.processes import Processes
 
 # ECMA-48's controls C0 and C1, DEL, and what Unicode calls controls, formats, separators, surrogates and unassigned.
 UNPRINTABLE = [*map(chr, range(0x20)), *map(chr, range(0x7F, 0xA0)), "\u00ad", "\u200b", "\u200e", "\u202e", "\u2028", "\u2029", "\u2066",
@@ -88,24 +88,24 @@ class Logs(unittest.TestCase):
             self.assertLessEqual(path.stat().st_size, KEPT)
 
     def test_not_there(self):
-        make_room("/nonexistent/log", logs.LOG_LIMIT)
+        make_room("/nonexistent/log", files.LOG_LIMIT)
 
     def test_each_writer(self):
         """Whoever says a line in a session's log, or fails there, or starts a process that writes there, keeps it small."""
         def fails():
             with self.assertRaises(SystemExit), mock.patch("signal.signal"), mock.patch.dict(os.environ):
-                program.run_tool(lambda: [][0])
+                errors.run_tool(lambda: [][0])
 
         def starts():
             there = Processes(folder)
             there.state, there.name = {}, "x"
             there.spawned("server", ["true"]).wait()
 
-        for writes in (lambda: program.say("x"), fails, starts):
-            with tempfile.TemporaryDirectory() as folder, mock.patch.object(program, "logs", []):
+        for writes in (lambda: errors.say("x"), fails, starts):
+            with tempfile.TemporaryDirectory() as folder, mock.patch.object(errors, "logs", []):
                 path = pathlib.Path(folder, "log")
                 path.write_bytes(b"a line\n" * (LOG_LIMIT // 3))
-                program.log_to(folder)
+                errors.log_to(folder)
                 with open(path, "a", encoding="utf-8") as log, contextlib.redirect_stderr(log):
                     writes()
                 self.assertLess(path.stat().st_size, KEPT + 10_000)
@@ -134,14 +134,14 @@ class Faults(unittest.TestCase):
     def test_printable(self):
         """It is printable, also what ends a process."""
         code = "def main(): raise Fault('no \\x1b[c\\nname \\u202e')\nrun_tool(main)"
-        words = [sys.executable, "-c", f"import sys; sys.path.insert(0, {str(TOOLS)!r})\nfrom roam_live.program import *\n{code}"]
+        words = [sys.executable, "-c", f"import sys; sys.path.insert(0, {str(TOOLS)!r})\nfrom roam_live.common.errors import *\n{code}"]
         run = subprocess.run(words, stderr=subprocess.PIPE, check=False)
         self.assertEqual((run.returncode, run.stderr), (1, b"-c: no ?[c; name ?\n"))
 
     def test_closed(self):
         """A standard output that is closed from the beginning is nothing to complain of."""
         with mock.patch("sys.stdout", None), mock.patch("signal.signal"), mock.patch.dict(os.environ), self.assertRaises(SystemExit) as way:
-            program.run_tool(lambda: print("x"))
+            errors.run_tool(lambda: print("x"))
         self.assertIsNone(way.exception.code)
 
 

@@ -3,13 +3,13 @@ import copy
 import unittest
 
 from lived import Attached, Lived, by_chance
-from roam_live import zooming
-from roam_live.commands import REFUSES
-from roam_live.places import Places, Rect
-from roam_live.shares import above, size_at, size_for
-from roam_live.terminal import MOST
-from roam_live.told import ToldRecord
-from roam_live.zoom_notes import MOST_ASKED, NO_ZOOM, NotedZoom, ZoomNote, note_in, zoomed_in
+from roam_live.common.tty import MOST
+from roam_live.frontend import zoom
+from roam_live.frontend.commands import REFUSES
+from roam_live.frontend.split_math import above, size_at, size_for
+from roam_live.protocol.display_records import ToldRecord
+from roam_live.protocol.panes import Places, Rect
+from roam_live.protocol.zoom_record import MOST_ASKED, NO_ZOOM, NotedZoom, ZoomNote, note_in, zoomed_in
 from test_display import Person, PlayedShells
 
 class Zoomed(Attached):
@@ -117,7 +117,7 @@ class Back(Zoomed):
         self.attach(self.grid())
         self.session.split = lambda pane, way: None
         self.types(b"\x02%\x02z")
-        self.now += zooming.FOCUS_WAIT
+        self.now += zoom.FOCUS_WAIT
         self.person.loop.do_due()
         self.take()
         self.assertTrue(self.is_zoomed(2))
@@ -249,7 +249,7 @@ class Ends(Zoomed):
         self.person.link.has_taken = True
         self.now += REFUSES + 0.1
         self.person.loop.do_due()
-        self.assertEqual((self.person.commands.zooming.is_on(), self.person.display.told), (False, zooming.REFUSED))
+        self.assertEqual((self.person.commands.zooming.is_on(), self.person.display.told), (False, zoom.REFUSED))
         self.take()
         self.assertFalse(self.person.display.is_held)
 
@@ -275,7 +275,7 @@ class Ends(Zoomed):
         person = Person(24, 80)
         person.paints(24, 80)
         person.types(b"\x02z")
-        self.assertEqual(person.display.told, zooming.UNTOLD)
+        self.assertEqual(person.display.told, zoom.UNTOLD)
         watcher = Person(24, 80, watches=True, told=self.grid().places())
         watcher.types(b"\x02z\x02 \x02;\x02\x1b[1;5C")
         self.assertEqual((watcher.sizes(), [line for line in watcher.link.lines if "size" in line]), ([], []))
@@ -373,7 +373,7 @@ class Noted(Zoomed):
             session.do("size {} {}".format(*has))
             self.attach(session, own, shells)
             self.take(6)
-            self.now += zooming.LEFT
+            self.now += zoom.LEFT
             self.person.loop.do_due()
             self.take()
             self.assertEqual((session.places().size(), shells.zooms[-1:]), (after, ["None"]), (own, has))
@@ -394,7 +394,7 @@ class Noted(Zoomed):
             self.person.commands.others_told()
             self.take()
             self.assertEqual(session.places().size(), soon, (maker, watches, types, changed))
-            self.now += zooming.LEFT
+            self.now += zoom.LEFT
             self.person.loop.do_due()
             self.take()
             self.assertEqual(session.places().size(), after, (maker, watches, types, changed))
@@ -409,13 +409,13 @@ class Noted(Zoomed):
             self.attach(session, shells=PlayedShells(True))
             self.person.shells.zoomed = 0, note
             self.person.commands.others_told()
-            self.now += zooming.LEFT / 2
+            self.now += zoom.LEFT / 2
             self.person.loop.do_due()
             self.by_another("grow 1")
             self.assertEqual((session.places().size(), self.person.shells.zooms), ((48, 160), []))
             self.person.shells.zoomed = 9 if is_told else 0, note
             self.person.commands.others_told()
-            self.now += zooming.LEFT
+            self.now += zoom.LEFT
             self.person.loop.do_due()
             self.take()
             self.assertEqual((session.places().size(), self.person.shells.zooms), ((48, 160), []) if is_told else ((24, 80), ["None"]))
@@ -429,7 +429,7 @@ class Noted(Zoomed):
             self.person.commands.others_told()
             self.types(key)
             self.by_another("size 48 160")
-            self.now += zooming.LEFT
+            self.now += zoom.LEFT
             self.person.loop.do_due()
             self.take()
             self.assertEqual((self.session.places().size(), self.person.shells.zooms[-1:]), (after, ["None"]), key)
@@ -444,12 +444,12 @@ class Noted(Zoomed):
             self.person.commands.others_told()
             self.by_another("size 48 160")
             self.assertEqual(self.session.places().size(), (48, 160))
-            self.now += zooming.LEFT / 2
+            self.now += zoom.LEFT / 2
             self.person.loop.do_due()
             self.by_another("grow 1")
             self.person.shells.zoomed = 9 if told else 0, note
             self.person.commands.others_told()
-            self.now += zooming.LEFT / 2
+            self.now += zoom.LEFT / 2
             self.person.loop.do_due()
             self.take()
             self.assertEqual((self.session.places().size(), self.person.shells.zooms), (after, [] if told else ["None"]))
@@ -472,7 +472,7 @@ class Noted(Zoomed):
                 self.person.shells.awaited = False
                 self.person.commands.others_told()
             else:
-                self.now += zooming.FOCUS_WAIT
+                self.now += zoom.FOCUS_WAIT
                 self.person.loop.do_due()
             self.take()
             self.assertEqual(self.person.commands.zooming.note.size, (24, 80) if tells else (48, 160))

@@ -1,0 +1,73 @@
+"""`mux cmd`: a command of the table, done in a session from outside, as far as it isn't a terminal's own."""
+from __future__ import annotations
+
+import os
+
+from roam_live.common.errors import Fault
+from roam_live.config.command_table import BadCommand, CommandWish, asked_by
+from roam_live.host.pending_spawns import DONE, RAN
+
+TYPE_CHECKING = False
+if TYPE_CHECKING:
+    from roam_live.host.pending_spawns import Begins
+    from roam_live.session.sessions import FolderSession
+
+# The acts of wishes that are done by acts alone.
+ACTS = {"split right": "split right", "split down": "split down", "close": "close"}
+
+OWN = "it is a terminal's own, and done there by a key or behind C-b :"
+
+
+def run(window: FolderSession, pane: int, words: list[str]) -> int:
+    """Does a command in a window, of a pane where one is named, and tells the status. Fault tells what can't be done."""
+    try:
+        asked = asked_by(words)
+    except BadCommand as fault:
+        raise Fault(str(fault)) from None
+    if asked.begins and asked.wish in ACTS:
+        return split(window, pane, asked.wish, placed(asked.begins))
+    acts = [ACTS[asked.wish]] if asked.wish in ACTS else asked.acts
+    if acts:
+        from roam_live.cli import send
+
+        return send.send(window, acts, pane)
+    return changed(window, asked, words[0])
+
+
+def placed(begins: Begins) -> Begins:
+    """What a new pane begins with, its folder as this process has it."""
+    is_own = begins.folder and not begins.folder.startswith("~")
+    return begins._replace(folder=os.path.abspath(begins.folder)) if is_own else begins
+
+
+def split(window: FolderSession, pane: int, act: str, begins: Begins) -> int:
+    """Splits a pane, or that in focus, with a command in the new one, and ends once it has begun there."""
+    from roam_live.cli import send
+    from roam_live.cli.targets import making_of, pane_places
+    from roam_live.cli.windows import WindowsAsked
+    from roam_live.host.pending_spawns import WAITS
+
+    number, life = making_of(window, pane)
+    back = [f"focus {pane_places(window, number).focus}"] if begins.is_aside else []
+    asked = WindowsAsked(window)
+    asked.hand(f"{number} {life}", begins)
+    status = send.send(window, [act, *back], number)
+    if asked.until(RAN, seconds=2 * WAITS)[2:] != [DONE]:
+        raise Fault(f"session {window.name}: no pane came in its place, and the command wasn't run")
+    return status
+
+
+def changed(window: FolderSession, asked: CommandWish, name: str) -> int:
+    """Does what is asked of a session's windows or terminals."""
+    from roam_live.cli import windows
+
+    if asked.wish == "window new":
+        begins = placed(asked.begins) if asked.begins else None
+        return windows.new_window(window, "", begins) if begins else windows.new_window(window, "")
+    if asked.wish == "window name" and asked.text:
+        return windows.rename(window, asked.text)
+    if asked.wish == "window shut":
+        return windows.shut(window)
+    if asked.wish == "leave others":
+        return windows.detach_others(window)
+    raise Fault(f"{name}: {OWN}")

@@ -1,0 +1,130 @@
+"""Texts that a command has typed into a session in one piece."""
+from __future__ import annotations
+
+import sys
+import time
+
+from roam_live.cli.send import lines_in_pane, type_lines
+from roam_live.cli.targets import pane_places, wants_brackets
+from roam_live.common.errors import Fault, Lines, connected_in, read, write
+from roam_live.common.event_loop import READ, WRITE, ready
+from roam_live.common.text import printable
+from roam_live.input.keys import pasted_acts
+from roam_live.protocol.client_link import opened
+from roam_live.protocol.host_client import HELD, PUT, REFUSED
+from roam_live.protocol.paste_text import MOST_BYTES, cleaned, mark_acts, random_name, without_brackets
+from roam_live.protocol.scrollback_client import BAD_LINE
+
+TYPE_CHECKING = False
+if TYPE_CHECKING:
+    from roam_live.session.sessions import FolderSession
+
+# So many seconds a keeper has for taking a connection, and something of a text, and for putting the text in the place of its mark.
+CONNECTS = 1.0
+TAKES = 10.0
+
+
+class TextGiver:
+    """A connection to the keeper of a session's shells, by which a text is given."""
+
+    def __init__(self, session: FolderSession) -> None:
+        self.session = session
+        self.peer = connected_in(session.folder / "shells", CONNECTS)
+        self.lines = Lines()
+        self.waiting = bytearray()
+        self.name = random_name()
+
+    def fileno(self) -> int:
+        """Its descriptor."""
+        return self.peer.fileno()
+
+    def answer(self, word: str) -> bool:
+        """Gives what waits, and tells whether it is answered by a word; False where the connection has ended, the text is lost, or the
+        keeper doesn't know what was said."""
+        end = time.monotonic() + TAKES
+        while time.monotonic() < end:
+            events = ready(self, READ | WRITE if self.waiting else READ, end - time.monotonic())
+            if events & WRITE:
+                write(self.fileno(), self.waiting)
+                end = time.monotonic() + TAKES
+            piece = read(self.fileno()) if events & READ else None
+            if piece == b"":
+                return False
+            for line in self.lines.fed(piece or b""):
+                if line == BAD_LINE:
+                    return False
+                told, _, rest = line.partition(" ")
+                name, _, more = rest.partition(" ")
+                if name == self.name and told == REFUSED:
+                    raise Fault(f"session {self.session.name}: {printable(more)}. Nothing was typed")
+                if name == self.name:
+                    return told == word
+        raise Fault(f"session {self.session.name}: what keeps its shells doesn't take the text")
+
+    def is_buffer_held(self, number: int) -> bool:
+        """Gives a buffer of the keeper's, and tells whether it holds that as a text."""
+        self.waiting += f"give {self.name} buffer {number}\n".encode()
+        return self.answer(HELD)
+
+    def is_held(self, data: bytes, is_plain: bool) -> bool:
+        """Gives a text, and tells whether the keeper holds it; False where none is there that takes any."""
+        self.waiting += f"give {self.name} {len(data)}{' plain' if is_plain else ''}\n".encode() + data
+        return self.answer(HELD)
+
+
+def given(session: FolderSession, data: bytes, is_plain: bool) -> TextGiver | None:
+    """The connection to a keeper that holds a text; None where none is there that takes any."""
+    try:
+        giver = TextGiver(session)
+    except OSError:
+        return None
+    if giver.is_held(data, is_plain):
+        return giver
+    giver.peer.close()
+    return None
+
+
+def type_text(session: FolderSession, text: str, pane: int, is_plain: bool) -> int:
+    """Has a text typed, whole and at one place among all acts, into a pane or that in focus: between brackets where its program wants them
+    and it isn't plain. Where no keeper takes it, as an earlier roam's, it is typed as acts."""
+    focus = pane_places(session, pane).focus if pane else 0
+    data = text.encode("utf-8", "replace")
+    if not data:
+        raise Fault("there is nothing to be typed")
+    if len(data) > MOST_BYTES:
+        raise Fault(f"a text has {MOST_BYTES >> 20} MB at most; nothing was typed")
+    giver = given(session, data, is_plain)
+    if giver:
+        return put(session, giver, pane, focus)
+    acts = pasted_acts(text, not is_plain and wants_brackets(session, pane))
+    type_lines(session, opened(session, False), lines_in_pane(acts, pane, focus, "paste ; "))
+    return 0
+
+
+def put(session: FolderSession, giver: TextGiver, pane: int, focus: int) -> int:
+    """Has the mark typed of a text that the keeper holds, and returns once the text is put there."""
+    type_lines(session, opened(session, False), lines_in_pane(mark_acts(giver.name), pane, focus, "paste ; "))
+    if not giver.answer(PUT):
+        raise Fault(f"session {session.name}: what keeps its shells ended, and nothing was typed")
+    return 0
+
+
+def paste_buffer(session: FolderSession, number: int, pane: int) -> int:
+    """Has a buffer of the keeper's pasted into a pane, or into that in focus."""
+    focus = pane_places(session, pane).focus if pane else 0
+    try:
+        giver = TextGiver(session)
+    except OSError as fault:
+        raise Fault(f"session {session.name}: nobody keeps its shells") from fault
+    if not giver.is_buffer_held(number):
+        raise Fault(f"session {session.name}: what keeps its shells has no buffers, as an earlier roam's, or ended; nothing was typed")
+    return put(session, giver, pane, focus)
+
+
+def read_text(is_raw: bool) -> str:
+    """What of standard input is pasted: of control characters TAB and CR alone, and ESC where it is raw; then no bracket is left in it."""
+    data = sys.stdin.buffer.read(MOST_BYTES + 1)
+    if len(data) > MOST_BYTES:
+        raise Fault(f"a text has {MOST_BYTES >> 20} MB at most; nothing was typed")
+    text = cleaned(data.decode("utf-8", "replace"), is_raw)
+    return without_brackets(text.encode("utf-8", "replace")).decode("utf-8", "replace") if is_raw else text

@@ -1,0 +1,219 @@
+"""What commands ask of the rows that a session's keeper of shells keeps, and of its buffers: `mux capture` of rows, `mux log`, and
+`mux buffer`."""
+from __future__ import annotations
+
+import os
+import sys
+import time
+
+from roam_live.cli.paste import CONNECTS, paste_buffer
+from roam_live.cli.row_texts import RowWriter
+from roam_live.cli.targets import making_of
+from roam_live.common.errors import Fault, connected_in, read, write
+from roam_live.common.event_loop import READ, WRITE, ready
+from roam_live.common.text import printable
+from roam_live.host.paste_buffers import EMPTY, MOST_BUFFER, TOO_LONG
+from roam_live.protocol.scrollback_client import (LOG, MOST_ROWS, Answer, AnswerReader, BadAnswer, BufferNote, RowsLink, Snapshot,
+                                                  number_at, rows_in)
+
+TYPE_CHECKING = False
+if TYPE_CHECKING:
+    from collections.abc import Callable
+    from typing import Any
+
+    from roam_live.session.sessions import FolderSession
+
+# So many seconds a keeper has for an answer, or a part of one.
+ANSWERS = 10.0
+
+# What names the first of all rows, or the last.
+OUTERMOST = "-"
+
+NOT_KEPT = "session {}: no rows are kept of pane {}, as where ROAM_HISTORY is 0, or by an earlier roam"
+NO_BUFFERS = "session {}: no buffers are kept there, as by an earlier roam"
+
+
+class RowsAsked:
+    """A connection to a session's keeper, by which rows and buffers are asked for one after the other."""
+
+    def __init__(self, session: FolderSession) -> None:
+        self.session = session
+        try:
+            self.peer = connected_in(session.folder / "shells", CONNECTS)
+        except OSError as fault:
+            raise Fault(f"session {session.name}: nobody keeps its shells") from fault
+        self.reader, self.link = AnswerReader(), RowsLink(self.take)
+        self.waiting = bytearray()
+
+    def fileno(self) -> int:
+        """Its descriptor."""
+        return self.peer.fileno()
+
+    def take(self, line: str, data: bytes) -> bool:
+        """Has a question wait for the keeper."""
+        self.waiting += f"{line}\n".encode() + data
+        return True
+
+    def heard(self, seconds: float | None) -> list[Answer] | None:
+        """Gives what waits, and hears what is told within so many seconds, or at any time; None where the connection has ended. What
+        answers nothing that was asked is handed back."""
+        events = ready(self, READ | WRITE if self.waiting else READ, 3600.0 if seconds is None else seconds)
+        if events & WRITE:
+            write(self.fileno(), self.waiting)
+        piece = read(self.fileno()) if events & READ else None
+        if piece == b"":
+            return None
+        try:
+            return [answer for answer in self.reader.fed(piece or b"") if not self.link.take(answer)]
+        except BadAnswer as fault:
+            raise Fault(f"session {self.session.name}: what keeps its shells tells what can't be: {printable(str(fault))}") from fault
+
+    def answer(self, ask: Callable[[Callable[[Any], object]], object]) -> Any:
+        """The answer to a question, which a call asks."""
+        told: list[Any] = []
+        ask(told.append)
+        end = time.monotonic() + ANSWERS
+        while not told:
+            before = len(self.reader.came)
+            if self.heard(max(0.0, end - time.monotonic())) is None:
+                raise Fault(f"session {self.session.name}: what keeps its shells has ended")
+            if len(self.reader.came) != before or self.waiting:
+                end = max(end, time.monotonic() + ANSWERS)
+            elif not told and time.monotonic() >= end:
+                raise Fault(f"session {self.session.name}: what keeps its shells doesn't answer")
+        return told[0]
+
+    def snapshot(self, pane: int) -> Snapshot:
+        """A snapshot of a pane, or of that in focus."""
+        number, life = making_of(self.session, pane)
+        found: Snapshot | None = self.answer(lambda told: self.link.snapshot(number, life, told))
+        if not found:
+            raise Fault(NOT_KEPT.format(self.session.name, number))
+        return found
+
+    def rows(self, snapshot: Snapshot, first: int, end: int) -> list[bytes]:
+        """The next rows of a snapshot, from a number to before another: not all of them at once."""
+        count = min(end - first, MOST_ROWS)
+        found: list[bytes] = self.answer(
+            lambda told: self.link.rows(snapshot.pane, snapshot.life, first, count, lambda begin, rows: told(rows)))
+        return found
+
+
+# ---- rows
+
+
+def row_number(word: str | None, snapshot: Snapshot, default: int, outermost: int) -> int:
+    """The number of the row that a word names; one above or below all is the first, or the last."""
+    if word is None or word == OUTERMOST:
+        return default if word is None else outermost
+    digits = word.removeprefix("-")
+    if not (digits.isascii() and digits.isdigit() and len(digits) <= 9):
+        raise Fault(f"{word!r} is no row: 0 is the first of the screen, -1 the last above it, and - the outermost")
+    return min(max(snapshot.end + int(word), snapshot.first), snapshot.end + len(snapshot.screen) - 1)
+
+
+def capture_rows(session: FolderSession, pane: int, begin: str | None, end: str | None, has_styles: bool, is_joined: bool) -> int:
+    """Prints rows of a pane, those of its screen where no others are named, and tells the status."""
+    asked = RowsAsked(session)
+    snapshot = asked.snapshot(pane)
+    last = snapshot.end + len(snapshot.screen) - 1
+    numbers = row_number(begin, snapshot, snapshot.end, snapshot.first), row_number(end, snapshot, last, last)
+    row, last = min(numbers), max(numbers)
+    writer = RowWriter(sys.stdout.buffer.write, has_styles, is_joined)
+    while row <= last:
+        rows = asked.rows(snapshot, row, last + 1)
+        if not rows:
+            raise Fault(f"session {session.name}: the rows aren't kept any more")
+        writer.put(rows)
+        row += len(rows)
+    writer.end()
+    return 0
+
+
+def log_rows(session: FolderSession, pane: int, has_styles: bool, is_joined: bool) -> int:
+    """Prints each row of a pane as it leaves the screen, and what stands there where the pane ends, and tells the status then."""
+    asked = RowsAsked(session)
+    number, life = making_of(session, pane)
+    # Nothing comes as long as nothing leaves, so it is seen first whether rows are kept.
+    kept: tuple[int, int] | None = asked.answer(lambda told: asked.link.count(number, life, told))
+    if kept is None:
+        raise Fault(NOT_KEPT.format(session.name, number))
+    writer, following = RowWriter(sys.stdout.buffer.write, has_styles, is_joined), kept[1]
+    asked.take(f"{LOG} {number} {life} {following}", b"")
+    while True:
+        told = asked.heard(None)
+        if told is None:
+            raise Fault(f"session {session.name}: what keeps its shells has ended")
+        for answer in told:
+            if answer.words[:1] == [LOG]:
+                # It has ended, or had before it could be followed.
+                writer.end()
+                return 0
+            first = number_at(answer.words, 3)
+            if first > following:
+                writer.put([f" [{first - following} rows were kept no longer]".encode()])
+            rows = rows_in(answer.data)
+            following = first + len(rows)
+            writer.put(rows)
+        sys.stdout.buffer.flush()
+
+
+# ---- buffers
+
+
+def buffer_notes(asked: RowsAsked) -> list[BufferNote]:
+    """The buffers of a session, the newest first."""
+    notes: list[BufferNote] | None = asked.answer(asked.link.buffers)
+    if notes is None:
+        raise Fault(NO_BUFFERS.format(asked.session.name))
+    return notes
+
+
+def buffer_number(asked: RowsAsked, word: str | None) -> int:
+    """The number of the buffer that a word names, or of the newest."""
+    if word is not None:
+        if not (word.isascii() and word.isdigit() and len(word) <= 9):
+            raise Fault(f"{word!r} is no number of a buffer; `mux buffer list {asked.session.name}` tells them")
+        return int(word)
+    notes = buffer_notes(asked)
+    if not notes:
+        raise Fault(f"session {asked.session.name} has no buffer")
+    return notes[0].number
+
+
+def list_buffers(session: FolderSession) -> int:
+    """Prints a line for each buffer, the newest first."""
+    for note in buffer_notes(RowsAsked(session)):
+        print(f"{note.number}: {note.length} bytes: {printable(note.sample)}")
+    return 0
+
+
+def show_buffer(session: FolderSession, word: str | None) -> int:
+    """Prints a buffer, byte by byte; to a terminal its characters."""
+    asked = RowsAsked(session)
+    number = buffer_number(asked, word)
+    data: bytes | None = asked.answer(lambda told: asked.link.buffer(number, told))
+    if data is None:
+        raise Fault(f"session {session.name} has no buffer {number}")
+    if os.isatty(1):
+        lines = data.decode("utf-8", "replace").replace("\t", " ").split("\n")
+        data = "\n".join(map(printable, lines)).encode("utf-8", "replace")
+    sys.stdout.buffer.write(data)
+    return 0
+
+
+def set_buffer(session: FolderSession, text: str | None) -> int:
+    """Has a text kept as a buffer, or what is read from standard input."""
+    data = sys.stdin.buffer.read(MOST_BUFFER + 1) if text is None else os.fsencode(text)
+    if not 0 < len(data) <= MOST_BUFFER:
+        raise Fault(TOO_LONG if data else EMPTY)
+    asked = RowsAsked(session)
+    number: int | None = asked.answer(lambda told: asked.link.add_buffer(data, told))
+    if number is None:
+        raise Fault(f"session {session.name}: the buffer isn't kept")
+    return 0
+
+
+def put_buffer(session: FolderSession, word: str | None, pane: int) -> int:
+    """Pastes a buffer into a pane, or into that in focus."""
+    return paste_buffer(session, buffer_number(RowsAsked(session), word), pane)

@@ -1,0 +1,186 @@
+"""Acts that are typed into a session by a command, all or none."""
+from __future__ import annotations
+
+import os
+import re
+import subprocess
+import time
+
+from roam_live.cli.targets import pane_places
+from roam_live.common.errors import Fault, Home
+from roam_live.common.tty import LEAST, MOST
+from roam_live.input.key_names import acts_named, acts_of_word
+from roam_live.protocol.client_link import MOST_ACTS, opened
+from roam_live.protocol.panes import MOST_PANES, MOVES, Places
+
+TYPE_CHECKING = False
+if TYPE_CHECKING:
+    from collections.abc import Callable
+
+    from roam_live.protocol.client_link import StartLink
+    from roam_live.session.sessions import FolderSession
+
+# So many seconds a session may take none of the acts that its client start was given.
+SEND_WAIT = 10.0
+
+# What was asked for before may not be told yet: for so many seconds it is looked again whether something can be done, this often.
+TOLD_WAIT = 1.0
+TOLD_STEP = 0.05
+
+
+class KnownPanes:
+    """What is known of a session's panes after each of some acts."""
+
+    def __init__(self, places: Places | None) -> None:
+        # Where nothing is told there is no pane here, and no act of one is refused.
+        self.places = places = places or Places({}, 0)
+        # How many panes there are, and their numbers where these are known; and whether each has the place that was told.
+        self.count, self.is_told = len(places.rects), True
+        self.panes: set[int] | None = set(places.rects)
+
+    def wrong(self, act: str) -> str:
+        """Why an act can't be done; nothing where it can, or that isn't known. What is known goes by the act then."""
+        word, *rest = act.split()
+        if word == "size":
+            self.is_told = False
+            return wrong_size(*map(int, rest))
+        # The program has read the act: it has as many words as what does it takes.
+        does: dict[str, Callable[..., str]] = {"focus": self.focused, "split": self.split, "close": self.closed, "grow": self.grown,
+                                               "next": self.passed}
+        return does[word](*rest) if word in does and self.count else ""
+
+    def focused(self, pane: str) -> str:
+        """Goes on with a pane in focus, or tells why it can't be."""
+        if self.panes is not None and int(pane) not in self.panes:
+            return f"there is no pane {pane}"
+        self.places = self.places._replace(focus=int(pane))
+        return ""
+
+    def passed(self) -> str:
+        """Goes on with a pane in focus that isn't known."""
+        self.places = self.places._replace(focus=0)
+        return ""
+
+    def split(self, way: str) -> str:
+        """Goes on with a pane more, which has the smallest free number and the focus, or tells why there can't be one."""
+        if self.count >= MOST_PANES:
+            return f"there are {MOST_PANES} panes, and no more"
+        why = self.places.unsplit(way) if self.is_told else ""
+        if why:
+            return why
+        self.count, self.is_told, pane = self.count + 1, False, 0
+        if self.panes is not None:
+            pane = next(pane for pane in range(1, MOST_PANES + 1) if pane not in self.panes)
+            self.panes.add(pane)
+        self.places = self.places._replace(focus=pane)
+        return ""
+
+    def closed(self) -> str:
+        """Goes on without the pane in focus, or tells that the last one stays. Which one has the focus then isn't known."""
+        if self.count == 1:
+            return "the last pane goes with its shell"
+        if self.panes is not None:
+            self.panes = self.panes - {self.places.focus} if self.places.focus in self.panes else None
+        self.count, self.is_told = self.count - 1, False
+        return self.passed()
+
+    def grown(self, _: str) -> str:
+        """Goes on with other places, or tells that the only pane has none but its own."""
+        self.is_told = False
+        return "there is one pane, which has all room" if self.count == 1 else ""
+
+
+def wrong_size(rows: int, cols: int) -> str:
+    """Why a session can't have a size; nothing where it can."""
+    if LEAST[0] <= rows <= MOST[0] and LEAST[1] <= cols <= MOST[1]:
+        return ""
+    return f"a session has {LEAST[0]} to {MOST[0]} rows and {LEAST[1]} to {MOST[1]} columns"
+
+
+def wrong_in(acts: list[str], places: Places | None) -> str:
+    """Which of the acts can't be done where panes are at these places, and why; nothing where all can, as far as is known."""
+    layout = KnownPanes(places)
+    found = ((act, layout.wrong(act)) for act in acts)
+    return next((f"{act!r} can't be done: {why}" for act, why in found if why), "")
+
+
+def demand_acts(session: FolderSession, acts: list[str]) -> None:
+    """Refuses what is no act, by a client start that takes no turn: the session never knows it."""
+    lines = "".join(f"{act}\n" for act in acts)
+    words = Home(folder=str(session.folder)).attach_words(["--keys", "/dev/stdin", "--turns", "0"])
+    ran = subprocess.run(words, input=os.fsencode(lines), stdout=subprocess.DEVNULL, stderr=subprocess.PIPE, check=False)
+    if ran.returncode:
+        said = ran.stderr.decode("utf-8", "replace").strip().partition("\n")[0]
+        line = re.fullmatch(r"roam: line (\d+): .*", said)
+        raise Fault(f"{acts[int(line[1]) - 1]!r} is no act, which the page roam(1) lists, and no key. None was typed" if line else said)
+
+
+def demand_doable(session: FolderSession, acts: list[str]) -> None:
+    """Refuses acts of which one can't be done."""
+    end = time.monotonic() + TOLD_WAIT
+    while True:
+        wrong = wrong_in(acts, session.places())
+        if not wrong:
+            return
+        if time.monotonic() > end:
+            raise Fault(f"{wrong}. None was typed")
+        time.sleep(TOLD_STEP)
+
+
+def are_taken(link: StartLink) -> bool:
+    """Gives a start what waits, and tells whether the session takes all of it: some within each ten seconds."""
+    end, before = time.monotonic() + SEND_WAIT, link.taken
+    while not link.is_done() and time.monotonic() < end:
+        if link.exchanged() is None:
+            break
+        if link.taken != before:
+            end, before = time.monotonic() + SEND_WAIT, link.taken
+    return link.is_done()
+
+
+def lines_in_pane(acts: list[str], pane: int, focus: int, leads: str = "") -> list[str]:
+    """The lines that type acts, so many in each as are typed together: of a pane that isn't in focus, which each has focused first, and the
+    one before again behind them, unless an act of them moves the focus. No pane is that in focus."""
+    is_moved = any(act.split()[0] in MOVES for act in acts)
+    begins = [f"focus {pane}"] if pane not in (0, focus) else []
+    ends = [f"focus {focus}"] if begins and not is_moved else []
+    if begins and is_moved:
+        acts, begins = [*begins, *acts], []
+    most = MOST_ACTS - len(begins) - len(ends)
+    return [leads + " ; ".join([*begins, *acts[place : place + most], *ends]) for place in range(0, len(acts), most)]
+
+
+def type_lines(session: FolderSession, link: StartLink, lines: list[str]) -> None:
+    """Types lines of acts, and returns once the session has taken all of them."""
+    for line in lines:
+        link.say(line)
+    is_taken = are_taken(link)
+    was_given, has_ended, why = not link.waiting, link.has_ended, link.loss()
+    link.close()
+    # An act may have ended the session, before that it was taken came back.
+    if is_taken or has_ended and was_given and not session.runs():
+        return
+    if has_ended:
+        raise Fault(f"session {session.name}: {why}")
+    raise Fault(f"session {session.name} takes no more acts; some may have been typed")
+
+
+def send_words(session: FolderSession, words: list[str], pane: int = 0) -> int:
+    """Types keys by tmux's names, and any other word's characters, into a session, as `send` types acts."""
+    try:
+        acts = [act for word in words for act in acts_of_word(os.fsencode(word).decode("utf-8", "replace"))]
+    except ValueError as fault:
+        raise Fault(f"{fault}. None was typed") from None
+    return send(session, acts, pane)
+
+
+def send(session: FolderSession, words: list[str], pane: int = 0) -> int:
+    """Types acts, and keys by tmux's names, into a session, in a pane where one is named, and ends once it has taken all of them."""
+    acts = [act for word in words for act in acts_named(word) or [word.replace("\n", "\\n")]]
+    if not acts:
+        raise Fault("there is nothing to be typed")
+    focus = pane_places(session, pane).focus if pane else 0
+    demand_acts(session, acts)
+    demand_doable(session, [f"focus {pane}", *acts] if pane else acts)
+    type_lines(session, opened(session, False), lines_in_pane(acts, pane, focus))
+    return 0

@@ -1,0 +1,103 @@
+"""Sessions of other machines: `mux ssh` here, and what it runs there."""
+from __future__ import annotations
+
+import contextlib
+import os
+import re
+import shlex
+import subprocess
+import zlib
+
+from roam_live.cli.targets import session_of, target_of
+from roam_live.common.errors import TOOLS
+from roam_live.config.environment import wants_udp
+from roam_live.relay.frames import greeting, read_greeting
+from roam_live.session.environment import bring
+from roam_live.session.sessions import FolderSession, NearSession, base, check_name
+
+TYPE_CHECKING = False
+if TYPE_CHECKING:
+    from collections.abc import Callable
+
+    from roam_live.cli.parsing import Asked
+    from roam_live.protocol.panes import Places
+
+# The options of ssh that have a word behind them, and those of `mux ssh` itself.
+SSH_PAIRS = "BbcDEeFIiJLlmOoPpQRSWw"
+OWN_PAIRS = ("--ssh", "--far", "--guess")
+
+# So many seconds the other machine has for telling which windows there are: one of an earlier roam tells none.
+TOLD_WAIT = 1.5
+
+# So many seconds ssh has for telling where it would go.
+HOST_WAIT = 5.0
+
+
+def parted_options(words: list[str]) -> tuple[list[str], list[str]]:
+    """The words of `mux ssh` without the options that are for ssh, which stand before the host, and these."""
+    own: list[str] = []
+    options: list[str] = []
+    rest = list(words)
+    while rest and rest[0].startswith("-"):
+        word = rest.pop(0)
+        is_own = word.startswith("--") or word == "-h"
+        # A letter that has a word behind it may have it at once, as -p22, and may stand behind others.
+        first = next((place for place, letter in enumerate(word) if letter in SSH_PAIRS), len(word))
+        is_pair = word in OWN_PAIRS if is_own else first == len(word) - 1
+        found = own if is_own else options
+        found += [word, *rest[:1]] if is_pair else [word]
+        del rest[: int(is_pair)]
+    return own + rest, options
+
+
+def command_of(asked: Asked) -> list[str]:
+    """The command over which a session is carried, as the words of `mux ssh` say."""
+    return [*shlex.split(asked.ssh), *asked.options, asked.host, f"{asked.far} far {asked.name}"]
+
+
+def host_of(asked: Asked) -> str:
+    """What ssh takes for the name or the address of the other machine; the word itself, without a user, where it doesn't tell in time, and
+    nothing where no UDP is wanted, for which it is."""
+    if not wants_udp():
+        return ""
+    words = [*shlex.split(asked.ssh), "-G", *asked.options, asked.host]
+    with contextlib.suppress(OSError, subprocess.SubprocessError):
+        told = subprocess.run(words, stdin=subprocess.DEVNULL, stdout=subprocess.PIPE, stderr=subprocess.DEVNULL, timeout=HOST_WAIT,
+                              check=True)
+        found = re.search(rb"^hostname ([!-~]+)$", told.stdout, re.MULTILINE)
+        if found:
+            return found[1].decode("ascii")
+    return str(asked.host).rpartition("@")[2]
+
+
+def near_session(asked: Asked, command: list[str]) -> NearSession:
+    """What stands here for a session of another machine: one a host, a session, and a way to get there."""
+    place = f"ssh:{re.sub('[^A-Za-z0-9_.@-]', '_', asked.host)}:{asked.name}"
+    plain = ["ssh", asked.host, f"roam-mux far {asked.name}"]
+    if command != plain:
+        place += f":{zlib.crc32(os.fsencode(chr(0).join(command))):08x}"
+    return NearSession(base() / place, asked.name)
+
+
+def is_first_start(places: Places | None) -> bool:
+    """Whether a session, as far as is told, never had a client start before that of this machine."""
+    return places is not None and places.starts <= 1
+
+
+def carry(name: str, launched: Callable[[FolderSession], bool]) -> int:
+    """Carries a session's datagrams over standard input and output. One that the other end knew and that has ended isn't launched anew;
+    whether another runs, or was begun halfway, a call tells under its lock. What sshd set here is brought to the session."""
+    wanted, target = read_greeting(0), target_of(name)
+    check_name(target.name)
+    session = session_of(target)
+    if wanted == "-":
+        with session.locked():
+            if not launched(session):
+                session.launch()
+    elif not session.find() or all(window.id() != wanted for window in session.windows()):
+        os.write(1, greeting("0"))
+        return 0
+    window = next((one for one in session.windows() if one.id() == wanted), None) or session.window(target.window)
+    bring(window)
+    words = [str(TOOLS / "relay"), "--far", "--greeted", "--server", str(window.process("server")), "--dir", str(window.folder), "-"]
+    return os.execv(words[0], words)

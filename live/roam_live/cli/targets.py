@@ -1,0 +1,169 @@
+"""A session, a window or a pane of one, as the words of `mux` name it: `NAME[:K][.P]`, of which each part may be missing."""
+from __future__ import annotations
+
+import os
+import re
+import time
+from collections import namedtuple
+
+from roam_live.common.errors import Fault, Lines, connected_in, read, runs_program
+from roam_live.common.event_loop import comes
+from roam_live.protocol.panes import ASIDE, ASKED, BEHIND, BRACKETED, ToldPanes
+from roam_live.session.foreground import own_pane
+
+TYPE_CHECKING = False
+if TYPE_CHECKING:
+    import socket
+
+    from roam_live.protocol.panes import Places
+    from roam_live.session.sessions import FolderSession
+
+# The name of a session, or of what stands here for one of another machine, which may be missing; a window of it, and a pane.
+WORD = re.compile(r"(?P<name>ssh:[^:]+:[^:.]+(?::[0-9a-f]{8})?|[^:.]*)(?::(?P<window>[1-9]\d?))?(?:\.(?P<pane>[1-9]))?|:", re.ASCII)
+
+# So many seconds a server has for closing a pane.
+CLOSES = 5.0
+
+NOWHERE = "no session is named, and this is no pane of one; `mux ls` lists them"
+
+
+class Target(namedtuple("Target", "name window pane")):
+    """A session's name, nothing where that in which this process runs is meant, and the numbers of a window and of a pane of it: None and
+    0 where none is named."""
+
+    name: str
+    window: int | None
+    pane: int
+
+
+def target_of(word: str) -> Target:
+    """What a word names: no name of a session of this machine has a colon or a dot."""
+    found = WORD.fullmatch(word)
+    if not found:
+        return Target(word, None, 0)
+    return Target(found["name"] or "", int(found["window"]) if found["window"] else None, int(found["pane"] or 0))
+
+
+def session_of(target: Target) -> FolderSession:
+    """The session that is named, or the one in which this process runs."""
+    from roam_live.session.sessions import session_named, window_in
+
+    folder = own_pane()[0]
+    if target.name:
+        return session_named(target.name)
+    if not folder:
+        raise Fault(NOWHERE)
+    return window_in(folder).whole_session()
+
+
+def window_of(session: FolderSession, target: Target) -> FolderSession:
+    """The window that is named of a session which runs: where none is, that in which this process runs, else that where somebody was
+    last."""
+    from roam_live.session.sessions import window_in
+
+    folder = own_pane()[0]
+    is_own = target.window is None and folder and is_in(folder, session)
+    window = session.window(window_in(folder).number or None if is_own else target.window)
+    # Where there are no others it is told by the session's name alone.
+    window.name = window.name if len(session.windows()) > 1 else session.name
+    return window
+
+
+def is_in(folder: str, session: FolderSession) -> bool:
+    """Whether a folder is that of a session, or of a window of it."""
+    return os.path.abspath(folder) == str(session.folder) or os.path.abspath(folder).startswith(f"{session.folder}/w/")
+
+
+def pane_places(session: FolderSession, pane: int) -> Places:
+    """Where the panes of a session are, of which one is named; Fault where that isn't told, or it isn't there."""
+    places = session.places()
+    if places is None:
+        raise Fault(f"session {session.name}: where its panes are isn't told")
+    if pane not in places.rects:
+        raise Fault(f"session {session.name} has no pane {pane}")
+    return places
+
+
+class AskedPanes:
+    """A connection to a session's `panes`, by which a command asks once."""
+
+    def __init__(self, peer: socket.socket) -> None:
+        self.peer, self.lines, self.told = peer, Lines(), ToldPanes()
+
+    def heard(self, seconds: float) -> list[str] | None:
+        """The lines that come in so many seconds, as soon as there are some; None where none comes any more."""
+        if not comes(self.peer, max(0.0, seconds)):
+            return []
+        piece = read(self.peer.fileno())
+        if piece == b"":
+            return None
+        lines = self.lines.fed(piece or b"")
+        for line in lines:
+            self.told.take(line)
+        return lines
+
+    def hear_all(self) -> None:
+        """Hears what is told at first, and what comes right behind it."""
+        end = time.monotonic() + ASKED
+        while time.monotonic() < end and self.heard(end - time.monotonic()) is not None:
+            end = min(end, time.monotonic() + BEHIND) if self.told.places() else end
+
+
+def making_of(session: FolderSession, pane: int) -> tuple[int, int]:
+    """A pane, or that in focus where none is named, and its life; Fault where that isn't told, or it isn't there."""
+    try:
+        with connected_in(session.folder / "panes", ASKED) as peer:
+            asked = AskedPanes(peer)
+            asked.hear_all()
+    except OSError as fault:
+        raise Fault(f"session {session.name}: where its panes are isn't told") from fault
+    places = asked.told.places()
+    number = pane or (places.focus if places else 0)
+    life = asked.told.lives.get(number, "")
+    if not places or number not in places.rects or not life.isdigit():
+        raise Fault(f"session {session.name} has no pane {number}" if places else f"session {session.name}: where its panes are isn't told")
+    return number, int(life)
+
+
+def wants_brackets(session: FolderSession, pane: int) -> bool:
+    """Whether the program in a pane, or in the one in focus, is known to want what is pasted between brackets."""
+    try:
+        with connected_in(session.folder / "panes", ASKED) as peer:
+            if runs_program(peer):
+                peer.send(f"{ASIDE}\n".encode())
+            asked = AskedPanes(peer)
+            asked.hear_all()
+    except OSError:
+        return False
+    places = asked.told.places()
+    return places is not None and asked.told.has_set(pane or places.focus, BRACKETED)
+
+
+def close_pane(session: FolderSession, pane: int) -> None:
+    """Closes a pane; Fault tells why that can't be done."""
+    try:
+        with connected_in(session.folder / "panes", ASKED) as peer:
+            asked = AskedPanes(peer)
+            asked.hear_all()
+            life = asked.told.lives.get(pane)
+            if pane not in asked.told.rects or life is None:
+                raise Fault(f"session {session.name} has no pane {pane}")
+            peer.send(f"close {pane} {life}\n".encode())
+            if not is_closed(asked, pane, life):
+                raise Fault(f"session {session.name}: pane {pane} isn't closed")
+    except OSError as fault:
+        raise Fault(f"session {session.name}: where its panes are isn't told") from fault
+
+
+def is_closed(asked: AskedPanes, pane: int, life: str) -> bool:
+    """Whether that making of a pane is closed in time."""
+    end = time.monotonic() + CLOSES
+    while time.monotonic() < end:
+        lines = asked.heard(end - time.monotonic())
+        if lines is None:
+            return False
+        if "last pane" in lines:
+            raise Fault(f"pane {pane} is the last one, and goes with its session")
+        if pane not in asked.told.rects or asked.told.lives.get(pane) != life:
+            return True
+    return False

@@ -1,0 +1,262 @@
+"""The commands that keys, a settings file and the command line have, by tmux's words: what each asks the front end for."""
+from __future__ import annotations
+
+from collections import namedtuple
+
+from roam_live.common.text import printable
+from roam_live.host.pending_spawns import MOST_BYTES, TOO_LONG, Begins
+from roam_live.host.window_commands import LONGEST_BYTES, LONGEST_NAME
+from roam_live.input.key_names import acts_of_word
+from roam_live.input.keys import Key, acts_of
+
+TYPE_CHECKING = False
+if TYPE_CHECKING:
+    from collections.abc import Callable
+
+# Words that stand in a command, and the flags that stand before them, with their values.
+MOST_WORDS, LONGEST_TEXT = 100, 1000
+
+
+# Where a new pane or window begins in any case.
+HERE = "#{pane_current_path}"
+NOTHING = Begins([], "", "", False)
+
+
+class BadCommand(Exception):
+    """What a command says can't be done; why, in words."""
+
+
+class CommandWish(namedtuple("CommandWish", "acts wish text words begins", defaults=((), None))):
+    """What a command asks for: acts that are typed, or a wish of the front end's, and a text that belongs to it; its words; and what a new
+    pane or window begins with, where that isn't as always."""
+
+    acts: list[str]
+    wish: str
+    text: str
+    words: list[str]
+    begins: Begins | None
+
+
+class Flags:
+    """The flags of a command, with the values of those that have one, and the words behind them."""
+
+    def __init__(self, words: list[str], known: str) -> None:
+        self.found: dict[str, str] = {}
+        valued = {known[place - 1] for place, letter in enumerate(known) if letter == ":"}
+        rest = list(words)
+        while rest and len(rest[0]) > 1 and rest[0][0] == "-" and rest[0] != "--":
+            word = rest.pop(0)
+            for place, flag in enumerate(word[1:], 2):
+                if flag not in known or flag == ":":
+                    raise BadCommand(f"it has no -{printable(flag)} here")
+                self.found[flag] = word[place:] or (rest.pop(0) if rest else "") if flag in valued else ""
+                if flag in valued:
+                    break
+        self.words = rest[1:] if rest[:1] == ["--"] else rest
+
+    def demand_words(self, most: int = 0) -> None:
+        """Refuses more words than so many: none that isn't done is passed over."""
+        if len(self.words) > most:
+            raise BadCommand(f"it has no word {printable(self.words[most])[:40]}")
+
+    def has(self, flag: str) -> bool:
+        """Whether a flag stands there."""
+        return flag in self.found
+
+    def number(self, text: str, default: int, most: int) -> int:
+        """A number of these words."""
+        if not text:
+            return default
+        if not (text.isascii() and text.isdigit() and 0 < int(text[:9]) <= most):
+            raise BadCommand(f"{printable(text)[:40]} is no number from 1 to {most}")
+        return int(text)
+
+
+class NamedCommand(namedtuple("NamedCommand", "names flags reads help")):
+    """A command: its names, the longest first, the flags that it has, as getopt has them, how its words are read, and what it does."""
+
+    names: tuple[str, ...]
+    flags: str
+    reads: Callable[[Flags], CommandWish]
+    help: str
+
+
+def wish(word: str) -> Callable[[Flags], CommandWish]:
+    """Reads a command that is one wish, without words."""
+    def read(flags: Flags) -> CommandWish:
+        flags.demand_words()
+        return CommandWish([], word, "")
+    return read
+
+
+def by_flag(wishes: dict[str, str], default: str) -> Callable[[Flags], CommandWish]:
+    """Reads a command whose flag says which wish it is."""
+    def read(flags: Flags) -> CommandWish:
+        flags.demand_words()
+        return CommandWish([], next((word for flag, word in wishes.items() if flags.has(flag)), default), "")
+    return read
+
+
+def begun(wishes: dict[str, str], default: str) -> Callable[[Flags], CommandWish]:
+    """Reads a command that makes a pane or a window, as its flag says, with what that begins with."""
+    def read(flags: Flags) -> CommandWish:
+        word = next((word for flag, word in wishes.items() if flags.has(flag)), default)
+        begins = Begins(flags.words, folder_of(flags.found.get("c", HERE)), flags.found.get("n", ""), flags.has("d"))
+        if len(begins.packed()) > MOST_BYTES:
+            raise BadCommand(TOO_LONG)
+        if any("\0" in part for part in (*begins.words, begins.folder)) or begins.words[:1] == [""]:
+            raise BadCommand("it has no such command")
+        title = begins.title
+        if not title.isprintable() or len(title) > LONGEST_NAME or len(title.encode("utf-8", "replace")) > LONGEST_BYTES:
+            raise BadCommand(f"a name has {LONGEST_NAME} printable characters at most")
+        return CommandWish([], word, "", begins=begins if begins != NOTHING else None)
+    return read
+
+
+def folder_of(text: str) -> str:
+    """The folder that -c names; nothing where that is the one in which it begins anyway."""
+    if text != HERE and "#{" in text:
+        raise BadCommand(f"-c has a folder or {HERE} here")
+    return "" if text == HERE else text
+
+
+def window_of(flags: Flags) -> CommandWish:
+    """Reads which window is gone to: of a number, or another in order."""
+    flags.demand_words(0 if "t" in flags.found else 1)
+    target = flags.found.get("t", flags.words[0] if flags.words else "").lstrip(":=")
+    ways = {"+": "go next", "-": "go previous", "!": "go last"}
+    if flags.has("n") or flags.has("p") or flags.has("l"):
+        return by_flag({"n": "go next", "p": "go previous", "l": "go last"}, "")(flags)
+    return CommandWish([], ways[target] if target in ways else f"go {flags.number(target, 0, 99) or 'asked'}", "")
+
+
+def pane_of(flags: Flags) -> CommandWish:
+    """Reads which pane gets the focus: one of a number, the next, the last, or one beside."""
+    flags.demand_words()
+    target = flags.found.get("t", "").rpartition(".")[2].lstrip(":")
+    if target == "+":
+        return CommandWish(["next"], "", "")
+    if target and target != "!":
+        return CommandWish([f"focus {flags.number(target, 1, 9)}"], "", "")
+    return by_flag({"L": "left", "R": "right", "U": "up", "D": "down", "l": "last"}, "last" if target else "panes")(flags)
+
+
+def sized(flags: Flags) -> CommandWish:
+    """Reads how a pane is sized: zoomed, or by one of its borders, so many times."""
+    flags.demand_words(0 if flags.has("Z") else 1)
+    if flags.has("Z"):
+        return CommandWish([], "zoom", "")
+    side = next((side for flag, side in (("L", "left"), ("R", "right"), ("U", "up"), ("D", "down")) if flags.has(flag)), "")
+    if not side:
+        raise BadCommand("it has -L, -R, -U, -D or -Z")
+    return CommandWish([], f"border {side}", str(flags.number(flags.words[0] if flags.words else "", 1, 99)))
+
+
+def shares_of(flags: Flags) -> CommandWish:
+    """Reads how the panes share the window: evenly, in the layout that is there."""
+    flags.demand_words(1 if flags.words[:1] in (["even-horizontal"], ["even-vertical"]) else 0)
+    return CommandWish([], "even", "")
+
+
+def keys_sent(flags: Flags) -> CommandWish:
+    """Reads keys by their names, or texts, which are typed."""
+    if len(flags.words) > MOST_WORDS or any(len(word) > LONGEST_TEXT for word in flags.words):
+        raise BadCommand(f"it has {MOST_WORDS} words of {LONGEST_TEXT} characters at most")
+    try:
+        acts = [acts_of(Key("text", word)) if flags.has("l") else acts_of_word(word) for word in flags.words]
+    except ValueError as fault:
+        raise BadCommand(str(fault)) from None
+    if not any(acts):
+        raise BadCommand("it has keys or a text behind it")
+    return CommandWish([act for some in acts for act in some], "", "")
+
+
+def bound(flags: Flags) -> CommandWish:
+    """Reads what binds a key or unbinds one: the settings have the rest of that."""
+    if not flags.words and not flags.has("a"):
+        raise BadCommand("it has a key")
+    return CommandWish([], "bind", "")
+
+
+def texted(word: str, is_needed: bool = True) -> Callable[[Flags], CommandWish]:
+    """Reads a command that has a text."""
+    def read(flags: Flags) -> CommandWish:
+        text = " ".join(flags.words)
+        if len(text) > LONGEST_TEXT:
+            raise BadCommand(f"it has {LONGEST_TEXT} characters at most")
+        if is_needed and not text:
+            raise BadCommand("it has a text behind it")
+        return CommandWish([], word, text)
+    return read
+
+
+# All of them. A flag that asks for what is so in roam anyway is passed over, and any other is refused: another pane would be meant.
+TABLE = (
+    NamedCommand(("new-window", "neww"), "c:dn:", begun({}, "window new"),
+                 "opens a window, with a command, a folder and a name where they stand there"),
+    NamedCommand(("kill-window", "killw"), "", wish("window shut"), "shuts the window"),
+    NamedCommand(("rename-window", "renamew"), "", texted("window name", is_needed=False), "names the window"),
+    NamedCommand(("next-window", "next"), "", wish("go next"), "goes to the next window"),
+    NamedCommand(("previous-window", "prev"), "", wish("go previous"), "goes to the window before"),
+    NamedCommand(("last-window", "last"), "", wish("go last"), "goes to the window where one was before"),
+    NamedCommand(("select-window", "selectw"), "t:npl", window_of, "goes to a window, by its number"),
+    NamedCommand(("choose-window", "choose-tree"), "swZG", wish("window list"), "chooses a window from a list"),
+    NamedCommand(("split-window", "splitw"), "hvc:d", begun({"h": "split right", "v": "split down"}, "split down"),
+                 "splits the pane, with a command and a folder where they stand there"),
+    NamedCommand(("kill-pane", "killp"), "", wish("close"), "closes the pane"),
+    NamedCommand(("select-pane", "selectp"), "LRUDlt:", pane_of, "puts another pane in focus"),
+    NamedCommand(("last-pane", "lastp"), "", wish("last"), "puts the pane in focus that was before"),
+    NamedCommand(("display-panes", "displayp"), "b", wish("panes"), "has a digit be a pane's"),
+    NamedCommand(("resize-pane", "resizep"), "LRUDZ", sized, "zooms the pane, or moves one of its borders"),
+    NamedCommand(("select-layout", "selectl", "next-layout", "nextl"), "Enop", shares_of, "gives even shares"),
+    NamedCommand(("copy-mode",), "ues", by_flag({"u": "copy page", "s": "copy search"}, "copy"),
+                 "enters copy mode, a page back, or with a search"),
+    NamedCommand(("paste-buffer", "pasteb"), "p", wish("paste"), "pastes what was copied last"),
+    NamedCommand(("choose-buffer",), "Z", wish("choose"), "chooses what is pasted"),
+    NamedCommand(("detach-client", "detach"), "a", by_flag({"a": "leave others"}, "detach"), "detaches this terminal, or all others"),
+    NamedCommand(("suspend-client", "suspendc"), "", wish("suspend"), "suspends the front end"),
+    NamedCommand(("refresh-client", "refresh"), "S", wish("repaint"), "fits the session to this terminal"),
+    NamedCommand(("list-keys", "lsk"), "N", wish("help"), "shows the keys"),
+    NamedCommand(("send-prefix",), "", wish("prefix"), "types the prefix"),
+    NamedCommand(("send-keys", "send"), "l", keys_sent, "types keys by their names, or a text"),
+    NamedCommand(("command-prompt",), "", wish("command line"), "asks for a command"),
+    NamedCommand(("source-file", "source"), "q", texted("settings", is_needed=False), "reads the settings file anew"),
+    NamedCommand(("set-option", "set", "set-window-option", "setw"), "agowqsu", texted("set"), "sets an option at this terminal"),
+    NamedCommand(("bind-key", "bind"), "nrT:N:", bound, "binds a key at this terminal, until the file is read anew"),
+    NamedCommand(("unbind-key", "unbind"), "anqT:", bound, "unbinds a key there, or all with -a"),
+    NamedCommand(("display-message", "display"), "p", texted("tell"), "tells a text in the last row, with the formats of status-left"),
+    NamedCommand(("run-shell", "run"), "b", texted("run"),
+                 "runs a command of the shell, and shows what it says, with -b its last line alone"),
+    NamedCommand(("toggle-mouse",), "", wish("mouse"), "has roam have the mouse, or not"),
+    NamedCommand(("toggle-status",), "", wish("row"), "hides the last row, or shows it"),
+    NamedCommand(("synchronize-panes",), "", wish("synchronize"), "has keys go to all panes of the window, or not"),
+)
+# What keys ask for behind the prefix where nobody bound them otherwise.
+DEFAULT_KEYS = {
+    "%": "split-window -h", '"': "split-window -v", "x": "kill-pane", "o": "select-pane -t :.+", ";": "last-pane", "q": "display-panes",
+    "Up": "select-pane -U", "Down": "select-pane -D", "Left": "select-pane -L", "Right": "select-pane -R", "z": "resize-pane -Z",
+    "C-Up": "resize-pane -U", "C-Down": "resize-pane -D", "C-Left": "resize-pane -L", "C-Right": "resize-pane -R", "Space": "select-layout",
+    "c": "new-window", "n": "next-window", "p": "previous-window", "l": "last-window", "w": "choose-window", ",": "rename-window",
+    "&": "kill-window", "'": "select-window", **{str(number % 10): f"select-window -t {number}" for number in range(1, 11)},
+    "[": "copy-mode", "PPage": "copy-mode -u", "/": "copy-mode -s", "]": "paste-buffer", "=": "choose-buffer", "d": "detach-client",
+    "D": "detach-client -a", "C-z": "suspend-client", "r": "refresh-client", "m": "toggle-mouse", "t": "toggle-status", "R": "source-file",
+    ":": "command-prompt", "?": "list-keys",
+}
+BY_NAME = {name: command for command in TABLE for name in command.names}
+
+
+def asked_by(words: list[str]) -> CommandWish:
+    """What a command asks for, by its words. BadCommand tells what of it can't be done."""
+    name, *rest = words
+    command = BY_NAME.get(name)
+    if not command:
+        raise BadCommand(f"{printable(name)[:40]} is no command of roam")
+    try:
+        return command.reads(Flags(rest, command.flags))._replace(words=words)
+    except BadCommand as fault:
+        raise BadCommand(f"{name}: {fault}") from None
+
+
+def completed(begun: str) -> list[str]:
+    """The names of commands that begin so."""
+    return sorted(name for command in TABLE for name in command.names if name.startswith(begun))

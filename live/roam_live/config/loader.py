@@ -1,0 +1,331 @@
+"""What a person's settings say: commands of files, in tmux's words, and what of them can't be had, told with its line and once."""
+from __future__ import annotations
+
+import glob
+import os
+import stat
+from collections import namedtuple
+
+from roam_live.common.errors import reason
+from roam_live.common.text import printable
+from roam_live.config.parser import OPTIONS, SWITCHES, TEXTS, BadWord, Block, FileCommand, SettingsReader, key_named
+
+TYPE_CHECKING = False
+if TYPE_CHECKING:
+    from collections.abc import Container, Iterable
+
+    from roam_live.config.parser import Value, Word
+
+# A file has so many bytes at most; so many are named by one another at most, and so many are read in all.
+MOST_BYTES = 1 << 20
+DEEPEST = 10
+MOST_FILES = 100
+
+# So many lines are told at most, each of so many characters.
+MOST_TOLD, LONGEST_TOLD = 100, 200
+
+# The tables of keys: behind the prefix, and without it.
+PREFIXED, ROOT = TABLES = ("prefix", "root")
+
+CONDITIONS = ("%if", "%elif", "%else", "%endif")
+
+
+class Binding(namedtuple("Binding", "commands repeats")):
+    """What a key asks for: commands, each a list of words, and whether it may come again without the prefix for a moment."""
+
+    commands: list[list[str]]
+    repeats: bool
+
+
+class Branches:
+    """A condition that is read: whether one of its branches was taken, whether the one that is read is, and whether none is, since what it
+    asks isn't known here."""
+
+    def __init__(self, is_passed: bool, holds: bool | None) -> None:
+        self.is_unknown, self.was_taken = is_passed or holds is None, bool(holds)
+        self.is_read = not self.is_unknown and bool(holds)
+
+    def go_on(self, holds: bool | None) -> None:
+        """Goes on with another branch."""
+        self.is_unknown = self.is_unknown or not self.was_taken and holds is None
+        self.is_read = not self.is_unknown and not self.was_taken and bool(holds)
+        self.was_taken = self.was_taken or self.is_read
+
+
+class FileSettings:
+    """What files say: options that are set, keys that are bound or bound no more, what is to be run and told, and what can't be had."""
+
+    def __init__(self, environment: dict[str, str] | None = None, commands: Container[str] | None = None) -> None:
+        self.environment = dict(os.environ if environment is None else environment)
+        self.known = commands
+        self.values: dict[str, Value] = {}
+        self.bindings: dict[tuple[str, str], Binding | None] = {}
+        self.runs: list[str] = []
+        self.messages: list[str] = []
+        self.told: list[str] = []
+        self.untold = 0
+        # The files that are read, from the first on, and how many were.
+        self.open: list[tuple[int, int]] = []
+        self.count = 0
+
+    # ---- files
+
+    def read(self, path: str) -> None:
+        """Reads a file, where it is one that may be read; why not is told."""
+        try:
+            text = self.text_of(path)
+        except BadWord as fault:
+            self.tell(path, 0, str(fault))
+            return
+        try:
+            self.take_text(text, path)
+        finally:
+            self.open.pop()
+
+    def text_of(self, path: str) -> str:
+        """The text of a file that is the user's or root's and that nobody else may write; it is one of those that are open from now on."""
+        if len(self.open) >= DEEPEST:
+            raise BadWord(f"isn't read: files name one another more than {DEEPEST} deep")
+        if self.count >= MOST_FILES:
+            raise BadWord(f"isn't read: more than {MOST_FILES} files are named")
+        try:
+            end = os.open(path, os.O_RDONLY | os.O_NONBLOCK | os.O_CLOEXEC)
+            try:
+                status = os.fstat(end)
+                why = refusal(status) or ("it is named within itself" if (status.st_dev, status.st_ino) in self.open else "")
+                data = b"" if why else read_most(end)
+            finally:
+                os.close(end)
+        except (OSError, ValueError) as fault:
+            raise BadWord(f"can't be read: {reason(fault) if isinstance(fault, OSError) else 'no name of a file'}") from None
+        try:
+            found = data.decode("utf-8")
+        except UnicodeDecodeError:
+            found, why = "", "it is no text in UTF-8"
+        why = why or ("it is larger than 1 MB" if len(data) > MOST_BYTES else "it is no text" if "\0" in found else "")
+        if why:
+            raise BadWord(f"isn't read: {why}")
+        self.count += 1
+        self.open.append((status.st_dev, status.st_ino))
+        return found
+
+    def take_text(self, text: str, name: str) -> None:
+        """Takes what a text says, of a file of a name."""
+        reader = SettingsReader(text, self.environment, lambda line, words: self.tell(name, line, words))
+        self.take_commands(reader.commands(), name)
+
+    def take_commands(self, commands: Iterable[FileCommand], name: str) -> None:
+        """Takes commands, but those of branches that aren't read."""
+        stack: list[Branches] = []
+        line = 0
+        for command in commands:
+            line, word = command.line, command.words[0]
+            if command.is_condition and word in CONDITIONS:
+                self.branch(stack, command, name)
+            elif all(branches.is_read for branches in stack):
+                try:
+                    self.take(command, name)
+                except BadWord as fault:
+                    self.tell(name, command.line, str(fault))
+        if stack:
+            self.tell(name, line, "%if has no %endif")
+
+    def branch(self, stack: list[Branches], command: FileCommand, name: str) -> None:
+        """Takes a line of a condition. What asks for a format isn't known here: all its branches are passed over."""
+        word, rest = str(command.words[0]), str(command.words[1]).strip("\"'")
+        holds = None if "#" in rest or "$" in rest else rest not in ("", "0")
+        is_passed = not all(branches.is_read for branches in stack)
+        if word == "%if":
+            stack.append(Branches(is_passed, holds))
+        elif not stack:
+            self.tell(name, command.line, f"{word} has no %if before it")
+        elif word == "%endif":
+            stack.pop()
+        else:
+            is_passed = True
+            stack[-1].go_on(True if word == "%else" else holds)
+        if word == "%if" and holds is None and not is_passed:
+            self.tell(name, command.line, "roam has no formats in %if: all up to its %endif is passed over")
+
+    def tell(self, name: str, line: int, words: str) -> None:
+        """Keeps what is told of a line, where it isn't kept yet and there is room."""
+        told = printable(f"{os.path.basename(name)}{f':{line}' if line else ''}: {words}")[:LONGEST_TOLD]
+        if told not in self.told:
+            self.untold += len(self.told) >= MOST_TOLD
+            self.told += [told] if len(self.told) < MOST_TOLD else []
+
+    # ---- commands
+
+    def take(self, command: FileCommand, name: str) -> None:
+        """Takes a command."""
+        word, *words = command.words
+        does = {"set": self.set_option, "set-option": self.set_option, "setw": self.set_option, "set-window-option": self.set_option,
+                "bind": self.bind, "bind-key": self.bind, "unbind": self.unbind, "unbind-key": self.unbind, "run": self.run,
+                "run-shell": self.run, "display": self.display, "display-message": self.display}
+        if isinstance(word, Block):
+            self.take_commands(word.commands, name)
+        elif word in ("source", "source-file"):
+            self.source(words, name)
+        elif word in does:
+            does[word](words)
+        elif word == "%hidden" or not words and "=" in word and word.partition("=")[0].isidentifier():
+            assigned = str(words[0]) if word == "%hidden" and words else word
+            variable, _, value = assigned.partition("=")
+            self.environment[variable] = value
+        else:
+            raise BadWord(f"{word[:40]} isn't there in roam")
+
+    def set_option(self, words: list[Word]) -> None:
+        """Sets an option, for all: of one that is added to, unset, or set where it isn't."""
+        flags, texts = flags_of(words, "t")
+        if not texts or len(texts) > 2:
+            raise BadWord("set has a name and a value")
+        option, value = texts[0], texts[1] if len(texts) == 2 else None
+        check = OPTIONS.get(option)
+        if not check:
+            if "q" in flags:
+                return
+            raise BadWord(f"{option[:40]} is no option of roam")
+        if "F" in flags:
+            raise BadWord(f"{option}: roam has no formats in values")
+        if "u" in flags:
+            self.values.pop(option, None)
+        elif not ("o" in flags and option in self.values):
+            self.values[option] = self.checked(option, value, "a" in flags)
+
+    def checked(self, option: str, value: str | None, is_added: bool) -> Value:
+        """The value of an option, where it may be that."""
+        if value is None and option in SWITCHES:
+            value = "off" if self.values.get(option) == "on" else "on"
+        if value is None:
+            raise BadWord(f"{option} has no value")
+        if is_added and option in TEXTS:
+            value = f"{self.values.get(option, '')}{value}"
+        try:
+            return OPTIONS[option](value)
+        except BadWord as fault:
+            raise BadWord(f"{option} is {value[:40]!r}, and {fault}" if "may" in str(fault)[:4] else f"{option}: {fault}") from None
+
+    def bind(self, words: list[Word]) -> None:
+        """Binds a key."""
+        flags, rest = flags_before(words, "TN")
+        if not rest or not isinstance(rest[0], str):
+            raise BadWord("bind has a key and a command")
+        key, commands = key_named(rest[0]), commands_of(rest[1:])
+        if not commands:
+            raise BadWord(f"bind {rest[0][:40]} has no command")
+        unknown = next((words[0] for words in commands if self.known is not None and words[0] not in self.known), "")
+        if unknown:
+            raise BadWord(f"{unknown[:40]} is no command of roam, so {rest[0][:40]} isn't bound")
+        self.bindings[table_of(flags), key] = Binding(commands, "r" in flags)
+
+    def unbind(self, words: list[Word]) -> None:
+        """Binds a key, or all of a table, to nothing."""
+        flags, texts = flags_of(words, "T")
+        table = table_of(flags)
+        if "a" in flags:
+            self.bindings = {place: binding for place, binding in self.bindings.items() if place[0] != table}
+            self.bindings[table, "all"] = None
+        elif len(texts) != 1:
+            raise BadWord("unbind has a key")
+        else:
+            self.bindings[table, key_named(texts[0])] = None
+
+    def run(self, words: list[Word]) -> None:
+        """Has a command of the shell be run."""
+        flags, texts = flags_of(words, "dtc")
+        if len(texts) != 1 or "C" in flags:
+            raise BadWord("run-shell has one command of the shell")
+        self.runs.append(texts[0])
+
+    def display(self, words: list[Word]) -> None:
+        """Has something be told."""
+        _, texts = flags_of(words, "cdtF")
+        self.messages += [printable(texts[0])[:LONGEST_TOLD]] if texts else []
+
+    def source(self, words: list[Word], name: str) -> None:
+        """Reads other files, which are named from the folder of this one, where they aren't named from the top."""
+        flags, paths = flags_of(words, "t")
+        if not paths:
+            raise BadWord("source has the name of a file")
+        for path in paths:
+            whole = os.path.join(os.path.dirname(name), path)
+            found = sorted(glob.glob(whole))[: MOST_FILES + 1] if glob.has_magic(path) else [whole]
+            for one in found if found or "q" in flags else [whole]:
+                if "q" not in flags or os.path.exists(one):
+                    self.read(one)
+
+
+def read_most(end: int) -> bytes:
+    """What a file has, as far as it may be read, and a byte more where it has more."""
+    pieces, left = list[bytes](), MOST_BYTES + 1
+    while left and (piece := os.read(end, min(left, 65536))):
+        pieces.append(piece)
+        left -= len(piece)
+    return b"".join(pieces)
+
+
+def refusal(status: os.stat_result) -> str:
+    """Why a file isn't read; nothing where it is."""
+    if not stat.S_ISREG(status.st_mode):
+        return "it is no file of text"
+    if status.st_uid not in (0, os.getuid()):
+        return "it is another user's"
+    if status.st_mode & 0o022:
+        return "others may write it"
+    return "it is larger than 1 MB" if status.st_size > MOST_BYTES else ""
+
+
+def flags_before(words: list[Word], valued: str) -> tuple[dict[str, str], list[Word]]:
+    """The flags that stand before other words, with the values of those that have one, and what stands behind them."""
+    flags: dict[str, str] = {}
+    rest = list(words)
+    while rest and isinstance(rest[0], str) and len(rest[0]) > 1 and rest[0][0] == "-":
+        word = rest.pop(0)
+        if word == "--":
+            break
+        for place, flag in enumerate(str(word)[1:], 1):
+            flags[flag] = ""
+            if flag in valued:
+                value = str(word)[place + 1 :]
+                flags[flag] = value or (str(rest.pop(0)) if rest else "")
+                break
+    return flags, rest
+
+
+def flags_of(words: list[Word], valued: str) -> tuple[dict[str, str], list[str]]:
+    """The flags before words that are texts, and these."""
+    flags, rest = flags_before(words, valued)
+    if any(isinstance(word, Block) for word in rest):
+        raise BadWord("a block between braces isn't taken here")
+    return flags, [str(word) for word in rest]
+
+
+def table_of(flags: dict[str, str]) -> str:
+    """The table of keys that flags name."""
+    table = flags.get("T", ROOT if "n" in flags else PREFIXED)
+    if table not in TABLES:
+        raise BadWord(f"roam has no table of keys {table[:40]}")
+    return table
+
+
+def commands_of(words: list[Word]) -> list[list[str]]:
+    """The commands of a binding: those of a block, or words in which such that end with `;` part them."""
+    if len(words) == 1 and isinstance(words[0], Block):
+        return [[str(word) for word in command.words] for command in words[0].commands if not is_nested(command)]
+    commands: list[list[str]] = [[]]
+    for word in words:
+        if isinstance(word, Block):
+            raise BadWord("a block between braces isn't taken here")
+        is_end = word.endswith(";") and not word.endswith("\\;")
+        text = word[:-1] if is_end else word[:-2] + ";" if word.endswith("\\;") else word
+        commands[-1] += [text] if text or not is_end else []
+        commands += [[]] if is_end else []
+    return [command for command in commands if command]
+
+
+def is_nested(command: FileCommand) -> bool:
+    """Whether a command has a block among its words, as those of conditions have."""
+    if any(isinstance(word, Block) for word in command.words):
+        raise BadWord("a block within a block isn't taken here")
+    return False

@@ -1,0 +1,754 @@
+"""What a person at a terminal types, and what comes of it: acts for the session, and what the front end does itself."""
+from __future__ import annotations
+
+import os
+import signal
+import time
+from collections.abc import Callable
+
+from roam_live.common import tty
+from roam_live.common.errors import has_others
+from roam_live.common.event_loop import Loop
+from roam_live.config.environment import ESCAPE_TIME, follows_latest, number_of
+from roam_live.frontend.bindings import NEWEST, OWN, PICKS, Typing, help_with
+from roam_live.frontend.choose_list import Choosing, ChoosingWindow, Listing
+from roam_live.frontend.copymode.controller import INTERRUPT, CopyEvent, Copying
+from roam_live.frontend.display import NO_SIZE, Display
+from roam_live.frontend.foci import Foci
+from roam_live.frontend.key_help import Helping
+from roam_live.frontend.mouse import Pointing
+from roam_live.frontend.paste import Pastes
+from roam_live.frontend.preload import REPLACED
+from roam_live.frontend.prompt import Prompts
+from roam_live.frontend.resize_keys import BorderKeys
+from roam_live.frontend.spawn_commands import Handing
+from roam_live.frontend.synchronize_panes import Synchronizing
+from roam_live.frontend.zoom import Zooming
+from roam_live.input.extended_keys import ANSWERED, form_for
+from roam_live.input.key_names import spelled
+from roam_live.input.keys import TYPES, Key, Keys, acts_of
+from roam_live.input.mouse_reports import MOUSE
+from roam_live.protocol.client_link import StartLink
+from roam_live.protocol.colours import COLOUR
+from roam_live.protocol.panes import BESIDE, MOVES, Places
+from roam_live.protocol.panes_client import PanesFollower
+from roam_live.protocol.presence import LEAVE_OTHERS
+from roam_live.session.foreground import told
+
+TYPE_CHECKING = False
+if TYPE_CHECKING:
+    from roam_live.frontend.bindings import Mode
+    from roam_live.frontend.windows import WindowWishes
+    from roam_live.protocol.host_client import ShellsLink
+    from roam_live.protocol.session_interface import AnySession
+
+# The wishes that are granted while something stands in the session's place. Nothing is typed then, since nobody would see where it goes.
+UNDER_COVER = ("detach", "suspend", "repaint", "help", "no", "scrolled", "picked", "line")
+
+# What the wishes begin with that are for a window: to go there, which is granted in any case, or what changes it.
+GOES, WINDOW = "go ", "window "
+
+# So many seconds a line stands that tells how the session is made as large as the terminal, or why it isn't.
+FITS_TOLD = 3.0
+
+# So many seconds later it is looked again whether the panes are told, before the session is fitted to the terminal.
+FITS_AGAIN = 0.3
+
+# A session that hasn't a size that it was given so many seconds ago, and took, has no room for its panes in that.
+REFUSES = 2.5
+
+# So many seconds a line stands that tells what became of a paste, and what is told of one with which a question was answered.
+PASTE_TOLD = 3.0
+NO_ANSWER = "nothing is pasted: a question was there"
+
+# What is told of a paste that is begun in a window that is gone before its end.
+WINDOW_GONE = "nothing is pasted: its window is gone"
+
+# So many seconds others have for leaving, and a line stands that tells how many did.
+LEAVES_IN = 2.0
+OTHERS_STAY = "the others can't be detached: what keeps the shells doesn't answer, or is an earlier roam's"
+
+# What waits in the loop for a window, and is nothing in another.
+OF_WINDOW = ("fit", "others", "size", "given", "motion", "border", "untold", "even", "zoom", "zoom left", "zoom comes", "synchronize")
+
+# What is told where the session gets this terminal's size since somebody types here.
+LATEST_TOLD = "sized to this terminal (window-size latest): what is wider was cut"
+SIZED_TOLD = 2.0
+
+# So many seconds a line stands that tells that roam was replaced.
+REPLACED_TOLD = 3.0
+
+# What is told where no pane is known that was in focus before.
+NO_LAST = "no other pane was in focus"
+
+# For so many seconds a session is new, and goes by its terminal's size, whatever that is: a window may get its size once it is there.
+NEW = 2.0
+
+
+class Commands:
+    """The keys of one person, and what they ask for."""
+
+    def __init__(self, session: AnySession, panes: PanesFollower, link: StartLink, display: Display, loop: Loop,
+                 leave: Callable[[str | None], None], is_new: Callable[[Places | None], bool] = lambda places: False,
+                 is_whole: bool = False, shells: ShellsLink | None = None) -> None:
+        self.session, self.panes, self.link, self.display, self.loop, self.leave = session, panes, link, display, loop, leave
+        self.shells = shells
+        # Whether the session is shown whole where it has room, with its own status row.
+        self.is_whole = is_whole
+        self.keys = Keys()
+        self.pointing = Pointing(self, loop)
+        self.prefix = "C-b"
+        self.typing = Typing()
+        self.help = help_with(self.prefix)
+        self.paused = False
+        # Whether the session is new, and whether it and this terminal were fitted to each other once, as far as that may be.
+        self.is_new, self.is_fitted, self.new_until = is_new, False, 0.0
+        # The size that the session was given last, while it may still get it; and whether this terminal showed all of it before it had
+        # another size itself.
+        self.given: tty.Size | None = None
+        self.showed_all = False
+        # The size that this window had as it was left, where all of it was shown here then: one that nobody changed since follows the
+        # terminal.
+        self.left_size = NO_SIZE
+        self.copying, self.choosing = Copying(self, loop), Choosing(self)
+        self.zooming, self.border_keys, self.foci = Zooming(self, loop), BorderKeys(self, loop), Foci(panes)
+        self.handing, self.helping, self.listing = Handing(self), Helping(self), Listing(self)
+        display.moved = self.fit_drawn
+        # The windows of the session, and a list of them, where it may have several.
+        self.windows: WindowWishes | None = None
+        self.choosing_window: ChoosingWindow | None = None
+        self.prompts = Prompts(self)
+        self.pastes = Pastes(link, panes, shells, loop, self.unpasted, lambda line: display.tell(line, PASTE_TOLD))
+        self.synchronizing = Synchronizing(self, loop)
+        self.pastes.spreads = self.synchronizing.pasted_in
+        self.pastes.is_cut = self.is_cut
+        # The session's size and the labels of its panes, as they were told last.
+        self.known: tuple[tty.Size, str] = (NO_SIZE, "")
+        # Where a command of this person moved the focus, since it was told: to a pane, or to one that isn't known, 0; and what was told
+        # then.
+        self.moved_to: int | None = None
+        self.moved_from: Places | None = None
+        # What does the commands of a person's own keys, and asks for one.
+        self.runs: Callable[[str], object] = lambda wish: None
+        # The making of the pane to which this person's last key went, where that is known.
+        self.typed_in = ""
+
+    def choose(self, prefix: str) -> None:
+        """Makes the key of a name the prefix."""
+        own, self.prefix, self.typing, self.help = self.typing.own, prefix, Typing(prefix), help_with(prefix)
+        self.typing.own = own
+        self.display.fits_line = "" if self.link.watches else f"{prefix} r fits"
+        self.display.leaves_line = f"{prefix} d leaves"
+
+    def fed(self, piece: bytes) -> None:
+        """Takes bytes that were typed."""
+        self.typed(self.keys.fed(piece))
+        self.loop.drop("escape")
+        if self.keys.waits():
+            self.loop.later("escape", number_of("escape-time", ESCAPE_TIME) / 1000, lambda: self.typed(self.keys.ended()))
+
+    def typed(self, keys: list[Key]) -> None:
+        """Takes keys; those behind one that goes to another window, or opens one, are for that."""
+        self.follow_latest()
+        keys = self.typing.joined(keys)
+        place = 0
+        while place < len(keys) and not (self.windows and self.windows.takes(self, keys, place)):
+            key, count = self.typing.whole(keys, place)
+            self.take_any(key)
+            place += count
+        self.copying.settle()
+        self.synchronizing.settle()
+
+    def take_any(self, key: Key) -> None:
+        """Takes a key, or what the terminal reports."""
+        if key.name in (COLOUR, ANSWERED) or key.name == MOUSE and self.typing.mode != self.typing.pasting:
+            self.reported(key)
+            return
+        is_help = self.display.cover == self.help
+        if is_help and self.helping.takes(key):
+            return
+        if is_help:
+            self.display.uncover()
+        # A key that ends the help means nothing else, unless it begins something.
+        if not is_help or key.name in (self.typing.prefix, "paste"):
+            try:
+                self.take(key)
+            except ImportError:
+                self.tell_replaced()
+
+    def tell_replaced(self) -> None:
+        """Tell that a module of this roam can't be imported any more, and go on without what needs it."""
+        self.copying.give_up()
+        self.display.tell(REPLACED, REPLACED_TOLD)
+
+    def reported(self, key: Key) -> None:
+        """Takes what the terminal reports: what is done with the mouse, or a colour that it has."""
+        if key.name == MOUSE:
+            self.pointing.take(key.text)
+        elif key.name == ANSWERED:
+            self.display.outer.take_answer(key.text)
+        elif self.shells:
+            self.shells.tell_colour(key.text)
+
+    def take(self, key: Key) -> None:
+        """Takes a key. Under a cover nothing is typed; the prefix means there what it always does."""
+        if self.typing.ends_picking(key, time.monotonic()):
+            self.display.end_told()
+        if self.copying.takes(key) or self.choosing.takes(key) or self.listing.takes(key):
+            return
+        if self.choosing_window and self.choosing_window.takes(key):
+            return
+        before = self.typing.mode
+        acts, wish = self.typing.asked(key, time.monotonic(), self.display.outer.size()[0])
+        self.take_pasted(key, before)
+        if self.paused:
+            is_pasted = before == self.typing.pasting
+            if wish.startswith(GOES):
+                self.grant(wish, key)
+                return
+            self.leave("[left]" if wish == "detach" or key.name in ("\x03", "q") and not is_pasted else None)
+            return
+        if self.display.cover:
+            acts = [act for act in acts if act == NEWEST]
+            wish = "no" if wish == "yes" else wish if wish in UNDER_COVER or wish.startswith(GOES) else ""
+        self.type_key(acts, key)
+        if wish:
+            self.grant(wish, key)
+
+    def type_key(self, acts: list[str], key: Key = Key("", "")) -> None:
+        """Types what a key asks for: where keys go to all panes, those of it that do."""
+        keys = [act for act in acts if act.startswith(TYPES)]
+        if keys and key.name == INTERRUPT and not self.link.watches:
+            # A program may have it in another form than that of an interrupt.
+            self.pastes.interrupt()
+        if not keys or not self.synchronizing.is_working():
+            places = self.places() if key.extended else None
+            self.act(*(self.formed(acts, key, places.focus) if places else acts))
+            return
+        self.act(*acts[: -len(keys)])
+        if key.extended:
+            self.synchronizing.add_key(lambda pane: self.formed(keys, key, pane))
+        else:
+            self.synchronizing.add(keys)
+
+    def formed(self, acts: list[str], key: Key, pane: int) -> list[str]:
+        """Acts, with those of the key at their end in the form in which a pane's program asked for it."""
+        typed = acts_of(key)
+        form = form_for(key.extended, self.panes.modes(pane)) if key.extended and typed and acts[-len(typed) :] == typed else ""
+        return [*acts[: -len(typed)], *acts_of(Key("text", form))] if form else acts
+
+    def take_pasted(self, key: Key, before: Mode) -> None:
+        """Takes what a key is of a paste, where a person was as told before it."""
+        was_pasting, is_pasting = before == self.typing.pasting, self.typing.mode == self.typing.pasting
+        if was_pasting and is_pasting:
+            self.pastes.add(key.text)
+        elif was_pasting:
+            self.synchronizing.settle(is_last=True)
+            self.pastes.end()
+            self.note_key()
+        elif is_pasting:
+            self.pastes.begin(NO_ANSWER if before == self.typing.answering else "")
+
+    def is_full(self) -> bool:
+        """Whether so much waits for rows, for the focus or for a window that nothing more is to come. What waits behind a paste keeps
+        nothing back: C-c and the prefix are read in any case."""
+        return self.synchronizing.is_full() or self.copying.is_full() or self.windows is not None and self.windows.is_full()
+
+    def is_cut(self) -> bool:
+        """Return True during an outage: the server is silent, or no connection is there to what keeps the shells."""
+        return self.display.silent > 0 or self.shells is not None and self.shells.peer is None
+
+    def unpasted(self) -> str:
+        """Why nothing is pasted now; nothing where it is."""
+        if self.link.watches:
+            return "nothing is pasted: this terminal only watches"
+        return "nothing is pasted where the session isn't shown" if self.paused or self.display.cover else ""
+
+    def act(self, *acts: str) -> None:
+        """Has acts typed, by who doesn't only watch."""
+        if self.link.watches:
+            return
+        if acts:
+            self.synchronizing.settle(is_last=True)
+        self.pastes.type(*self.zooming.ended_by(acts))
+        self.note_moves(*acts)
+
+    def act_together(self, *acts: str) -> None:
+        """Has acts typed in a line of their own, by who doesn't only watch: nothing comes between them."""
+        if not self.link.watches:
+            self.type_together(*self.zooming.ended_by(acts))
+
+    def type_together(self, *acts: str) -> None:
+        """Has acts typed in a line of their own, whatever is zoomed."""
+        self.synchronizing.settle(is_last=True)
+        self.pastes.type_together(*acts)
+        self.note_moves(*acts)
+
+    def note_moves(self, *acts: str) -> None:
+        """Takes note of those of these acts that move the focus, and of where the last one goes, where it is a key."""
+        moves = [act for act in acts if act.startswith(MOVES)]
+        for act in moves:
+            word, _, pane = act.partition(" ")
+            self.move(word, int(pane) if word == "focus" else 0)
+        if moves:
+            self.copying.focus_moved(acts)
+            self.close_lists()
+        if acts and acts[-1].startswith(TYPES):
+            self.note_key()
+
+    def note_key(self) -> None:
+        """Takes note of where this person's last key goes."""
+        places = self.places()
+        self.typed_in = self.panes.making(places.focus) if places else ""
+
+    def move(self, word: str, pane: int) -> None:
+        """Takes note that this person moves the focus, to a pane or to one that isn't known: what was told of it isn't so then. What moves
+        nothing is never told."""
+        places = self.panes.places
+        others = [other for other in places.rects if other != places.focus] if places else [pane]
+        if self.moved_to is not None or word in ("split", "close") or (pane in others if word == "focus" else others):
+            self.moved_to, self.moved_from = pane, places
+
+    def is_moved(self, now: Places, before: Places) -> bool:
+        """Whether it is told where the focus is that this person moved. Where it goes to a pane that is known the size of one doesn't tell
+        that: it may come of what was typed before."""
+        if now.focus == self.moved_to or now.focus != before.focus:
+            return True
+        return set(now.rects) != set(before.rects) if self.moved_to or self.borders_move() else now.rects != before.rects
+
+    def borders_move(self) -> bool:
+        """Return True if a border that this person moves is on its way: it changes the sizes of panes, and no focus."""
+        return any(drag is not None and drag.grown for drag in (self.border_keys.drag, self.pointing.border))
+
+    def told(self) -> None:
+        """Takes note that something is told of the panes: where the focus is now, if that or a pane is new."""
+        now, before = self.panes.places, self.moved_from
+        if now is None or before is None or self.is_moved(now, before):
+            self.moved_to = None
+        if self.given == self.session_size():
+            self.forget_given()
+            # What is shown of one that is smaller now may begin too far below, or to the right.
+            self.display.choose(is_anew=self.display.place != (0, 0))
+        self.foci.told()
+        self.pointing.told()
+        self.border_keys.told()
+        self.zooming.told()
+        self.mend()
+        self.fit_drawn()
+        self.fit_first()
+        self.show_known()
+        self.show_aside()
+        self.synchronizing.settle()
+        if self.windows:
+            self.windows.told_panes()
+
+    def show_aside(self) -> None:
+        """Gives the terminal the title and the cursor's shape of the pane in focus, and asks it for what its program wants of the mouse."""
+        self.display.outer.give(*self.panes.aside)
+        self.display.outer.ask(self.pointing.asked())
+
+    def clip(self, text: str, making: str) -> None:
+        """Sets the terminal's clipboard by what the program in focus sets, in base64, where this person's last key went to it."""
+        if making and making == self.typed_in:
+            self.display.outer.set_clip(text)
+
+    def show_known(self) -> None:
+        """Has the display go by what is known of the session: while it may get a size that it was given that is its size."""
+        places, is_untold = self.panes.places, self.panes.is_untold()
+        if places or is_untold:
+            self.known = (places.size(), places.labels()) if places else (NO_SIZE, "")
+            self.display.warning = places.warning() if places else ""
+        size, labels = self.known
+        self.display.is_synchronized = self.synchronizing.is_on()
+        self.display.know(self.given or size, labels, self.is_whole or is_untold)
+
+    def places(self) -> Places | None:
+        """Where the panes are, with the focus where this person put it: 0 where that isn't told yet."""
+        places = self.panes.places
+        if places is None or self.moved_to is None:
+            return places
+        return places._replace(focus=self.moved_to if self.moved_to in places.rects else 0)
+
+    def awaits_focus(self) -> bool:
+        """Whether it isn't told yet which pane is in focus, and may be soon."""
+        places = self.places()
+        return not places.focus if places else self.panes.is_awaited()
+
+    def left(self) -> None:
+        """Does what is left to do where the person leaves."""
+        self.synchronizing.settle(is_last=True)
+        self.act(*self.typing.left())
+        self.zooming.leave()
+
+    # ---- from window to window
+
+    def has_windows(self, windows: WindowWishes) -> None:
+        """Has windows that are known here."""
+        self.windows, self.choosing_window = windows, ChoosingWindow(self, windows)
+
+    def follow_panes(self, panes: PanesFollower) -> None:
+        """Goes by what another tells of where the panes are."""
+        self.panes = self.pastes.panes = self.foci.panes = panes
+
+    def part(self) -> None:
+        """Does what is left to do where the person goes to another window: what was drawn, and waited for, is this window's."""
+        if self.typing.is_scrolling():
+            self.end_scroll()
+        self.left()
+        self.copying.close()
+        self.close_lists()
+        self.pointing.end_drag()
+        self.pastes.break_off()
+        self.given = None
+        for name in OF_WINDOW:
+            self.loop.drop(name)
+
+    def follow_on(self, before: Commands, left_size: tty.Size) -> None:
+        """Goes on in this window with what the person has begun elsewhere: an escape, a paste, a question or a line that is asked for. The
+        window may have been shown whole as it was left, with a size."""
+        self.keys, self.typing, self.prefix, self.help = before.keys, before.typing, before.prefix, before.help
+        self.prompts.follow_on(before.prompts)
+        self.pointing.is_on = before.pointing.is_on
+        self.display.moved = self.fit_drawn
+        self.is_fitted, self.showed_all, self.left_size = False, False, left_size
+        if self.typing.mode == self.typing.pasting or before.copying.is_pasting:
+            self.refuse_paste(WINDOW_GONE)
+
+    def refuse_paste(self, why: str) -> None:
+        """Has nothing be typed of a paste whose end hasn't come yet, and tells why then."""
+        self.typing.mode = self.typing.pasting
+        self.pastes.begin(why)
+
+    def end_scroll(self) -> None:
+        """Ends the scroll mode, where the newest rows are."""
+        self.act(*self.typing.left())
+        self.typing.mode = self.typing.plain
+        self.display.end_told()
+
+    def grant(self, wish: str, key: Key) -> None:
+        """Does what the front end itself is asked for."""
+        if wish == "detach":
+            self.leave("[detached]")
+        elif wish == "suspend":
+            # The signal comes as from elsewhere, once what was typed is taken.
+            os.kill(os.getpid(), signal.SIGTSTP)
+        elif wish == "repaint":
+            self.zooming.overrule_own()
+            self.ask_size()
+            self.display.resettle()
+        elif wish == "help":
+            self.helping.show()
+        elif wish.startswith("copy"):
+            self.copy(wish)
+        elif wish == "row":
+            self.switch_row()
+        elif wish == "line":
+            self.prompts.type(key)
+        elif wish.startswith((OWN, "command line", "settings")):
+            self.runs(wish)
+        elif wish.startswith((GOES, WINDOW)):
+            if self.windows:
+                self.windows.grant(wish)
+        elif wish == "unknown":
+            self.display.tell(f"{self.prefix} {spelled(key)} is not bound; {self.prefix} ? shows the keys")
+        elif wish and not self.link.watches:
+            self.change(wish)
+
+    def change(self, wish: str) -> None:
+        """Does what somebody who only watches may not."""
+        if wish == "scroll":
+            self.display.tell(f"{self.typing.view} rows back: PgUp PgDn up down g G scroll, q ends it", None)
+        elif wish.startswith("split"):
+            self.split(wish)
+        elif wish == "close":
+            self.close()
+        elif wish == "mouse":
+            self.pointing.switch()
+        elif wish == "panes":
+            self.display.tell(f"{self.display.labels}: a digit goes to the pane of this number", PICKS)
+        elif wish == "leave others":
+            self.leave_others()
+        elif wish in ("paste", "choose"):
+            self.copying.close()
+            self.choosing.ask(is_newest=wish == "paste")
+        elif wish == "zoom":
+            self.zooming.switch()
+        elif wish == "even" or wish.startswith("border"):
+            self.border_keys.ask(wish.split()[-1])
+        elif wish == "last":
+            self.go_back()
+        elif wish == "synchronize":
+            self.synchronizing.switch()
+        elif wish in BESIDE:
+            self.go(wish)
+        elif wish in ("yes", "no"):
+            self.prompts.answer(wish == "yes")
+        elif wish in ("scrolled", "picked"):
+            self.display.end_told()
+
+    # ---- settings
+
+    def follow_latest(self) -> None:
+        """Gives the session this terminal's size, where somebody types here and it is to have that, whatever that cuts."""
+        if not follows_latest() or self.link.watches or self.given or self.paused or self.zooming.is_on():
+            return
+        size = self.display.room()
+        if self.session_size() not in (NO_SIZE, tty.largest(size)) and tty.is_large_enough(size):
+            self.ask_size()
+            self.display.tell(LATEST_TOLD, SIZED_TOLD)
+
+    # ---- others, and the last row
+
+    def leave_others(self) -> None:
+        """Has all other terminals at the session detached."""
+        if not self.shells or not self.shells.peer:
+            self.display.tell(OTHERS_STAY, LEAVES_IN)
+            return
+        self.shells.ask(LEAVE_OTHERS)
+        self.loop.later("others leave", LEAVES_IN, lambda: self.display.tell(OTHERS_STAY, LEAVES_IN))
+
+    def others_left(self, count: str) -> None:
+        """Tells how many others are detached."""
+        self.loop.drop("others leave")
+        self.display.tell(f"{count} other terminal{'' if count == '1' else 's'} detached" if count.isdigit() else OTHERS_STAY, LEAVES_IN)
+
+    def switch_row(self) -> None:
+        """Hides the last row, or shows it again: the session has the row, as by another size of the terminal."""
+        self.resized()
+        self.display.switch_row()
+        self.fit()
+
+    # ---- rows that are kept
+
+    def fit_drawn(self) -> None:
+        """Has what is drawn over a pane go by where that is now."""
+        if self.display.is_held:
+            return
+        self.copying.fit()
+        self.choosing.fit()
+        self.listing.fit()
+        if self.choosing_window:
+            self.choosing_window.fit()
+
+    def close_lists(self) -> None:
+        """Closes what may be chosen from."""
+        self.choosing.close()
+        self.listing.close()
+        if self.choosing_window:
+            self.choosing_window.close()
+
+    def copy(self, wish: str) -> None:
+        """Opens copy mode in the pane in focus, a page up or in its search where that is asked; where no rows are kept the view that all
+        share scrolls."""
+        begins = {"copy page": [CopyEvent(lambda mode: mode.perform("page-up"))],
+                  "copy search": [CopyEvent(lambda mode: mode.ask_search())]}.get(wish, [])
+        places = self.places()
+        self.close_lists()
+        if self.copying.is_on():
+            self.copying.add(*begins)
+        elif places and places.focus:
+            self.copying.open(places.focus, lambda: self.scroll_back(wish), *begins)
+        elif self.awaits_focus():
+            self.copying.await_focus(lambda: self.scroll_back(wish), *begins)
+        else:
+            self.scroll_back(wish)
+
+    def scroll_back(self, wish: str) -> bool:
+        """Scrolls the view that all share, of who doesn't only watch, and tells whether it does."""
+        if self.link.watches or wish == "copy search":
+            self.display.tell("no rows are kept that could be shown")
+            return False
+        acts, scrolls = self.typing.begin_scroll(wish == "copy page", self.display.outer.size()[0])
+        self.act(*acts)
+        self.change(scrolls)
+        return True
+
+    # ---- sizes
+
+    def ask_size(self) -> None:
+        """Gives the session this terminal's size, where it may have it: what is wider than that is cut for good."""
+        size = self.display.room()
+        if self.link.watches:
+            return
+        if not tty.is_large_enough(size):
+            self.display.tell("a session has {} rows and {} columns at least".format(*tty.LEAST))
+            return
+        self.give(tty.largest(size))
+
+    def give(self, size: tty.Size) -> None:
+        """Gives the session a size."""
+        self.act(tty.size_act(size))
+        self.expect(size)
+
+    def expect(self, size: tty.Size) -> None:
+        """Takes it that the session gets a size that it is given."""
+        self.given = size
+        self.loop.later("given", REFUSES, self.refused)
+        self.zooming.overrule()
+        self.show_known()
+
+    def give_again(self) -> None:
+        """Gives the session again the size that it is to have: with a connection that act may be lost."""
+        size = self.zooming.awaited_size() or self.given
+        if size and not self.link.watches:
+            self.type_together(tty.size_act(size))
+
+    def mend(self, is_late: bool = False) -> None:
+        """Gives the session the size back that it had before a zoom that a front end has left, where whose that is was awaited or needn't
+        be, and then the one that it has at this terminal."""
+        if self.zooming.mend(is_late):
+            self.fit()
+
+    def forget_given(self) -> None:
+        """Waits no more for a size that was given."""
+        self.given = None
+        self.loop.drop("given")
+        self.display.release()
+
+    def refused(self) -> None:
+        """Tells where the session hasn't got the size that it was given, and has taken all that was typed."""
+        if not self.link.is_done():
+            self.loop.later("given", REFUSES, self.refused)
+            return
+        given, size = self.given, self.session_size()
+        self.forget_given()
+        self.zooming.drop_note()
+        self.show_known()
+        if given and size not in (given, NO_SIZE):
+            self.display.tell("its panes have no room in {} by {}".format(*given), FITS_TOLD)
+
+    def session_size(self) -> tty.Size:
+        """The session's rows and columns, as they are told or were painted; nothing where they aren't known."""
+        places = self.panes.places
+        return places.size() if places else self.display.whole_size
+
+    def fit_first(self) -> None:
+        """Fits the session to this terminal, once something is known of it: a new one has nothing yet that could be cut."""
+        if self.is_fitted:
+            return
+        if self.is_new(self.panes.places):
+            self.is_fitted, self.new_until = True, time.monotonic() + NEW
+        elif self.panes.is_awaited():
+            # What is told soon may be another size than what was painted so far.
+            self.loop.later("fit", FITS_AGAIN, self.fit_first)
+            return
+        else:
+            self.is_fitted = self.session_size() != NO_SIZE or not tty.is_large_enough(self.display.room())
+        self.fit()
+
+    def is_fresh(self) -> bool:
+        """Whether the session is so new that it goes by this terminal's size."""
+        return time.monotonic() < self.new_until
+
+    def resized(self) -> None:
+        """Takes note of what was shown before the terminal had another size, the first of many where it is drawn by hand."""
+        if not self.loop.due.keys() & {"size", "others"}:
+            shows_all = self.zooming.showed_all if self.zooming.is_on() else self.display.shows_all()
+            self.showed_all = self.given is not None or shows_all
+
+    def has_others(self) -> bool | None:
+        """Whether somebody else types, as the keeper of the shells tells it; else by the notes in the session's folder. None where that
+        isn't known: in the folder of another machine's session not all are noted."""
+        told = self.shells.has_others() if self.shells else None
+        if told is None and not has_others(self.session.common):
+            return None if self.session.served == "relay" else False
+        return told is None or told
+
+    def is_alone(self) -> bool:
+        """Whether it is known that nobody else types: without a folder it never is."""
+        return self.session.common is not None and self.has_others() is False
+
+    def fit(self) -> None:
+        """Fits the session to this terminal, as far as that may be: a new session goes by each size. Who else is there has to be known for
+        the rest, and may be told soon."""
+        size, own = self.given or self.session_size(), tty.largest(self.display.room())
+        self.showed_all = self.showed_all or size == self.left_size != NO_SIZE
+        if self.shells:
+            self.shells.say_here()
+        if self.zooming.is_on():
+            self.zooming.resized()
+        elif self.is_fresh():
+            self.ask_size()
+        elif not (self.link.watches or size in (NO_SIZE, own) or not tty.is_large_enough(own)):
+            if self.shells and self.shells.is_awaited():
+                self.loop.later("others", FITS_AGAIN, self.fit)
+                return
+            if not self.zooming.mend():
+                self.follow(size, own)
+                return
+            self.fit()
+        self.showed_all, self.left_size = False, NO_SIZE if size != NO_SIZE else self.left_size
+
+    def others_told(self) -> None:
+        """Does at once what waited until it is known who else is there."""
+        if "others" in self.loop.due:
+            self.loop.drop("others")
+            self.fit()
+        if self.zooming.waits:
+            self.zooming.told()
+        self.mend()
+
+    def follow(self, size: tty.Size, own: tty.Size) -> None:
+        """Has the session follow this terminal from its size to another, where it does."""
+        if self.follows(size, own, self.showed_all):
+            self.ask_size()
+        elif own[0] >= size[0] and own[1] >= size[1]:
+            self.display.tell(f"{size[0]} by {size[1]}, as another terminal has it; {self.prefix} r fits this one", FITS_TOLD)
+        self.showed_all, self.left_size = False, NO_SIZE
+
+    def follows(self, size: tty.Size, own: tty.Size, showed_all: bool) -> bool:
+        """Whether the session follows this terminal: it grows where nobody else types, and a lone one that showed all of it is followed to
+        any size. Nothing else makes one smaller, but the end of a zoom; and who may not be alone changes nothing."""
+        is_smaller = own[0] < size[0] or own[1] < size[1]
+        return showed_all and self.is_alone() if is_smaller else self.has_others() is False
+
+    # ---- panes
+
+    def ring(self, pane: int) -> None:
+        """Rings, and tells of a pane that isn't in focus."""
+        self.display.ring()
+        places = self.places()
+        if not (places and places.focus == pane) and not self.display.told:
+            self.display.tell(f"bell in pane {pane}")
+
+    def split(self, wish: str) -> None:
+        """Splits the pane in focus, or tells why that can't be done."""
+        places = self.zooming.unzoomed(self.places())
+        why = places.unsplit(wish.split()[1]) if places else ""
+        if why:
+            self.display.tell(why)
+        else:
+            self.act(wish)
+
+    def close(self) -> None:
+        """Closes the pane in focus: where something else than a shell may run there, only once that is confirmed."""
+        places, busy = self.places(), self.session.busy()
+        pane = places.focus if places else 0
+        if places and pane and len(places.rects) == 1 and self.windows and not self.windows.why_one():
+            self.windows.ask_shut()
+        elif places and pane and len(places.rects) == 1:
+            self.display.tell("the last pane goes with its shell, and the session with it")
+        elif busy == {} or busy and pane and pane not in busy:
+            self.act("close")
+        else:
+            runs = told({pane: busy[pane]}) if busy and pane else f"whatever runs in {f'pane {pane}' if pane else 'this pane'}"
+            self.prompts.ask(f"close {runs}? y closes it", lambda: self.act("close"))
+
+    def go(self, way: str) -> None:
+        """Puts the pane on a side in focus; the next one where no rectangle is known."""
+        places = self.places()
+        if places and not places.focus:
+            places = self.panes.places
+        places = self.zooming.unzoomed(places)
+        pane = places.neighbour(way) if places else None
+        if pane or not places:
+            self.act(f"focus {pane}" if pane else "next")
+
+    def go_back(self) -> None:
+        """Puts the pane in focus that was before this one."""
+        places = self.places()
+        pane = self.foci.last(places.focus) if places else 0
+        if pane:
+            self.act(f"focus {pane}")
+        else:
+            self.display.tell(NO_LAST)

@@ -1,0 +1,89 @@
+"""What the keys of copy mode do, by tmux's names: where they move the cursor to, how they move over lines, and the rest."""
+from __future__ import annotations
+
+from collections.abc import Callable
+
+from roam_live.frontend.copymode import motions
+
+TYPE_CHECKING = False
+if TYPE_CHECKING:
+    from roam_live.frontend.copymode.mode import CopyMode
+    from roam_live.frontend.copymode.rows import Spot
+    from roam_live.frontend.copymode.selection import CopiedText
+    from roam_live.frontend.copymode.viewport import CopyView
+
+# What comes of keys beside what is shown, by a word each: it is left, a new snapshot is wanted, or a text is copied.
+LEAVE, REFRESH, COPY = "leave", "refresh", "copy"
+
+
+class CopyWish:
+    """What a key asks for beside what is shown: a word, and of a copy its text, whether it is left then, and whether the text is put behind
+    that of the newest buffer."""
+
+    def __init__(self, word: str, text: CopiedText | None = None, leaves: bool = False, appends: bool = False) -> None:
+        self.word, self.text, self.leaves, self.appends = word, text, leaves, appends
+
+
+# Where keys move the cursor to, from a place.
+MOVES: dict[str, Callable[[CopyMode, Spot], Spot]] = {
+    "cursor-left": lambda mode, spot: motions.left(mode.rows, spot),
+    "cursor-right": lambda mode, spot: motions.right(mode.rows, spot, True, mode.block_width()),
+    "start-of-line": lambda mode, spot: motions.line_begin(mode.rows, spot),
+    "end-of-line": lambda mode, spot: motions.line_end(mode.rows, spot, mode.block_width()),
+    "back-to-indentation": lambda mode, spot: motions.indentation(mode.rows, spot),
+    "next-word": lambda mode, spot: motions.next_word(mode.rows, spot, motions.SEPARATORS),
+    "next-space": lambda mode, spot: motions.next_word(mode.rows, spot, ""),
+    "previous-word": lambda mode, spot: motions.previous_word(mode.rows, spot, motions.SEPARATORS),
+    "previous-space": lambda mode, spot: motions.previous_word(mode.rows, spot, ""),
+    "next-word-end": lambda mode, spot: mode.word_end(spot, motions.SEPARATORS),
+    "next-space-end": lambda mode, spot: mode.word_end(spot, ""),
+    "next-matching-bracket": lambda mode, spot: motions.matched_forward(mode.rows, spot, mode.is_vi),
+    "previous-matching-bracket": lambda mode, spot: motions.matched_back(mode.rows, spot),
+}
+
+# How keys move over lines.
+STEPS: dict[str, Callable[[CopyView], object]] = {
+    "cursor-up": lambda view: view.step(-1),
+    "cursor-down": lambda view: view.step(1),
+    "scroll-up": lambda view: view.step(-1, True),
+    "scroll-down": lambda view: view.step(1, True),
+    "page-up": lambda view: view.page(-1),
+    "page-down": lambda view: view.page(1),
+    "halfpage-up": lambda view: view.page(-1, True),
+    "halfpage-down": lambda view: view.page(1, True),
+    "history-top": lambda view: view.go_top(),
+    "history-bottom": lambda view: view.go_bottom(),
+    "top-line": lambda view: view.put_at(0),
+    "middle-line": lambda view: view.put_at((view.height - 1) // 2),
+    "bottom-line": lambda view: view.put_at(view.height - 1),
+    "previous-paragraph": lambda view: view.jump(motions.paragraph_above(view.rows, view.spot)),
+    "next-paragraph": lambda view: view.jump(motions.paragraph_below(view.rows, view.spot)),
+}
+
+COMMANDS: dict[str, Callable[[CopyMode], object]] = {
+    "cancel": lambda mode: mode.asked.append(CopyWish(LEAVE)),
+    "refresh-from-pane": lambda mode: mode.asked.append(CopyWish(REFRESH)),
+    "begin-selection": lambda mode: mode.begin_selection(),
+    "clear-selection": lambda mode: mode.view.clear_selection(),
+    "rectangle-toggle": lambda mode: mode.toggle_block(),
+    "other-end": lambda mode: mode.go_to_other_end(),
+    "select-line": lambda mode: mode.select_line(),
+    "select-word": lambda mode: mode.select_word(),
+    "copy-selection": lambda mode: mode.copy(False),
+    "copy-selection-and-cancel": lambda mode: mode.copy(True),
+    "append-selection-and-cancel": lambda mode: mode.copy(True, True),
+    "copy-end-of-line-and-cancel": lambda mode: mode.copy_line_end(),
+    "search-again": lambda mode: mode.search_again(),
+    "search-reverse": lambda mode: mode.search_again(True),
+    "search-forward-word": lambda mode: mode.search_word(False),
+    "search-backward-word": lambda mode: mode.search_word(True),
+    "set-mark": lambda mode: mode.put_mark(),
+    "jump-to-mark": lambda mode: mode.go_to_mark(),
+}
+
+# Those that search, and those after which what was found isn't shown any more, until it is searched for again: with emacs' keys all but
+# those that search.
+SEARCHES = ("search-again", "search-reverse", "search-forward-word", "search-backward-word", "search-forward", "search-backward",
+            "search-forward-incremental", "search-backward-incremental")
+UNMARKS = {*COMMANDS, "back-to-indentation", "next-matching-bracket", "previous-matching-bracket"} - {
+    *SEARCHES, "other-end", "jump-to-mark"}

@@ -1,0 +1,363 @@
+"""Copy mode at a person's terminal: over a snapshot of a pane's rows that the keeper of shells lends, drawn over the pane's rectangle,
+while the session goes on below. Nobody else sees of it. What is typed waits in order for the rows that it needs."""
+from __future__ import annotations
+
+import time
+from collections import deque, namedtuple
+from collections.abc import Callable
+
+from roam_live.common.event_loop import Loop
+from roam_live.frontend.bindings import BORDERS
+from roam_live.frontend.copymode.clipboard import CopiedTexts
+from roam_live.frontend.copymode.mouse import CopyPointing
+from roam_live.frontend.copymode.popup import CopyScreen
+from roam_live.frontend.copymode.row_requests import GONE, CopyAsking
+from roam_live.protocol.panes import MOVES, Rect
+
+TYPE_CHECKING = False
+if TYPE_CHECKING:
+    from roam_live.frontend.commands import Commands
+    from roam_live.frontend.copymode.commands import CopyWish
+    from roam_live.frontend.copymode.keys import KeyPairs
+    from roam_live.frontend.copymode.mode import CopyMode
+    from roam_live.input.keys import Key
+    from roam_live.protocol.scrollback_client import RowsLink, Snapshot
+
+# So many seconds a keeper has for lending a snapshot: where it is stopped, or an earlier roam's, the view that all share scrolls.
+LENDS = 2.0
+
+# So often it is looked whether the keeper is connected meanwhile.
+CONNECTS = 0.05
+
+# So many keys and reports wait at most.
+MOST_WAITING = 4096
+
+# So many seconds a line stands that tells why it was closed.
+TOLD = 2.0
+NO_ROOM = "nothing of the pane is shown here"
+
+# The key that leaves it while an answer is awaited, whatever waits before that.
+INTERRUPT = "\x03"
+
+
+def nothing() -> None:
+    """Does nothing."""
+
+
+class CopyEvent(namedtuple("CopyEvent", "does instead", defaults=(nothing,))):
+    """Something that was typed or pointed at: what it does in copy mode, and what it does where no rows are lent."""
+
+    does: Callable[[CopyMode], object]
+    instead: Callable[[], object]
+
+
+class Copying:
+    """The copy mode of one person, where one is open."""
+
+    def __init__(self, commands: Commands, loop: Loop) -> None:
+        self.commands, self.loop = commands, loop
+        self.mode: CopyMode | None = None
+        # The pane and its life, of which a snapshot was asked for or is had, and a number for each time that one was.
+        self.pane = self.life = self.opening = 0
+        self.is_opening = False
+        # What is done where no snapshot is lent; it tells whether what was typed meanwhile is for that.
+        self.instead: Callable[[], object] = nothing
+        # What was typed and pointed at and isn't done yet.
+        self.events: deque[CopyEvent] = deque()
+        self.pairs: KeyPairs | None = None
+        # What was searched for last, and which way, which stays when it is closed.
+        self.sought = "", False
+        # Whether a paste is typed into a line that is asked for; what of it comes once that is gone is nothing.
+        self.is_pasting = False
+        self.screen, self.asking = CopyScreen(self), CopyAsking(self, loop)
+        self.pointing, self.texts = CopyPointing(self, loop), CopiedTexts(commands)
+
+    @property
+    def rect(self) -> Rect:
+        """The rectangle of the terminal on which it is drawn."""
+        return self.screen.rect
+
+    def kept(self) -> RowsLink | None:
+        """Who lends rows; None where nobody does."""
+        return self.commands.shells.kept if self.commands.shells else None
+
+    def is_on(self) -> bool:
+        """Whether it is open, or will be once a snapshot is lent."""
+        return self.mode is not None or self.is_opening
+
+    def is_connecting(self) -> bool:
+        """Whether the keeper isn't connected, and may be soon."""
+        return self.commands.shells is not None and self.commands.shells.is_connecting()
+
+    def is_full(self) -> bool:
+        """Whether so much waits that nothing more is to come."""
+        return len(self.events) >= MOST_WAITING
+
+    # ---- opening and closing
+
+    def open(self, pane: int, instead: Callable[[], object], *begins: CopyEvent) -> None:
+        """Opens it in a pane, with what is done first; where no rows are lent something else is done instead, which tells whether what was
+        typed meanwhile is for that."""
+        self.close()
+        making, kept, rect = self.commands.panes.making(pane).split(), self.kept(), self.screen.visible(pane)
+        if not kept or len(making) != 2 or not rect:
+            instead()
+            return
+        from roam_live.frontend.copymode.keys import KeyPairs
+
+        self.pane, self.life, self.screen.rect, self.instead = pane, int(making[1]), rect, instead
+        self.pairs = KeyPairs()
+        self.events.extend(begins)
+        self.ask_snapshot(kept)
+
+    def await_focus(self, instead: Callable[[], object], *begins: CopyEvent) -> None:
+        """Opens it in the pane in focus once that is told, as where a relay goes another way; where it isn't in time something else is done
+        instead."""
+        self.close()
+        from roam_live.frontend.copymode.keys import KeyPairs
+
+        self.pane, self.instead, self.pairs = 0, instead, KeyPairs()
+        self.events.extend(begins)
+        self.begin_opening()
+
+    def find_focus(self) -> None:
+        """Opens it in the pane in focus, where that is told by now."""
+        places = self.commands.places()
+        if places and places.focus:
+            self.open(places.focus, self.instead, *self.events)
+
+    def begin_opening(self) -> int:
+        """Waits for what opens it, no longer than for a snapshot; tells its number."""
+        self.opening += 1
+        opening, self.is_opening = self.opening, True
+        self.loop.later("copy opens", LENDS, lambda: self.lent(opening, None))
+        self.asking.tell_later()
+        return opening
+
+    def ask_snapshot(self, kept: RowsLink) -> None:
+        """Asks for a snapshot."""
+        self.ask_connected(self.begin_opening(), kept)
+
+    def ask_connected(self, opening: int, kept: RowsLink) -> None:
+        """Asks for it once the keeper is connected, where that may be soon."""
+        if opening != self.opening or not self.is_opening:
+            return
+        if self.is_connecting():
+            self.loop.later("copy connects", CONNECTS, lambda: self.ask_connected(opening, kept))
+        else:
+            kept.snapshot(self.pane, self.life, lambda snapshot: self.answered(opening, kept, snapshot))
+
+    def answered(self, opening: int, kept: RowsLink, snapshot: Snapshot | None) -> None:
+        """Takes what the keeper answers. Where the connection was lost instead, as by a relay that goes another way, it is asked again once
+        there is another."""
+        if snapshot is None and self.is_connecting():
+            self.ask_connected(opening, kept)
+        else:
+            self.lent(opening, snapshot)
+
+    def lent(self, opening: int, snapshot: Snapshot | None) -> None:
+        """Takes a snapshot; None where none is lent."""
+        if opening != self.opening or not self.is_opening:
+            return
+        for name in ("copy opens", "copy connects"):
+            self.loop.drop(name)
+        self.is_opening = False
+        self.asking.settle()
+        from roam_live.frontend.copymode.rows import MOST_SCREEN_ROWS
+
+        kept = self.kept()
+        if kept and snapshot and 0 < len(snapshot.screen) <= MOST_SCREEN_ROWS:
+            self.begin(snapshot, kept)
+            return
+        if self.mode:
+            self.close(GONE)
+            return
+        instead, events = self.instead, list(self.events)
+        self.close()
+        for event in events if instead() else []:
+            event.instead()
+
+    def begin(self, snapshot: Snapshot, kept: RowsLink) -> None:
+        """Shows a snapshot, and does what was typed meanwhile."""
+        from roam_live.config.environment import wants_vi
+        from roam_live.frontend.copymode.mode import CopyMode
+        from roam_live.frontend.copymode.rows import MOST_SCREEN_ROWS, Rows
+
+        places = self.commands.panes.places
+        pane_cols = places.rects[self.pane].cols if places and self.pane in places.rects else self.rect.cols
+        rows = Rows(snapshot.first, snapshot.end + len(snapshot.screen), self.rect.cols, pane_cols)
+        rows.put(snapshot.end, snapshot.screen)
+        rows.stays = snapshot.end - MOST_SCREEN_ROWS
+        self.mode = CopyMode(rows, self.rect.rows, wants_vi())
+        self.mode.sought, self.mode.is_back = self.sought
+        self.screen.came, kept.on_more = 0, self.more
+        self.asking.end()
+        self.events.appendleft(CopyEvent(lambda mode: mode.open()))
+        self.screen.lay()
+        self.go_on()
+
+    def give_up(self) -> None:
+        """Closes it in whatever state it is, and drops what waits."""
+        self.close()
+        self.events.clear()
+
+    def close(self, why: str = "") -> None:
+        """Closes it, where it is open, and drops what waits; tells why, where there is something to tell."""
+        if not self.is_on():
+            return
+        kept, display = self.kept(), self.commands.display
+        if kept and self.pane:
+            kept.release(self.pane, self.life)
+        was_shown, self.mode = self.mode is not None, None
+        self.is_opening = False
+        self.opening += 1
+        self.events.clear()
+        for name in ("copy opens", "copy connects"):
+            self.loop.drop(name)
+        self.asking.end()
+        self.pointing.end()
+        if was_shown:
+            display.lift()
+            display.change_line()
+        if why:
+            display.tell(why, TOLD)
+
+    def fit(self) -> None:
+        """Goes by where the panes are now: the end of its pane ends it, and another size has its rows laid out anew."""
+        panes = self.commands.panes
+        if not self.is_on() or not panes.places:
+            return
+        if not self.pane:
+            self.find_focus()
+            return
+        if panes.making(self.pane) != f"{self.pane} {self.life}":
+            self.close()
+            return
+        rect = self.screen.visible(self.pane)
+        if not self.mode:
+            self.screen.rect = rect or self.rect
+        elif not rect:
+            self.close(NO_ROOM)
+        elif rect != self.rect or not self.commands.display.is_masked:
+            self.screen.rect = rect
+            self.screen.lay()
+            self.add(CopyEvent(lambda mode: mode.resize(rect.rows, rect.cols)))
+
+    def focus_moved(self, acts: tuple[str, ...]) -> None:
+        """Ends it where this person's acts put another pane in focus."""
+        moves = [act for act in acts if act.split(" ")[0] in MOVES]
+        if moves and moves[-1] != f"focus {self.pane}":
+            self.close()
+
+    def more(self, pane: int, life: int, count: int) -> None:
+        """Takes how many rows came since the snapshot."""
+        if self.mode and (pane, life) == (self.pane, self.life):
+            self.screen.came = count
+            self.screen.say()
+
+    # ---- what is typed
+
+    def takes(self, key: Key) -> bool:
+        """Takes a key, and tells whether it is for copy mode."""
+        typing = self.commands.typing
+        if self.is_pasting:
+            return self.take_pasted(key)
+        if not self.is_on() or self.commands.paused or self.commands.display.cover:
+            return False
+        if key.name == "paste":
+            return self.take_pasted(key)
+        has_escape = self.pairs is not None and self.pairs.escape is not None
+        if typing.mode == typing.prefixed and key.name == typing.prefix:
+            typing.mode = typing.plain
+        elif typing.mode != typing.plain or key.name in BORDERS and typing.repeats(time.monotonic()):
+            return False
+        elif key.name == typing.prefix and not has_escape:
+            return False
+        self.feed(key)
+        return True
+
+    def take_pasted(self, key: Key) -> bool:
+        """Takes a key of a paste: one goes into the line that is asked for, and ends copy mode where none is."""
+        if key.name == "paste":
+            self.is_pasting = self.mode is not None and self.mode.prompt is not None and not self.events
+            if not self.is_pasting:
+                self.close()
+            return self.is_pasting
+        if key.name == "text":
+            self.add(CopyEvent(lambda mode: mode.paste(key.text)))
+        else:
+            self.is_pasting = False
+        return True
+
+    def feed(self, key: Key) -> None:
+        """Takes a key that is copy mode's; an escape waits for what may come with it."""
+        if key.name == INTERRUPT and (self.asking.is_waiting or self.is_opening):
+            self.close()
+            return
+        for whole in self.pairs.fed(key) if self.pairs else []:
+            self.add_key(whole)
+
+    def settle(self) -> None:
+        """Takes an escape behind which nothing came."""
+        for whole in self.pairs.ended() if self.pairs and self.is_on() else []:
+            self.add_key(whole)
+
+    def add_key(self, key: Key) -> None:
+        """Has a key be done behind what waits."""
+        self.add(CopyEvent(lambda mode: mode.take(key), lambda: self.commands.take(key)))
+
+    def add(self, *events: CopyEvent) -> None:
+        """Has something be done behind what waits."""
+        if self.is_on():
+            self.events.extend(events)
+            self.go_on()
+
+    # ---- what is done
+
+    def go_on(self) -> None:
+        """Does what waits, as far as the rows for it are here, and shows what comes of it."""
+        from roam_live.frontend.copymode.rows import Missing
+
+        try:
+            while self.mode and self.events and not self.asking.is_waiting and not self.is_opening:
+                self.do(self.mode, self.events[0])
+            if self.mode and not self.events and not self.asking.is_waiting:
+                self.look(self.mode)
+        except Missing as lack:
+            self.asking.ask(lack)
+
+    def do(self, mode: CopyMode, event: CopyEvent) -> None:
+        """Does the first thing that waits; Missing where something for it isn't here."""
+        mode.attempt(lambda: event.does(mode))
+        self.asking.asks, self.sought = 0, (mode.sought, mode.is_back)
+        if self.events and self.events[0] is event:
+            self.events.popleft()
+        asked, mode.asked = mode.asked, []
+        for one in asked:
+            self.grant(one)
+
+    def look(self, mode: CopyMode) -> None:
+        """Shows what is to be shown; Missing where that isn't here."""
+        mode.view.cursor()
+        mode.view.back()
+        self.asking.asks = 0
+        self.screen.draw()
+
+    def grant(self, asked: CopyWish) -> None:
+        """Does what a key asked for beside what is shown."""
+        from roam_live.frontend.copymode.commands import LEAVE, REFRESH
+
+        kept = self.kept()
+        if asked.word == LEAVE:
+            self.close()
+        elif asked.word != REFRESH:
+            self.events.appendleft(CopyEvent(lambda mode: self.copy(asked)))
+        elif kept:
+            self.ask_snapshot(kept)
+
+    def copy(self, asked: CopyWish) -> None:
+        """Copies a text, once all its rows are here."""
+        text = asked.text.gather() if asked.text else b""
+        if asked.leaves:
+            self.close()
+        self.texts.take(text, asked.appends)

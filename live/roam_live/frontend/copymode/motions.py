@@ -1,0 +1,315 @@
+"""How a place moves over rows: by characters, words, paragraphs, brackets and to a character, as tmux's copy mode has it. A place is a row
+and a column, which may be that behind the row's last character."""
+from __future__ import annotations
+
+TYPE_CHECKING = False
+if TYPE_CHECKING:
+    from collections.abc import Callable
+
+    from roam_live.frontend.copymode.rows import Rows, Spot
+
+# What parts words, beside a blank.
+SEPARATORS = "!\"#$%&'()*+,-./:;<=>?@[\\]^`{|}~"
+BLANK = " "
+
+# The brackets that belong together.
+OPENING, CLOSING = "{[(", "}])"
+
+
+def letter_at(rows: Rows, spot: Spot) -> str:
+    """What stands at a place; of a right half the wide character."""
+    row, col = spot
+    kept = rows.row(row)
+    return kept.at(col) or kept.at(col - 1)
+
+
+def is_in(rows: Rows, spot: Spot, letters: str) -> bool:
+    """Whether what stands at a place is one of these."""
+    return letter_at(rows, spot) in letters
+
+
+# ---- characters
+
+
+def right(rows: Rows, spot: Spot, is_wrapped: bool = True, width: int | None = None) -> Spot:
+    """A character to the right, at the end in the next row; up to so many columns, or the end of the row."""
+    row, col = spot
+    most = rows.length(row) if width is None else width
+    if is_wrapped and col >= most and row < rows.last():
+        return row + 1, 0
+    if col >= most:
+        return spot
+    col += 1
+    while col < most and rows.row(row).is_right_half(col):
+        col += 1
+    return row, col
+
+
+def left(rows: Rows, spot: Spot, is_wrapped: bool = True) -> Spot:
+    """A character to the left, at the beginning at the end of the row before."""
+    row, col = spot
+    while col and rows.row(row).is_right_half(col):
+        col -= 1
+    if col:
+        return row, col - 1
+    if row > rows.first and (is_wrapped or rows.goes_on(row - 1)):
+        return row - 1, rows.length(row - 1)
+    return row, col
+
+
+def line_begin(rows: Rows, spot: Spot) -> Spot:
+    """The beginning of the row, or of the first of those that go on to it."""
+    return rows.begin_of(spot[0]), 0
+
+
+def line_end(rows: Rows, spot: Spot, width: int | None = None) -> Spot:
+    """The end of the row, or of the last to which it goes on; the last of so many columns where they are told."""
+    row = rows.end_of(spot[0])
+    return row, rows.length(row) if width is None else width
+
+
+def indentation(rows: Rows, spot: Spot) -> Spot:
+    """The first place in the row, or in those that go on to it and from it, at which something stands."""
+    row = rows.begin_of(spot[0])
+    while True:
+        for col in range(rows.length(row)):
+            if rows.row(row).at(col) != BLANK:
+                return row, col
+        if not rows.goes_on(row):
+            return spot
+        row += 1
+
+
+# ---- words
+
+
+class WordReader:
+    """A place that goes over rows, to the right, a row's end as a blank; one that goes on has none."""
+
+    def __init__(self, rows: Rows, spot: Spot) -> None:
+        self.rows, self.spot = rows, spot
+        self.most = self.most_of(spot[0])
+
+    def most_of(self, row: int) -> int:
+        """The last column of a row."""
+        return len(self.rows.row(row).letters) - 1 if self.rows.goes_on(row) else self.rows.length(row)
+
+    def stands(self) -> bool:
+        """Goes on in the next row where the end of one is passed; tells whether there is one."""
+        while self.spot[1] > self.most:
+            if self.spot[0] == self.rows.last():
+                return False
+            self.spot = self.spot[0] + 1, 0
+            self.most = self.most_of(self.spot[0])
+        return True
+
+    def is_in(self, letters: str) -> bool:
+        """Whether what stands here is one of these."""
+        return is_in(self.rows, self.spot, letters)
+
+    def step(self) -> None:
+        """Goes a column to the right."""
+        self.spot = self.spot[0], self.spot[1] + 1
+
+    def skip(self, passes: Callable[[], bool]) -> None:
+        """Goes over this column, and over those behind it that pass."""
+        self.step()
+        while self.stands() and passes():
+            self.step()
+
+    def skip_word(self, separators: str) -> None:
+        """Goes over the word that begins here: separators, or characters that are none."""
+        if self.is_in(separators):
+            self.skip(lambda: self.is_in(separators) and not self.is_in(BLANK))
+        else:
+            self.skip(lambda: not self.is_in(separators) and not self.is_in(BLANK))
+
+
+def next_word(rows: Rows, spot: Spot, separators: str) -> Spot:
+    """The beginning of the next word."""
+    reader = WordReader(rows, spot)
+    if not reader.stands():
+        return reader.spot
+    if not reader.is_in(BLANK):
+        reader.skip_word(separators)
+    while reader.stands() and reader.is_in(BLANK):
+        reader.step()
+    return reader.spot
+
+
+def word_end(rows: Rows, spot: Spot, separators: str) -> Spot:
+    """The place behind the end of the word here, or of the next."""
+    reader = WordReader(rows, spot)
+    while reader.stands():
+        if not reader.is_in(BLANK):
+            reader.skip_word(separators)
+            break
+        reader.step()
+    return reader.spot
+
+
+def last_of_word(rows: Rows, spot: Spot, separators: str) -> Spot:
+    """The last character of the word here, or of the next where it is this one."""
+    if not is_in(rows, spot, BLANK):
+        spot = right(rows, spot, False)
+    return left(rows, word_end(rows, spot, separators))
+
+
+def filled_before(rows: Rows, spot: Spot) -> Spot | None:
+    """The nearest place before that isn't blank; None where all are."""
+    row, col = spot
+    while col or row != rows.first:
+        if not col:
+            row, col = row - 1, rows.length(row - 1)
+        elif not is_in(rows, (row, col - 1), BLANK):
+            return row, col - 1
+        else:
+            col -= 1
+    return None
+
+
+def previous_word(rows: Rows, spot: Spot, separators: str, is_already: bool = True) -> Spot:
+    """The beginning of the word before; that of the word here where it needn't be another."""
+    before = filled_before(rows, spot) if is_already or is_in(rows, spot, BLANK) else spot
+    if not before:
+        return rows.first, 0
+    row, col = before
+    is_separated = is_in(rows, (row, col), separators)
+    found = row, col
+    while True:
+        if not col:
+            if row == rows.first or not rows.goes_on(row - 1):
+                return found
+            row, col = row - 1, rows.length(row - 1)
+        col -= col > 0
+        if is_in(rows, (row, col), BLANK) or is_in(rows, (row, col), separators) != is_separated:
+            return found
+        found = row, col
+
+
+# ---- paragraphs
+
+
+def paragraph_above(rows: Rows, spot: Spot) -> Spot:
+    """The blank row above the text here, or above."""
+    row = spot[0]
+    for is_blank in (True, False):
+        while row > rows.first and (rows.length(row) == 0) == is_blank:
+            row -= 1
+    return row, 0
+
+
+def paragraph_below(rows: Rows, spot: Spot) -> Spot:
+    """The blank row below the text here, or below."""
+    row = spot[0]
+    for is_blank in (True, False):
+        while row < rows.last() and (rows.length(row) == 0) == is_blank:
+            row += 1
+    return row, rows.length(row)
+
+
+# ---- to a character
+
+
+def jump(rows: Rows, spot: Spot, letter: str) -> Spot | None:
+    """The next place from here on at which a character stands, in rows that go on from this one; None where there is none."""
+    row, col = spot
+    while True:
+        kept = rows.row(row)
+        for place in range(col, kept.length):
+            if kept.at(place) == letter:
+                return row, place
+        if not rows.goes_on(row):
+            return None
+        row, col = row + 1, 0
+
+
+def jump_back(rows: Rows, spot: Spot, letter: str) -> Spot | None:
+    """The next place from here back at which a character stands, in rows that go on to this one; None where there is none."""
+    row, col = spot
+    while True:
+        for place in range(col, -1, -1):
+            if rows.row(row).at(place) == letter:
+                return row, place
+        if row == rows.first or not rows.goes_on(row - 1):
+            return None
+        row, col = row - 1, rows.length(row - 1) - 1
+
+
+# The keys that jump: whether they jump back, and whether they stop one before the character.
+JUMPS = {"f": (False, False), "F": (True, False), "t": (False, True), "T": (True, True)}
+REVERSED = {"f": "F", "F": "f", "t": "T", "T": "t"}
+
+
+def jumped(rows: Rows, spot: Spot, kind: str, letter: str) -> Spot:
+    """Where a jump of a kind to a character leads; nowhere else where it doesn't stand there."""
+    is_back, is_before = JUMPS[kind]
+    row, col = spot
+    if is_back:
+        begin = left(rows, spot, False)
+        found = jump_back(rows, left(rows, begin, False) if is_before else begin, letter)
+        return spot if found is None else right(rows, found) if is_before else found
+    found = jump(rows, (row, col + 1 + is_before), letter)
+    return spot if found is None else left(rows, found) if is_before else found
+
+
+# ---- brackets
+
+
+def bracket_at(rows: Rows, spot: Spot, brackets: str) -> Spot | None:
+    """The first of such brackets from a place on, in its row and those to which it goes on; None where there is none."""
+    found = [place for place in (jump(rows, spot, letter) for letter in brackets) if place]
+    return min(found) if found else None
+
+
+# So many rows are looked through for the other bracket.
+MOST_BRACKET_ROWS = 2000
+
+
+def other_bracket(rows: Rows, spot: Spot, letter: str) -> Spot | None:
+    """The bracket that belongs to one at a place; None where it isn't found."""
+    is_back = letter in CLOSING
+    other = OPENING[CLOSING.index(letter)] if is_back else CLOSING[OPENING.index(letter)]
+    row, col = spot
+    depth, left_rows = 0, MOST_BRACKET_ROWS
+    while left_rows:
+        kept = rows.row(row)
+        for place in range(col, -1, -1) if is_back else range(col, kept.length):
+            depth += (kept.at(place) == letter) - (kept.at(place) == other)
+            if not depth:
+                return row, place
+        if row == (rows.first if is_back else rows.last()):
+            return None
+        row += -1 if is_back else 1
+        col = rows.length(row) - 1 if is_back else 0
+        left_rows -= 1
+    return None
+
+
+def matched_forward(rows: Rows, spot: Spot, is_vi: bool) -> Spot:
+    """The bracket that belongs to the one here, or to the next; with emacs' keys where none opens here the end of the word, which
+    brackets and blanks part."""
+    here = letter_at(rows, spot)
+    if not rows.length(spot[0]):
+        return spot
+    if is_vi:
+        begin = spot if here in OPENING + CLOSING else bracket_at(rows, spot, OPENING + CLOSING)
+    else:
+        begin = spot if here in OPENING else None
+        if begin is None:
+            return word_end(rows, spot, OPENING)
+    found = other_bracket(rows, begin, letter_at(rows, begin)) if begin else None
+    return found or spot
+
+
+def matched_back(rows: Rows, spot: Spot) -> Spot:
+    """The bracket that opens what the one here, or before it, closes; the word before where none does, which brackets and blanks part."""
+    begin: Spot | None = spot
+    if not rows.length(spot[0]):
+        return spot
+    if not is_in(rows, spot, CLOSING):
+        begin = left(rows, spot) if spot[1] else None
+        if begin is None or not is_in(rows, begin, CLOSING):
+            return previous_word(rows, spot, CLOSING)
+    found = other_bracket(rows, begin, letter_at(rows, begin)) if begin else None
+    return found or spot

@@ -1,0 +1,200 @@
+"""The mouse in copy mode: the wheel scrolls, what is dragged over is selected and copied, and so is a word by a double click, and a line by
+a triple one."""
+from __future__ import annotations
+
+from collections.abc import Callable
+
+from roam_live.common.event_loop import Loop
+from roam_live.input.mouse_reports import DOWN, UP, MouseReport
+
+TYPE_CHECKING = False
+if TYPE_CHECKING:
+    from roam_live.frontend.copymode.controller import CopyEvent, Copying
+    from roam_live.frontend.copymode.mode import CopyMode
+
+# A notch of the wheel is so many rows.
+NOTCH = 3
+
+# While what is dragged is out of the pane a row more is shown each so many seconds. So many after a double click what it selects is copied,
+# unless a third follows.
+DRAGGED = 0.05
+CLICKED = 0.3
+
+
+def scroll(mode: CopyMode, rows: int, closes: bool) -> None:
+    """Scrolls by so many rows, above 0 back; where that ends it, going past the last row does, while nothing is selected."""
+    view = mode.view
+    was_lowest = view.is_lowest()
+    for _ in range(abs(rows)):
+        view.step(-1 if rows > 0 else 1, True)
+    view.follow()
+    if rows < 0 and view.is_lowest() and (closes or was_lowest) and not view.selection:
+        mode.perform("cancel")
+
+
+def point_at(mode: CopyMode, row: int, col: int) -> None:
+    """Puts the cursor where the mouse is, in rows and columns of the pane's rectangle from 0; out of it rows are shown that were not."""
+    view = mode.view
+    if row < 0:
+        view.step(-1, True)
+    elif row >= view.height:
+        view.step(1, True)
+    view.put_at(max(0, min(row, view.height - 1)), max(0, min(col, view.rows.cols - 1)))
+    view.follow()
+
+
+def select_at(mode: CopyMode, row: int, col: int, what: str) -> None:
+    """Selects a word or a line where the mouse is."""
+    mode.view.selection = None
+    point_at(mode, row, col)
+    mode.perform(what)
+
+
+class Clicks:
+    """How often a button was pressed at one place in a row."""
+
+    def __init__(self) -> None:
+        self.place: tuple[int, int] | None = None
+        self.at, self.count = 0.0, 0
+
+    def press(self, place: tuple[int, int], now: float) -> int:
+        """Takes a press, and tells how many those in a row are: three at most."""
+        is_again = place == self.place and now < self.at + CLICKED and self.count < 3
+        self.place, self.at, self.count = place, now, self.count + 1 if is_again else 1
+        return self.count
+
+
+class CopyPointing:
+    """The mouse of one person in copy mode."""
+
+    def __init__(self, copying: Copying, loop: Loop) -> None:
+        self.copying, self.loop = copying, loop
+        # Whether the wheel opened it; where the first button is held since it was pressed, whether it was dragged, and where to.
+        self.is_wheeled = False
+        self.pressed: tuple[int, int] | None = None
+        self.is_dragged = False
+        self.place = (0, 0)
+        self.clicks = Clicks()
+
+    def end(self) -> None:
+        """Knows of no button any more."""
+        self.pressed, self.is_dragged, self.is_wheeled = None, False, False
+        self.loop.drop("copy drag")
+        self.loop.drop("copy click")
+
+    def event(self, does: Callable[[CopyMode], object], instead: Callable[[], object] = lambda: None) -> CopyEvent:
+        """Something to be done behind what waits."""
+        from roam_live.frontend.copymode.controller import CopyEvent
+
+        return CopyEvent(does, instead)
+
+    def wheel(self, rows: int) -> CopyEvent:
+        """Scrolling by so many rows."""
+        copying = self.copying
+        return self.event(lambda mode: scroll(mode, rows, self.is_wheeled),
+                          lambda: copying.commands.pointing.scroll(copying.pane, rows))
+
+    # ---- what opens it
+
+    def open_by_wheel(self, pane: int) -> None:
+        """Opens copy mode in a pane, by a notch of the wheel."""
+        pointing = self.copying.commands.pointing
+
+        def instead() -> bool:
+            pointing.scroll(pane, NOTCH)
+            return True
+
+        self.copying.open(pane, instead, self.event(lambda mode: scroll(mode, NOTCH, True)))
+        self.is_wheeled = self.copying.is_on()
+        if self.is_wheeled and pane != pointing.focus():
+            self.copying.commands.act_together(f"focus {pane}")
+
+    def open_by_drag(self, pane: int, pressed: tuple[int, int], place: tuple[int, int]) -> None:
+        """Opens copy mode in a pane, by what is dragged from a place of the terminal to another."""
+        self.copying.open(pane, lambda: None)
+        if self.copying.is_on():
+            self.pressed = self.within(pressed)
+            self.drag(self.within(place))
+
+    def open_by_click(self, pane: int, place: tuple[int, int]) -> None:
+        """Opens copy mode in a pane, by a double click on a place of the terminal."""
+        self.copying.open(pane, lambda: None)
+        if self.copying.is_on():
+            self.click(self.within(place), 2)
+
+    # ---- while it is open
+
+    def within(self, place: tuple[int, int]) -> tuple[int, int]:
+        """A place of the terminal as one of the rectangle, from 0."""
+        rect = self.copying.rect
+        return place[0] - rect.row, place[1] - rect.col
+
+    def is_within(self, place: tuple[int, int]) -> bool:
+        """Whether a place lies in the rectangle."""
+        return 0 <= place[0] < self.copying.rect.rows and 0 <= place[1] < self.copying.rect.cols
+
+    def take(self, report: MouseReport) -> bool:
+        """Takes a report of the outer terminal, and tells whether it is for copy mode: in its rectangle, or dragged from there."""
+        place = self.within((report.row, report.col))
+        if self.pressed and report.number() == 0 and (report.moves() or report.is_release):
+            if report.moves():
+                self.drag(place)
+            else:
+                self.let_go(place)
+            return True
+        if not self.is_within(place):
+            return False
+        if report.number() in (UP, DOWN):
+            self.copying.add(self.wheel(NOTCH if report.number() == UP else -NOTCH))
+        elif report.number() == 0 and not report.moves() and not report.is_release:
+            self.pressed, self.is_dragged = place, False
+            self.click(place, self.clicks.press(place, self.loop.clock()))
+        return True
+
+    def click(self, place: tuple[int, int], count: int) -> None:
+        """Goes by so many clicks at a place: the second selects a word and the third a line, which is copied a moment later."""
+        self.loop.drop("copy click")
+        if count < 2:
+            self.copying.add(self.event(lambda mode: point_at(mode, *place)))
+            return
+        self.clicks.place, self.clicks.at, self.clicks.count = place, self.loop.clock(), count
+        what = "select-word" if count == 2 else "select-line"
+        self.copying.add(self.event(lambda mode: select_at(mode, *place, what)))
+        self.loop.later("copy click", CLICKED, self.copy)
+
+    def copy(self) -> None:
+        """Copies what is selected, and leaves."""
+        self.copying.add(self.event(lambda mode: mode.copy(True)))
+
+    def drag(self, place: tuple[int, int]) -> None:
+        """Selects from where the button was pressed to a place."""
+        begin = self.pressed
+        self.loop.drop("copy click")
+        if begin and not self.is_dragged:
+            self.is_dragged = True
+            row, col = begin
+            self.copying.add(self.event(lambda mode: select_from(mode, row, col)))
+        self.place = place
+        self.copying.add(self.event(lambda mode: point_at(mode, *place)))
+        if 0 <= place[0] < self.copying.rect.rows:
+            self.loop.drop("copy drag")
+        else:
+            self.loop.later("copy drag", DRAGGED, lambda: self.drag(self.place))
+
+    def let_go(self, place: tuple[int, int]) -> None:
+        """Copies what was dragged over, and leaves."""
+        self.loop.drop("copy drag")
+        was_dragged, self.pressed, self.is_dragged = self.is_dragged, None, False
+        if was_dragged:
+            self.copying.add(self.event(lambda mode: point_at(mode, max(0, min(place[0], mode.view.height - 1)), place[1])))
+            self.copy()
+
+
+def select_from(mode: CopyMode, row: int, col: int) -> None:
+    """Selects by characters from where the mouse is: not where a word or a line is selected there, by which that goes on."""
+    selection = mode.view.selection
+    if selection and selection.kind != "characters":
+        return
+    mode.view.selection = None
+    point_at(mode, row, col)
+    mode.begin_selection()

@@ -1,0 +1,118 @@
+"""The text that paints the lines of copy mode, made anew of cells and styles: nothing of what the filter printed is written as it came."""
+from __future__ import annotations
+
+import functools
+import itertools
+
+from roam_live.frontend.copymode.search import matches
+from roam_live.protocol.screen_cells import FLAGS, Colour, Style
+
+TYPE_CHECKING = False
+if TYPE_CHECKING:
+    from roam_live.frontend.copymode.mode import CopyMode
+    from roam_live.frontend.copymode.rows import KeptRow, Line
+    from roam_live.frontend.copymode.search import Match
+
+NUMBERS = {name: number for number, name in FLAGS.items()}
+
+# How matches are shown, and the one at which the cursor was put.
+MATCH, CURRENT = Style(frozenset(), 0, 6), Style(frozenset(), 0, 5)
+
+REVERSE = "reverse"
+
+# What is left of a line is blank in the default style.
+PLAIN = Style()
+
+
+def colour_numbers(colour: Colour, short: int, bright: int, long: str) -> list[str]:
+    """The numbers of SGR that set a colour."""
+    if colour is None:
+        return []
+    if isinstance(colour, int):
+        return [str(short + colour)] if colour < 8 else [str(bright + colour - 8)] if colour < 16 else [long, "5", str(min(colour, 255))]
+    return [long, "2", *(str(min(part, 255)) for part in colour)]
+
+
+@functools.lru_cache(maxsize=1024)
+def sgr_of(style: Style) -> str:
+    """The SGR that leads to a style from any."""
+    numbers = ["0", *(str(NUMBERS[flag]) for flag in sorted(style.flags, key=lambda flag: NUMBERS[flag]))]
+    numbers += colour_numbers(style.foreground, 30, 90, "38") + colour_numbers(style.background, 40, 100, "48")
+    return f"\x1b[{';'.join(numbers)}m"
+
+
+def line_matches(mode: CopyMode, row: int) -> list[Match]:
+    """The matches of what is searched for in a row: as far as the rows round it are here."""
+    return matches(mode.rows, row, mode.sought, True) if mode.is_marked else []
+
+
+@functools.lru_cache(maxsize=1024)
+def reversed_of(style: Style) -> Style:
+    """A style of what is selected: reversed, or not where it was."""
+    return style._replace(flags=style.flags ^ {REVERSE})
+
+
+class LinePainter:
+    """Paints lines of copy mode, from a column of the terminal on, from 1, each so many columns wide."""
+
+    def __init__(self, mode: CopyMode, first: int, cols: int) -> None:
+        self.mode, self.first, self.cols = mode, first, cols
+        self.selected = mode.selected()
+        self.found: dict[int, list[Match]] = {}
+
+    def styles(self, row: int, kept: KeptRow, begin: int, end: int) -> list[Style]:
+        """The styles of columns, with what is found, and what is selected, to be seen."""
+        styles = kept.styles[begin:end]
+        styles += [PLAIN] * (end - begin - len(styles))
+        for match in self.found[row]:
+            (first, low), (last, high) = match
+            style = CURRENT if match == self.mode.match else MATCH
+            for col in range(max(begin, low if first == row else 0), min(end, high if last == row else end)):
+                styles[col - begin] = style
+        selected = self.columns(row, kept)
+        for col in range(max(begin, selected[0]), min(end, selected[1])) if selected else ():
+            styles[col - begin] = reversed_of(styles[col - begin])
+        return styles
+
+    def columns(self, row: int, kept: KeptRow) -> tuple[int, int] | None:
+        """The columns of a row that are selected; of a wide character that is cut both halves are."""
+        columns = self.selected.of(row) if self.selected else None
+        if not columns or columns[0] >= columns[1]:
+            return None
+        begin, end = columns
+        return begin - kept.is_right_half(begin), end + kept.is_right_half(end)
+
+    def line(self, line: Line) -> bytes:
+        """The text of a line."""
+        row = line[0]
+        kept = self.mode.rows.row(row)
+        if row not in self.found:
+            self.found[row] = line_matches(self.mode, row)
+        begin, end = self.mode.rows.span_of(line)
+        end = min(end, begin + self.cols)
+        letters = [kept.at(col) for col in range(begin, end)]
+        # No room is for both halves of a wide character that is cut.
+        for at, is_cut in ((0, letters[0] == ""), (-1, kept.is_right_half(end))):
+            letters[at] = " " if is_cut else letters[at]
+        parts, at = [], 0
+        for style, same in itertools.groupby(self.styles(row, kept, begin, end)):
+            behind = at + len(list(same))
+            parts += [sgr_of(style), self.text(letters, at, behind)]
+            at = behind
+        return "".join([*parts, sgr_of(PLAIN), " " * (self.cols - (end - begin))]).encode("utf-8", "replace")
+
+    def text(self, letters: list[str], begin: int, end: int) -> str:
+        """The text of columns of a line. The terminal may take another width for a character that isn't of ASCII: what is behind it is put
+        in its own column in any case."""
+        text = "".join(letters[begin:end])
+        if text.isascii():
+            return text
+        behind = [next((other for other in range(col + 1, end) if letters[other]), end) for col in range(begin, end)]
+        return "".join(letter if letter.isascii() else f"{letter}\x1b[{self.first + behind[at]}G"
+                       for at, letter in enumerate(letters[begin:end]))
+
+    def lines(self, height: int) -> list[bytes]:
+        """The text of each of so many lines: blanks where there is none."""
+        found = [self.line(line) for line in self.mode.view.lines()]
+        blank = sgr_of(PLAIN).encode() + b" " * self.cols
+        return found + [blank] * (height - len(found))

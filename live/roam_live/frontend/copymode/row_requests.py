@@ -1,0 +1,117 @@
+"""What copy mode asks the keeper of shells for: rows of its snapshot that aren't here, and where a text is next. One question at a time is
+on its way; what needs the answer is done again once that is there."""
+from __future__ import annotations
+
+from roam_live.common.event_loop import Loop
+
+TYPE_CHECKING = False
+if TYPE_CHECKING:
+    from roam_live.frontend.copymode.controller import Copying
+    from roam_live.frontend.copymode.rows import Missing
+    from roam_live.frontend.copymode.search import MissingFind
+    from roam_live.protocol.scrollback_client import RowsLink
+
+# So many rows are asked for at once at most, and so many pages at first: the one that is needed, and one ahead.
+MOST_ASKED = 2000
+PAGES_ASKED = 2
+
+# Where the connection was lost it is asked again after so many seconds.
+ASKS_AGAIN = 0.1
+
+# What is awaited for longer than so many seconds is told.
+WAITS = 0.5
+WAITING = "waiting for rows; C-c leaves"
+GONE = "the rows that were shown aren't kept any more"
+
+
+class CopyAsking:
+    """The questions of one person's copy mode."""
+
+    def __init__(self, copying: Copying, loop: Loop) -> None:
+        self.copying, self.loop = copying, loop
+        # Whether an answer is awaited, and how many rows were asked for last for what is to be done.
+        self.is_waiting = False
+        self.asks = 0
+
+    def end(self) -> None:
+        """Awaits nothing."""
+        self.is_waiting, self.asks = False, 0
+        self.loop.drop("copy asks again")
+        self.settle()
+
+    def tell_later(self) -> None:
+        """Has it be told that an answer is awaited, once that takes long."""
+        if "copy waits" not in self.loop.due:
+            self.loop.later("copy waits", WAITS, lambda: self.copying.commands.display.tell(WAITING, None))
+
+    def settle(self) -> None:
+        """Tells no more that an answer is awaited."""
+        display = self.copying.commands.display
+        self.loop.drop("copy waits")
+        if display.told == WAITING:
+            display.end_told()
+
+    def ask(self, lack: Missing) -> None:
+        """Asks for what isn't here."""
+        from roam_live.frontend.copymode.rows import MissingRows
+        from roam_live.frontend.copymode.search import MissingFind
+
+        kept = self.copying.kept()
+        if not kept:
+            return
+        self.is_waiting = True
+        self.tell_later()
+        if isinstance(lack, MissingFind):
+            self.ask_find(kept, lack)
+        elif isinstance(lack, MissingRows):
+            self.ask_rows(kept, lack.row)
+
+    def ask_find(self, kept: RowsLink, lack: MissingFind) -> None:
+        """Asks where a text is next."""
+        copying, opening = self.copying, self.copying.opening
+
+        def take(row: int | None) -> None:
+            if not copying.mode or opening != copying.opening:
+                return
+            if row is None and copying.is_connecting():
+                self.loop.later("copy asks again", ASKS_AGAIN, self.answered)
+                return
+            copying.mode.finds.put(lack, row)
+            self.answered()
+
+        kept.find(copying.pane, copying.life, lack.first, lack.is_back, lack.text, take)
+
+    def ask_rows(self, kept: RowsLink, row: int) -> None:
+        """Asks for a row and those behind it, or before it where those behind it are here: ever more while one thing needs them."""
+        copying, opening = self.copying, self.copying.opening
+        if not copying.mode:
+            return
+        rows = copying.mode.rows
+        self.asks = min(MOST_ASKED, max(PAGES_ASKED * copying.rect.rows, 2 * self.asks))
+        is_back = rows.has(row + 1)
+        first = max(rows.first, row - self.asks + 1) if is_back else row
+        count = min(self.asks, (row + 1 if is_back else rows.end) - first)
+
+        def take(at: int, lines: list[bytes]) -> None:
+            if not copying.mode or opening != copying.opening:
+                return
+            rows.put(at, lines[:MOST_ASKED])
+            rows.forget_far(row)
+            if rows.has(row):
+                self.answered()
+            elif lines and first <= at and at + len(lines) <= row:
+                # Fewer came than were asked for.
+                kept.rows(copying.pane, copying.life, at + len(lines), row - at - len(lines) + 1, take)
+            elif not lines and copying.is_connecting():
+                # Rows keep their numbers: they are asked for again once there is another connection.
+                self.loop.later("copy asks again", ASKS_AGAIN, self.answered)
+            else:
+                copying.close(GONE)
+
+        kept.rows(copying.pane, copying.life, first, count, take)
+
+    def answered(self) -> None:
+        """Goes on with what waited for an answer."""
+        self.is_waiting = False
+        self.settle()
+        self.copying.go_on()

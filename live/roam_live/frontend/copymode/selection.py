@@ -1,0 +1,166 @@
+"""What is selected in copy mode: from a place to the cursor, by characters, words, lines or as a block, and the text of that."""
+from __future__ import annotations
+
+import copy
+
+from roam_live.frontend.copymode.motions import BLANK, SEPARATORS, is_in, last_of_word, line_begin, line_end, previous_word, right, word_end
+
+TYPE_CHECKING = False
+if TYPE_CHECKING:
+    from roam_live.frontend.copymode.rows import Rows, Spot
+
+# What is selected at once: characters, or whole words or lines round the place where that began.
+CHARACTERS, WORDS, LINES = "characters", "words", "lines"
+
+# No text has so many bytes that is copied.
+MOST_COPIED = 1 << 20
+
+
+class Selection:
+    """A selection: the place at which it began, and the end that goes with the cursor. `o` changes these two."""
+
+    def __init__(self, spot: Spot, kind: str = CHARACTERS, is_vi: bool = False) -> None:
+        self.begin, self.end, self.kind, self.is_vi = spot, spot, kind, is_vi
+        # Whether the cursor is at the end, or at the beginning.
+        self.is_at_end = True
+        # The word or lines round which more is selected, and where the cursor was.
+        self.core = spot, spot
+        self.origin = spot
+        # Of words and lines: what the cursor keeps to where it goes up or down, the end of its line or its beginning.
+        self.keeps = ""
+
+    def copied(self) -> Selection:
+        """One like it."""
+        return copy.copy(self)
+
+    def fixed(self) -> Spot:
+        """The end that doesn't go with the cursor."""
+        return self.begin if self.is_at_end else self.end
+
+    def follow(self, rows: Rows, spot: Spot) -> None:
+        """Goes with the cursor."""
+        is_begin = not self.is_at_end
+        if self.kind == WORDS:
+            is_begin = spot < self.origin
+            if is_begin:
+                spot, self.end = previous_word(rows, spot, SEPARATORS, False), self.core[1]
+            else:
+                if spot[1] >= rows.length(spot[0]) or not is_in(rows, (spot[0], spot[1] + 1), BLANK):
+                    spot = end_of_word(rows, spot, self.is_vi)
+                self.begin = self.core[0]
+        elif self.kind == LINES:
+            is_begin = spot[0] < self.origin[0]
+            if is_begin:
+                spot, self.end = (spot[0], 0), self.core[1]
+            else:
+                row = max(spot[0], self.core[1][0])
+                spot, self.begin = (row, rows.length(row)), self.core[0]
+        if is_begin:
+            self.begin = spot
+        else:
+            self.end = spot
+
+    def turn(self) -> Spot:
+        """Has the cursor be at the other end, which is told."""
+        self.keeps = {"end": "begin", "begin": "end"}.get(self.keeps, "")
+        self.is_at_end = not self.is_at_end
+        return self.end if self.is_at_end else self.begin
+
+
+def end_of_word(rows: Rows, spot: Spot, is_vi: bool) -> Spot:
+    """The end of the word here: with vi's keys its last character, else the place behind it."""
+    return last_of_word(rows, spot, SEPARATORS) if is_vi else word_end(rows, spot, SEPARATORS)
+
+
+def lines_at(rows: Rows, spot: Spot) -> tuple[Selection, Spot]:
+    """The selection of the row here with those that go on to it and from it, and where the cursor is then."""
+    selection = Selection(line_begin(rows, spot), LINES)
+    selection.origin, selection.keeps = spot, "end"
+    cursor = line_end(rows, spot)
+    selection.core, selection.end = (selection.begin, cursor), cursor
+    return selection, cursor
+
+
+def word_at(rows: Rows, spot: Spot, is_vi: bool) -> tuple[Selection, Spot]:
+    """The selection of the word here, and where the cursor is then."""
+    begin = previous_word(rows, spot, SEPARATORS, False)
+    selection = Selection(begin, WORDS, is_vi)
+    row, col = begin
+    after = (row + 1, 0) if rows.goes_on(row) and col + 1 >= len(rows.row(row).letters) else (row, col + 1)
+    # Of a word of one character tmux selects none with emacs' keys, whose selection ends before the cursor.
+    cursor = begin if is_vi or col >= rows.length(row) else right(rows, begin, False)
+    if col >= rows.length(row) or not is_in(rows, after, BLANK):
+        cursor = end_of_word(rows, begin, is_vi)
+    selection.core, selection.end = (begin, cursor), cursor
+    selection.origin, selection.keeps = min(spot, cursor), "end"
+    return selection, cursor
+
+
+class Columns:
+    """Which columns are selected in each row: of the first, the last and those between. To be shown it needs no row that isn't here."""
+
+    def __init__(self, rows: Rows, selection: Selection, cursor: Spot, is_block: bool, is_vi: bool, is_shown: bool = False) -> None:
+        self.rows, self.is_block = rows, is_block
+        self.first, self.last = min(selection.begin, selection.end), max(selection.begin, selection.end)
+        is_far = is_shown and not rows.has(self.last[0])
+        last_length = self.last[1] if is_far else rows.length(self.last[0])
+        end = min(self.last[1], last_length)
+        if is_block:
+            fixed, here = selection.fixed()[1], cursor[1]
+            low, high = (fixed, here + is_vi) if fixed < here else (here, fixed + 1)
+            self.ends: tuple[int, int | None, int] = low, high, high
+            self.begin = low
+        else:
+            self.begin = 0
+            self.ends = self.first[1], None, end + is_vi
+        # What stands behind the text of the last row: nothing where it goes on, and an end of line only where that is selected too.
+        is_cut = is_vi and self.ends[2] > last_length
+        is_joined = not is_far and rows.goes_on(self.last[0]) and self.ends[2] == last_length
+        self.drops_end = (not is_cut) and not is_joined
+
+    def of(self, row: int) -> tuple[int, int] | None:
+        """The first column that is selected in a row, and that behind the last, which may be further than the row has any; None where
+        none is."""
+        if not self.first[0] <= row <= self.last[0]:
+            return None
+        begin = self.ends[0] if row == self.first[0] else self.begin
+        end = self.ends[2] if row == self.last[0] else self.ends[1]
+        kept = self.rows.row(row)
+        whole = max(len(kept.letters), self.rows.cols)
+        return begin, whole if end is None else end
+
+    def text(self, row: int) -> str:
+        """What is copied of a row, with an end of line where the row doesn't go on, or not so far."""
+        columns, kept = self.of(row), self.rows.row(row)
+        if not columns or columns[0] > columns[1]:
+            return ""
+        is_joined = self.rows.goes_on(row)
+        most = len(kept.letters) if is_joined else kept.length
+        begin, end = min(columns[0], most), min(columns[1], most)
+        return kept.text(begin, end) + ("" if is_joined and end == most else "\n")
+
+
+class CopiedText:
+    """The text of a selection, which is gathered row by row: what it has so far stays where rows have to be asked for."""
+
+    def __init__(self, columns: Columns) -> None:
+        self.columns = columns
+        self.row = columns.first[0]
+        self.parts: list[str] = []
+        self.size = 0
+
+    def gather(self) -> bytes | None:
+        """All of it; None where it has more bytes than are copied. MissingRows where rows have to be asked for first."""
+        last = self.columns.last[0]
+        while self.row <= last:
+            part = self.columns.text(self.row)
+            self.size += len(part.encode("utf-8", "replace"))
+            if self.size > MOST_COPIED + 1:
+                return None
+            self.parts.append(part)
+            self.row += 1
+        text = "".join(self.parts)
+        if self.columns.drops_end:
+            text = text[:-1] if text.endswith("\n") else text
+        data = text.encode("utf-8", "replace")
+        return data if len(data) <= MOST_COPIED else None

@@ -1,0 +1,203 @@
+"""What copy mode shows of a snapshot's rows: which lines, where the cursor is among them, and how both move."""
+from __future__ import annotations
+
+import copy
+
+from roam_live.frontend.copymode.motions import line_end
+
+TYPE_CHECKING = False
+if TYPE_CHECKING:
+    from roam_live.frontend.copymode.rows import Line, Rows, Spot
+    from roam_live.frontend.copymode.selection import Selection
+
+
+class CopyView:
+    """Lines of a height from a top one on, the cursor's place, and what is selected. Its calls are as tmux's copy mode has them."""
+
+    def __init__(self, rows: Rows, height: int) -> None:
+        self.rows, self.height = rows, height
+        self.top: Line = (rows.first, 0)
+        self.spot: Spot = (rows.first, 0)
+        # The column to which the cursor comes back where a line is long enough, and how long the line was where it had that.
+        self.wanted, self.wanted_of = 0, 0
+        self.selection: Selection | None = None
+        self.is_block = False
+
+    def copied(self) -> CopyView:
+        """One like it, which stays as it is."""
+        other = copy.copy(self)
+        other.selection = self.selection.copied() if self.selection else None
+        return other
+
+    # ---- where it is
+
+    def lowest_top(self) -> Line:
+        """The top line where the last line is shown at the bottom."""
+        return self.rows.above(self.rows.last_line(), self.height - 1)
+
+    def line(self) -> Line:
+        """The cursor's line."""
+        return self.rows.line_of(self.spot)
+
+    def lines(self) -> list[Line]:
+        """The lines that are shown."""
+        return self.rows.lines_from(self.top, self.height)
+
+    def cursor(self) -> tuple[int, int]:
+        """Where the cursor stands among them: a line and a column, from 0."""
+        line = self.line()
+        return self.depth(), min(self.spot[1] - self.rows.span_of(line)[0], self.rows.cols - 1)
+
+    def depth(self) -> int:
+        """How many lines the cursor is below the top."""
+        line, lines = self.line(), self.lines()
+        return lines.index(line) if line in lines else 0
+
+    def back(self) -> tuple[int, int]:
+        """How many rows are below those that are shown, and how many there can be."""
+        lowest = self.lowest_top()[0]
+        return max(0, lowest - self.top[0]), lowest - self.rows.first
+
+    def is_lowest(self) -> bool:
+        """Whether the last line is shown."""
+        return self.top >= self.lowest_top()
+
+    # ---- moves
+
+    def go(self, spot: Spot) -> None:
+        """Puts the cursor on a place, and scrolls as little as shows it."""
+        self.spot = spot
+        line = self.line()
+        if line < self.top:
+            self.top = line
+        elif line > self.rows.below(self.top, self.height - 1):
+            self.top = self.rows.above(line, self.height - 1)
+
+    def jump(self, spot: Spot) -> None:
+        """Puts the cursor on a place, which is shown a quarter above the bottom where it wasn't shown before."""
+        self.spot = spot
+        line = self.line()
+        if line not in self.lines():
+            _, above = self.rows.up(line, self.height)
+            over = min(self.height - self.height // 4, self.height - 1)
+            self.top = self.rows.first_line() if above < self.height else self.rows.above(line, over)
+            self.top = min(self.top, self.lowest_top())
+
+    def want_column(self) -> None:
+        """Keeps the column to which the cursor comes back, where it isn't at the end of its line."""
+        line = self.line()
+        col, length = self.spot[1] - self.rows.span_of(line)[0], self.rows.line_length(line)
+        if col != length:
+            self.wanted, self.wanted_of = col, length
+
+    def is_free(self) -> bool:
+        """Whether the cursor keeps to the characters of its line: not where a block is selected."""
+        return self.selection is None or not self.is_block
+
+    def column(self) -> int:
+        """The cursor's column on its line, or the one to which it comes back."""
+        return self.wanted if self.is_free() else self.spot[1] - self.rows.span_of(self.line())[0]
+
+    def put_on(self, line: Line, col: int, is_clamped: bool = True) -> None:
+        """Puts the cursor on a line, at a column as far as there are characters, or at the end, where it was there."""
+        begin, length = self.rows.span_of(line)[0], self.rows.line_length(line)
+        if is_clamped and (col >= self.wanted_of and col != length or col > length):
+            col = length
+        self.spot = line[0], begin + col
+
+    def step(self, by: int, scrolls: bool = False) -> None:
+        """Goes a line up or down; or scrolls so, with the cursor where it stands."""
+        is_free, rows = self.is_free(), self.rows
+        if is_free:
+            self.want_column()
+        selection, line = self.selection, self.line()
+        if selection and selection.keeps == ("end" if by < 0 else "begin") and line[0] == selection.fixed()[0]:
+            self.other_end()
+            line = self.line()
+        col, depth = self.column(), self.depth()
+        if by < 0 and (scrolls or depth == 0):
+            self.top = rows.above(self.top)
+            line = rows.below(self.top, depth)
+        elif by > 0 and (scrolls or depth == self.height - 1):
+            self.top = max(self.top, min(rows.below(self.top), self.lowest_top()))
+            line = rows.below(self.top, depth)
+        else:
+            line = rows.below(line) if by > 0 else rows.above(line)
+        self.put_on(line, col, is_free)
+        if selection and selection.keeps:
+            length = rows.cols if self.is_block else rows.line_length(line)
+            self.spot = line[0], rows.span_of(line)[0] + (length if selection.keeps == "end" else 0)
+
+    def page(self, by: int, is_half: bool = False) -> None:
+        """Goes a page up or down, less two lines, or half of one."""
+        self.want_column()
+        rows, depth, wanted = self.rows, self.depth(), self.wanted
+        count = 1 if self.height <= 2 else self.height // 2 if is_half else self.height - 2
+        if by < 0:
+            top, moved = rows.up(self.top, count)
+            if moved < count:
+                depth = max(0, depth - count)
+        else:
+            lowest = self.lowest_top()
+            top, moved = rows.down(self.top, count)
+            if moved < count or top > lowest:
+                top = max(lowest, self.top)
+                depth = min(self.height - 1, depth + count)
+        self.top = top
+        line = rows.below(top, depth)
+        self.put_on(line, wanted, False)
+        length = rows.line_length(line)
+        if self.is_free() and (wanted >= self.wanted_of and wanted != length or wanted > length):
+            self.go(line_end(rows, self.spot))
+
+    def put_at(self, depth: int, col: int = 0) -> None:
+        """Puts the cursor on a line that is shown, at a column as far as there are characters."""
+        lines = self.lines()
+        line = lines[max(0, min(depth, len(lines) - 1))]
+        begin, _ = self.rows.span_of(line)
+        col = max(0, col) if self.is_block and self.selection else max(0, min(col, self.rows.line_length(line)))
+        self.spot = line[0], begin + col
+
+    def go_top(self) -> None:
+        """Goes to the first row."""
+        self.turn_where(self.selection is not None and self.selection.keeps == "end")
+        self.top = self.rows.first_line()
+        self.spot = self.top[0], 0
+
+    def go_bottom(self) -> None:
+        """Goes to the end of the last row."""
+        self.turn_where(self.selection is not None and self.selection.keeps == "begin")
+        self.top = self.lowest_top()
+        self.spot = self.rows.last(), self.rows.length(self.rows.last())
+
+    def turn_where(self, is_kept: bool) -> None:
+        """Has the cursor be at the other end of lines that are selected, where it is on the row at which they begin."""
+        if is_kept and self.selection and self.spot[0] == self.selection.fixed()[0]:
+            self.other_end()
+
+    def go_back(self, count: int) -> None:
+        """Shows lines so many rows above the last, with the cursor where it stands."""
+        depth, col = self.depth(), self.spot[1] - self.rows.span_of(self.line())[0]
+        self.top = self.rows.above(self.lowest_top(), count)
+        self.put_at(depth, col)
+
+    # ---- the selection
+
+    def other_end(self) -> None:
+        """Has the cursor be at the other end of what is selected."""
+        if self.selection:
+            self.go(self.selection.turn())
+
+    def follow(self) -> None:
+        """Has what is selected go with the cursor."""
+        if self.selection:
+            self.selection.follow(self.rows, self.spot)
+
+    def clamp(self) -> None:
+        """Has the cursor be no further than behind the last character of its row."""
+        self.spot = self.spot[0], min(self.spot[1], self.rows.length(self.spot[0]))
+
+    def clear_selection(self) -> None:
+        """Selects nothing any more."""
+        self.selection = None
+        self.clamp()

@@ -1,0 +1,249 @@
+"""What a person points at: reports of the mouse for the programs in panes, typed as acts, and what roam makes of them where it has the
+mouse itself."""
+from __future__ import annotations
+
+from roam_live.common.event_loop import Loop
+from roam_live.frontend.borders import BorderDrag, border_at
+from roam_live.frontend.copymode.mouse import Clicks
+from roam_live.input.mouse_reports import DOWN, UP, MouseReport, is_wanted, report_of, sent, tracking_of
+
+TYPE_CHECKING = False
+if TYPE_CHECKING:
+    from roam_live.frontend.commands import Commands
+    from roam_live.protocol.panes import Places, Rect
+
+    # A row and a column of the session, from 1.
+    Place = tuple[int, int]
+
+# So many seconds lie between two reports of motion, and while so many lines are on their way no other goes: what is dragged over a slow
+# network doesn't lag ever more.
+APART = 0.02
+MOST_ON_WAY = 4
+
+# A notch of the wheel is so many rows, or arrows where a program shows the other screen, as `panes` tells it.
+NOTCH = 3
+OTHER = "other"
+
+# So many seconds a line stands that tells who has the mouse.
+TOLD = 3.0
+ON = "the mouse focuses, scrolls and drags borders; {} m ends that"
+OFF = "the mouse selects text, but where a program has it"
+
+
+def inside(rect: Rect, place: Place) -> Place:
+    """The place of a pane that is nearest to a place."""
+    return min(max(place[0], rect.row), rect.row + rect.rows - 1), min(max(place[1], rect.col), rect.col + rect.cols - 1)
+
+
+class Pointing:
+    """The mouse of one person."""
+
+    def __init__(self, commands: Commands, loop: Loop) -> None:
+        self.commands, self.loop = commands, loop
+        # Whether roam has the mouse itself; and the border that is dragged.
+        self.is_on = False
+        self.border: BorderDrag | None = None
+        # The pane in which the first button is held where no program has it, and where on the terminal it was pressed; and how often.
+        self.grasped: tuple[int, Place] | None = None
+        self.clicks = Clicks()
+        # The pane whose program was told that a button is held, by the button.
+        self.held: dict[int, int] = {}
+        # The newest motion that wasn't typed yet, with its pane and place; the pane, place and button of the last, and when it was.
+        self.motion: tuple[int, MouseReport, Place] | None = None
+        self.moved: tuple[int, Place, int] | None = None
+        self.moved_at = 0.0
+
+    def asked(self) -> str:
+        """Which reports the outer terminal is asked for, where this person types at all and the panes are known: those that the program in
+        the pane in focus has asked for, or roam itself."""
+        panes = self.commands.panes
+        if self.commands.link.watches or not panes.places:
+            return ""
+        tracking = tracking_of(panes.focus_modes)
+        return "motion" if tracking == "motion" else "drags" if tracking or self.is_on else ""
+
+    def switch(self) -> None:
+        """Has roam have the mouse itself, or no more."""
+        self.is_on = not self.is_on
+        self.commands.show_aside()
+        self.commands.display.tell(ON.format(self.commands.prefix) if self.is_on else OFF, TOLD)
+
+    def told(self) -> None:
+        """Takes note of what is told of the panes."""
+        if self.border:
+            self.border.told()
+
+    def take(self, text: str) -> None:
+        """Takes a report of the outer terminal."""
+        report, commands = report_of(text), self.commands
+        if not report:
+            return
+        holder = self.held.get(report.number(), 0) if report.moves() or report.is_release else 0
+        if report.is_release:
+            self.held.pop(report.number(), None)
+        if not holder and not self.border and self.copies(report):
+            return
+        if self.is_on and not holder and self.goes(report):
+            return
+        if report.is_release:
+            self.grasped = None
+        elif self.border and not report.moves():
+            # That it was let go wasn't told.
+            self.end_drag()
+        is_near = holder > 0 or self.border is not None
+        place, places = commands.display.shown_at(report.row, report.col, is_near), commands.places()
+        if not place or not places or commands.paused or commands.link.watches:
+            self.end_drag()
+        elif self.border and (report.moves() or report.is_release):
+            self.drag(self.border, report, place)
+        elif commands.typing.is_scrolling():
+            self.point_back(report, places, place)
+        elif commands.typing.is_typing():
+            self.point(report, places, place, holder)
+
+    def goes(self, report: MouseReport) -> bool:
+        """Goes to the window whose label in the last row a button is held on, and tells whether it does."""
+        commands = self.commands
+        is_press = not report.is_release and not report.moves() and report.number() == 0
+        place = commands.display.window_at(report.row, report.col) if is_press and commands.typing.is_typing() else None
+        if place is None or not commands.windows:
+            return False
+        self.end_drag()
+        commands.windows.go_to(commands.windows.shown[place])
+        return True
+
+    def point(self, report: MouseReport, places: Places, place: Place, holder: int = 0) -> None:
+        """Goes by a report at a place of the session. The pane whose program was told that a button is held has the reports of that button,
+        wherever the mouse is: its program is told the nearest place, as on a terminal of its own."""
+        pane = holder or places.pane_at(*place)
+        if self.grasped and report.moves() and report.number() == 0:
+            (pane, pressed), self.grasped = self.grasped, None
+            self.commands.copying.pointing.open_by_drag(pane, pressed, (report.row, report.col))
+        elif not pane and self.is_on and report.button == 0 and not report.is_release:
+            self.grip(places, place)
+        elif pane == 0 or report.is_release and not holder or pane != places.focus and (not self.is_on or report.moves() or holder):
+            return
+        elif report.moves():
+            is_meant = holder or not report.is_held()
+            self.motion = (pane, report, inside(places.rects[pane], place)) if is_meant else None
+            self.put_motion()
+        else:
+            self.put_motion(is_now=True)
+            self.moved = None
+            self.press(report, pane, place, pane == places.focus)
+
+    def press(self, report: MouseReport, pane: int, place: Place, has_focus: bool) -> None:
+        """Goes by a button that is held or let go in a pane, or by the wheel over one: its program has it, where it asked for that."""
+        if self.type(pane, report, place):
+            if not report.is_release and not report.is_wheel():
+                self.held[report.number()] = pane
+        elif report.is_wheel():
+            self.turn(report, pane)
+        else:
+            if not has_focus:
+                self.commands.act_together(f"focus {pane}")
+            if self.is_on and report.number() == 0:
+                self.grasp(pane, (report.row, report.col))
+
+    # ---- copy mode
+
+    def copies(self, report: MouseReport) -> bool:
+        """Whether copy mode takes a report."""
+        commands = self.commands
+        if not commands.copying.is_on() or commands.paused or commands.display.cover or not commands.typing.is_typing():
+            return False
+        return commands.copying.pointing.take(report)
+
+    def grasp(self, pane: int, place: Place) -> None:
+        """Takes note of where the first button is held, at a place of the terminal: what is dragged from there is selected, and a word by a
+        double click."""
+        self.grasped = pane, place
+        if self.clicks.press(place, self.loop.clock()) == 2:
+            self.grasped = None
+            self.commands.copying.pointing.open_by_click(pane, place)
+
+    # ---- where roam has the mouse
+
+    def turn(self, report: MouseReport, pane: int) -> None:
+        """Goes by the wheel over a pane whose program hasn't the mouse: on the other screen it is sent arrows, else the rows that scrolled
+        off are shown."""
+        way = {UP: "up", DOWN: "down"}.get(report.number())
+        if not self.is_on or not way:
+            return
+        if OTHER in self.commands.panes.modes(pane):
+            self.commands.act_together(f"focus {pane}", *[f"key {way}"] * NOTCH)
+        elif way == "up":
+            self.commands.copying.pointing.open_by_wheel(pane)
+
+    def scroll(self, pane: int, rows: int) -> None:
+        """Scrolls a pane; where the newest rows are there again that is over."""
+        acts, wish = self.commands.typing.scrolled_by(rows)
+        self.commands.act_together(f"focus {pane}", *acts)
+        self.commands.change(wish)
+
+    def point_back(self, report: MouseReport, places: Places, place: Place) -> None:
+        """Goes by a report while rows are shown that scrolled off: the wheel scrolls, and where roam has the mouse what another pane is
+        pointed at with ends that."""
+        pane, is_press = places.pane_at(*place), not report.moves() and not report.is_release
+        if pane == places.focus and report.number() in (UP, DOWN):
+            self.scroll(pane, NOTCH if report.number() == UP else -NOTCH)
+        elif pane != places.focus and self.is_on and is_press:
+            self.commands.end_scroll()
+            self.point(report, places, place)
+
+    def grip(self, places: Places, place: Place) -> None:
+        """Takes the border at a place, to be dragged."""
+        border = border_at(places.rects, *place)
+        if border:
+            self.border = BorderDrag(self.commands, self.loop, border, self.end_drag)
+
+    def drag(self, drag: BorderDrag, report: MouseReport, place: Place) -> None:
+        """Drags a border, until its button is let go."""
+        if report.number() == 0:
+            drag.to(*place)
+            if report.is_release:
+                drag.let_go()
+
+    def end_drag(self) -> None:
+        """Drags no border any more."""
+        self.border = None
+        self.loop.drop("border")
+
+    # ---- reports
+
+    def type(self, pane: int, report: MouseReport, place: Place) -> bool:
+        """Has a report typed into a pane, where its program asked for such, and its form has one; tells whether it is. The pane is named
+        with it, in one line of acts: nobody else's focus comes between."""
+        text = self.text(pane, report, place)
+        if text:
+            self.commands.act_together(f"focus {pane}", *(f"char {ord(letter):x}" for letter in text))
+        return text != ""
+
+    def text(self, pane: int, report: MouseReport, place: Place) -> str:
+        """What a pane's program is sent for a report; nothing where it is none for it."""
+        modes, places = self.commands.panes.modes(pane), self.commands.panes.places
+        rect = places.rects.get(pane) if places else None
+        if not rect or not is_wanted(report, modes):
+            return ""
+        row, col = inside(rect, place)
+        return sent(report._replace(row=row - rect.row + 1, col=col - rect.col + 1), modes)
+
+    def put_motion(self, is_now: bool = False) -> None:
+        """Has the newest motion typed, once it may be, or now: what follows it has to come behind it."""
+        self.loop.drop("motion")
+        if not self.motion:
+            return
+        pane, report, place = self.motion
+        due = self.moved_at + APART
+        if self.moved == (pane, place, report.button) or pane != self.focus():
+            self.motion = None
+        elif not is_now and (self.loop.clock() < due or self.commands.link.untaken() >= MOST_ON_WAY):
+            self.loop.at("motion", max(due, self.loop.clock() + APART / 2), self.put_motion)
+        else:
+            self.motion, self.moved, self.moved_at = None, (pane, place, report.button), self.loop.clock()
+            self.type(pane, report, place)
+
+    def focus(self) -> int:
+        """The pane in focus, as far as it is known."""
+        places = self.commands.places()
+        return places.focus if places else 0

@@ -1,0 +1,186 @@
+"""Borders that a person moves by keys, and even shares for all panes."""
+from __future__ import annotations
+
+from collections import deque
+
+from roam_live.common.event_loop import Loop
+from roam_live.frontend.borders import NO_PANE, SETTLES, Border, BorderDrag, begin_of, border_at, end_of, is_told_by_numbers, splits_of
+from roam_live.frontend.split_math import Evened
+from roam_live.frontend.zoom import FOCUS_WAIT
+from roam_live.protocol.panes import BESIDE
+
+TYPE_CHECKING = False
+if TYPE_CHECKING:
+    from roam_live.frontend.commands import Commands
+    from roam_live.protocol.panes import Places, Rect
+
+# So many keys wait at most until the session has its size again; and even shares take so many lines of acts at most, each once what comes
+# of the one before is told.
+MOST_WAITING = 64
+MOST_LINES = 10
+
+# The side opposite to each.
+OPPOSITE = {"left": "right", "right": "left", "up": "down", "down": "up"}
+
+# So many seconds a line stands that tells why shares aren't even.
+TOLD = 3.0
+NO_BORDER = {"right": "pane {} has no border at its left or right", "down": "pane {} has no border above or below it"}
+NO_ROOM = "this border is as far as it can be"
+STUCK = "shares are even, but at borders with panes on both sides that are split themselves"
+EVEN = "shares are even"
+UNTOLD = "the panes aren't told here"
+NO_FOCUS = "it isn't told yet which pane is in focus"
+
+
+def axis_of(side: str) -> str:
+    """Along which way a pane's border on a side is moved."""
+    return "right" if side in ("left", "right") else "down"
+
+
+def side_border(rects: dict[int, Rect], pane: int, side: str) -> Border | None:
+    """The border on a side of a pane; None where it has none there. Where the panes' numbers don't tell whose own split it is, and the
+    rectangles have it that no pane's is, the two at this side are tried."""
+    rect, way = rects[pane], axis_of(side)
+    is_behind = side in ("right", "down")
+    at = end_of(rect, way) if is_behind else begin_of(rect, way) - 1
+    place = (rect.row, at) if way == "right" else (at, rect.col)
+    border = border_at(rects, *place)
+    if border and not border.leaves and not is_told_by_numbers(rects):
+        other = next((number for number, one in rects.items() if is_across(rect, one, side)), 0)
+        pair = (pane, other) if is_behind else (other, pane)
+        return border._replace(before=pair[0], behind=pair[1], leaves=[(pair[0], 1), (pair[1], -1)]) if other else border
+    return border
+
+
+def is_across(rect: Rect, other: Rect, side: str) -> bool:
+    """Whether another rectangle lies across a border from one, as long as that."""
+    first, second = (rect, other) if side in ("right", "down") else (other, rect)
+    way = axis_of(side)
+    along = "down" if way == "right" else "right"
+    return end_of(first, way) + 1 == begin_of(second, way) and (begin_of(first, along), end_of(first, along)) == (
+        begin_of(second, along), end_of(second, along))
+
+
+class BorderKeys:
+    """What one person does with borders by keys."""
+
+    def __init__(self, commands: Commands, loop: Loop) -> None:
+        self.commands, self.loop = commands, loop
+        # The border that goes, and keys that wait until the session has its size again.
+        self.drag: BorderDrag | None = None
+        self.waiting: deque[str] = deque(maxlen=MOST_WAITING)
+        # Where the panes are to be by the acts that were typed for even shares, and how many more lines may be.
+        self.wanted: dict[int, Rect] | None = None
+        self.lines_left = 0
+
+    def ask(self, wish: str) -> None:
+        """Does what a key asks for, `even` or a side: once nothing is zoomed any more."""
+        if self.commands.zooming.is_on():
+            self.commands.zooming.end()
+        self.waiting.append(wish)
+        self.loop.later("border keys", FOCUS_WAIT, lambda: self.do_waiting(is_late=True))
+        self.do_waiting()
+
+    def do_waiting(self, is_late: bool = False) -> None:
+        """Does what waits, once it is told where the panes are at the session's size, and where the focus is that was moved."""
+        places, here = self.commands.panes.places, self.commands.places()
+        is_known = here is None or here.focus > 0
+        if is_late and self.waiting and not is_known:
+            self.waiting.clear()
+            self.commands.display.tell(NO_FOCUS)
+        while self.waiting and is_known and not self.commands.given and (not places or places.is_covered()):
+            wish = self.waiting.popleft()
+            if wish == "even":
+                self.even()
+            else:
+                self.move(wish)
+
+    def told(self) -> None:
+        """Goes by what is told of the panes."""
+        places = self.commands.panes.places
+        if self.drag:
+            self.drag.told()
+        if places and self.wanted is not None and places.rects == self.wanted:
+            self.go_on()
+        self.do_waiting()
+
+    # ---- one border
+
+    def move(self, side: str) -> None:
+        """Moves the border on a side of the pane in focus towards that side, or where it has none there the one on the other side."""
+        places, way = self.commands.places(), axis_of(side)
+        if not places:
+            self.commands.display.tell(UNTOLD)
+            return
+        found = [side_border(places.rects, places.focus, one) for one in (side, OPPOSITE[side])]
+        border = found[0] or found[1]
+        if not border:
+            self.commands.display.tell(NO_BORDER[way].format(places.focus))
+            return
+        is_same = self.drag is not None and self.drag.aim > 0 and (self.drag.border.way, self.drag.border.before) == (way, border.before)
+        if not is_same or not self.drag:
+            self.drop()
+            self.drag = BorderDrag(self.commands, self.loop, border, self.end_move, "border by key")
+        at = self.drag.aim if is_same else border.at(places.rects)
+        self.pull(self.drag, at + sum(BESIDE[side]))
+
+    def pull(self, drag: BorderDrag, aim: int) -> None:
+        """Has a border go to a column or a row, as far as it may."""
+        if not drag.leaves:
+            self.commands.display.tell(NO_PANE)
+            self.drop()
+            return
+        if not drag.border.least <= aim <= drag.border.most:
+            self.commands.display.tell(NO_ROOM)
+        drag.to(aim, aim)
+        if self.drag is drag:
+            drag.let_go()
+
+    def end_move(self) -> None:
+        """Moves it no more."""
+        self.drag = None
+
+    def drop(self) -> None:
+        """Forgets a border that goes."""
+        self.drag = None
+        self.loop.drop("border by key")
+
+    # ---- all of them
+
+    def even(self) -> None:
+        """Gives all panes even shares."""
+        self.drop()
+        self.lines_left = MOST_LINES
+        self.go_on(is_first=True)
+
+    def go_on(self, is_first: bool = False) -> None:
+        """Types what is left to do for even shares: what a pane's own split hides is told once that has room."""
+        self.wanted = None
+        self.loop.drop("even")
+        places = self.commands.panes.places
+        parts = splits_of(places.rects) if places and places.is_covered() else None
+        if not places or not parts or not places.focus:
+            self.commands.display.tell(UNTOLD)
+            return
+        evened = Evened(parts, places.rects)
+        if evened.acts and self.lines_left:
+            self.lines_left -= 1
+            self.wanted = evened.rects
+            self.loop.later("even", SETTLES, self.settle)
+            self.commands.act_together(*evened.acts, *self.back(places))
+        elif evened.is_stuck:
+            self.commands.display.tell(STUCK, TOLD)
+        elif is_first:
+            self.commands.display.tell(EVEN)
+
+    def back(self, places: Places) -> list[str]:
+        """The act that puts the focus back where this person has it."""
+        here = self.commands.places()
+        return [f"focus {here.focus if here and here.focus else places.focus}"]
+
+    def settle(self) -> None:
+        """Goes on by what is told by now, once what was typed is taken."""
+        if self.commands.link.untaken():
+            self.loop.later("even", SETTLES, self.settle)
+        else:
+            self.go_on()

@@ -1,0 +1,82 @@
+"""What a settings file has the last row of a terminal say before and behind what stands there: a session's name, a window's, a clock."""
+from __future__ import annotations
+
+import os
+import time
+
+from roam_live.common.event_loop import Loop
+from roam_live.config.environment import STATUS_INTERVAL, number_of, text_of
+
+TYPE_CHECKING = False
+if TYPE_CHECKING:
+    from roam_live.config.formats import Format
+    from roam_live.config.status_styles import Styled
+    from roam_live.frontend.app import FrontEnd
+
+OPTIONS = ("status-left", "status-right")
+
+# What the moment is called at which a clock in it goes on.
+MOMENT = "status"
+
+
+class StatusRow:
+    """What stands at both ends of the last row, of one front end."""
+
+    def __init__(self, front: FrontEnd, loop: Loop) -> None:
+        self.front, self.loop = front, loop
+        self.formats: list[Format] = []
+        self.host = os.uname().nodename
+
+    def choose(self) -> list[str]:
+        """Goes by the formats that are chosen now; tells what of them isn't there, a line each."""
+        texts = {option: text_of(option) for option in OPTIONS}
+        display, self.formats = self.front.display, []
+        self.loop.drop(MOMENT)
+        wrong: list[str] = []
+        if any(texts.values()):
+            # Who has none doesn't wait for these.
+            from roam_live.config.formats import read_format, unread
+
+            self.formats = [read_format(text) for text in texts.values()]
+            wrong = [line for option, text in texts.items() for line in unread(option, text)]
+        display.status, display.line_put = self.shown if self.formats else None, None
+        self.tick()
+        return wrong
+
+    def tick(self) -> None:
+        """Has the row say what it says now, and again once a clock in it goes on."""
+        self.front.display.put_line()
+        if self.formats:
+            from roam_live.config.formats import changes_in
+
+            interval, now = number_of("status-interval", STATUS_INTERVAL), time.time()
+            waits = [wait for wait in (changes_in(read, now, interval) for read in self.formats) if wait is not None]
+            if waits:
+                self.loop.later(MOMENT, min(waits), self.tick)
+
+    def shown(self) -> tuple[list[Styled], list[Styled]]:
+        """What stands at both ends now."""
+        from roam_live.config.formats import filled
+
+        values, now = self.values(), time.time()
+        left, right = (filled(read, values, now) for read in self.formats)
+        return left, right
+
+    def filled(self, text: str) -> str:
+        """What a format says now, without its styles. ValueError tells what of it isn't there in roam."""
+        from roam_live.config.formats import filled, read_format
+
+        read = read_format(text)
+        if read.wrong:
+            raise ValueError(f"{read.wrong[0][:40]} isn't there in roam")
+        return "".join(one.text for one in filled(read, self.values(), time.time()))
+
+    def values(self) -> dict[str, str]:
+        """What the words of formats stand for."""
+        front, told = self.front, self.front.windows.told
+        places, number = front.panes.places, front.number
+        name = told.names.get(number) or told.runs.get(number, "")
+        session = (front.session.name or "").removesuffix(f":{number}")
+        return {"session": session, "window": name or "", "index": str(number or 1), "flags": "*" + "Z" * bool(front.display.zoomed),
+                "pane": str(places.focus) if places else "", "title": front.panes.aside[0], "host": self.host,
+                "short_host": self.host.partition(".")[0]}

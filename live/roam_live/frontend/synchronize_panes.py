@@ -1,0 +1,162 @@
+"""Keys that a person types to all panes of a window at once: each pane gets the focus for them, in one line of acts, and the pane that
+had it gets it back."""
+from __future__ import annotations
+
+from collections.abc import Callable
+from functools import partial
+
+from roam_live.common.event_loop import Loop
+from roam_live.config.environment import text_of
+from roam_live.frontend.status_line import ALL_PANES
+
+TYPE_CHECKING = False
+if TYPE_CHECKING:
+    from roam_live.frontend.commands import Commands
+    from roam_live.protocol.panes import Places
+
+    # What a key types in a pane.
+    Typed = Callable[[int], list[str]]
+
+# The option, by tmux's name.
+OPTION = "synchronize-panes"
+
+# So many acts are typed in one line: a key has no more.
+MOST_OF_KEY = 16
+
+# So many acts stand in one line at most: each change of the focus takes a session long, so that keys go together where they can.
+MOST_ACTS = 64
+
+# So many acts are on their way before keys wait to go together, and it is looked again so many seconds later.
+ON_THEIR_WAY = 32
+AGAIN = 0.01
+
+# For so many seconds keys wait until it is told which pane is in focus, behind a command that moves the focus.
+FOCUS_WAIT = 1.0
+
+# So many of them wait then before no more is read.
+MOST_KEYS = 1 << 16
+
+# So many seconds a line stands that tells what is so from now on.
+TOLD = 2.0
+OFF = "keys go to the pane in focus"
+ALONE = "pasted in the pane in focus alone: {}"
+UNTOLD = "keys go to the pane in focus: where the panes are isn't told"
+
+
+def part(acts: list[str], pane: int) -> list[str]:
+    """The same acts, in whatever pane."""
+    return acts
+
+
+def packed(groups: list[list[str]], back: str) -> list[list[str]]:
+    """Lines of acts, each of which has some of these groups whole and an act behind them."""
+    lines: list[list[str]] = [[]]
+    for group in groups:
+        if lines[-1] and len(lines[-1]) + len(group) >= MOST_ACTS:
+            lines.append([])
+        lines[-1] += group
+    return [[*line, back] for line in lines]
+
+
+def lines_of(panes: list[int], keys: list[Typed]) -> list[list[str]]:
+    """The lines of acts that type keys in each of these panes, of which the first is in focus before and behind: as many keys stand in one
+    as have room there for all panes."""
+    lines: list[list[str]] = []
+    begin = 0
+    while begin < len(keys):
+        end = begin + 1
+        while end < len(keys) and sum(len(key(pane)) for key in keys[begin : end + 1] for pane in panes) + len(panes) <= MOST_ACTS:
+            end += 1
+        groups = [[f"focus {pane}"] * (pane != panes[0]) + [act for key in keys[begin:end] for act in key(pane)] for pane in panes]
+        lines += packed(groups, f"focus {panes[0]}")
+        begin = end
+    return lines
+
+
+class Synchronizing:
+    """Whether one person's keys go to all panes of a window, and those that are on their way there."""
+
+    def __init__(self, commands: Commands, loop: Loop) -> None:
+        self.commands, self.loop = commands, loop
+        # For which windows of this front end that was switched, by their numbers, and the number of this one; and which guesses are shown
+        # else.
+        self.switched: dict[int, bool] = {}
+        self.number = 0
+        self.guesses: Callable[[], str] = lambda: "never"
+        # What each key types that isn't typed yet.
+        self.keys: list[Typed] = []
+
+    def remember(self, switched: dict[int, bool], number: int, guesses: Callable[[], str]) -> None:
+        """Goes by what was switched in windows of this front end, of which this one has a number."""
+        self.switched, self.number, self.guesses = switched, number, guesses
+        if self.is_on():
+            self.choose_guesses()
+
+    def is_on(self) -> bool:
+        """Whether it is so, also while a pane is zoomed."""
+        return self.switched.get(self.number, text_of(OPTION) == "on") and not self.commands.link.watches
+
+    def is_working(self) -> bool:
+        """Whether keys that are typed now go to all panes: a pane that is zoomed has them alone."""
+        return self.is_on() and not self.commands.zooming.is_on()
+
+    def switch(self) -> None:
+        """Switches it."""
+        self.settle(is_last=True)
+        self.switched[self.number] = not self.is_on()
+        self.choose_guesses()
+        self.commands.show_known()
+        places = self.commands.panes.places
+        self.commands.display.tell(OFF if not self.is_on() else ALL_PANES if places else UNTOLD, TOLD)
+
+    def choose_guesses(self) -> None:
+        """Has no guesses be shown while it is on: what a key shows in one pane isn't known of the others."""
+        self.commands.link.guess("never" if self.is_on() else self.guesses())
+
+    def panes(self) -> list[int]:
+        """The panes that have what is typed, of which the first is in focus; none where it isn't known which that is."""
+        places = self.commands.places()
+        return [places.focus, *(pane for pane in places.rects if pane != places.focus)] if places and places.focus else []
+
+    def pasted_in(self) -> list[int]:
+        """The panes that have what is pasted: none where that is the one in focus alone, also since others aren't known, which is told."""
+        if not self.is_working():
+            return []
+        panes = self.panes()
+        if not panes:
+            self.commands.display.tell(ALONE.format("where the panes are isn't told"), TOLD)
+        return panes if len(panes) > 1 else []
+
+    def is_full(self) -> bool:
+        """Whether so many keys wait that nothing more is to come."""
+        return len(self.keys) >= MOST_KEYS
+
+    def add(self, acts: list[str]) -> None:
+        """Acts of a key are typed, or of many."""
+        self.keys += [partial(part, acts[begin : begin + MOST_OF_KEY]) for begin in range(0, len(acts), MOST_OF_KEY)]
+
+    def add_key(self, key: Typed) -> None:
+        """A key is typed, which types something else in each pane."""
+        self.keys.append(key)
+
+    def settle(self, is_last: bool = False) -> None:
+        """Types the keys that were typed; while it isn't told where the focus is they wait, but for the last time to wait."""
+        if not self.keys:
+            return
+        panes = self.panes()
+        may_be_told = self.commands.places() is not None or self.commands.panes.is_awaited()
+        if not panes and may_be_told and not is_last:
+            if "synchronize" not in self.loop.due:
+                self.loop.later("synchronize", FOCUS_WAIT, lambda: self.settle(is_last=True))
+            return
+        if panes and not is_last and self.commands.link.untaken() * 2 * len(panes) > ON_THEIR_WAY:
+            self.loop.later("synchronize", AGAIN, self.settle)
+            return
+        self.loop.drop("synchronize")
+        keys, self.keys = self.keys, []
+        if len(panes) < 2:
+            focus = panes[0] if panes else 0
+            self.commands.pastes.type(*(act for key in keys for act in key(focus)))
+        else:
+            self.commands.pastes.type_lines(lines_of(panes, keys))
+        self.commands.note_key()

@@ -1,0 +1,415 @@
+"""The windows of a session at one person's front end: which there are, as the keeper of shells tells it, where the person is and was, and
+what is asked of the keeper. What is typed for a window that is being opened waits for it."""
+from __future__ import annotations
+
+import contextlib
+import os
+import re
+
+from roam_live.common.errors import Fault, reason
+from roam_live.common.event_loop import Loop
+from roam_live.common.text import printable
+from roam_live.common.tty import LEAST, is_large_enough, largest
+from roam_live.frontend.line_editor import AskedLine
+from roam_live.frontend.windows_client import ToldWindows, WindowsLink
+from roam_live.host.window_commands import BELL, LONGEST_BYTES, LONGEST_NAME, MOST_WINDOWS, name_word
+from roam_live.input.extended_keys import ANSWERED
+from roam_live.input.mouse_reports import MOUSE
+from roam_live.protocol.colours import COLOUR
+from roam_live.session.foreground import told
+
+TYPE_CHECKING = False
+if TYPE_CHECKING:
+    from typing import Protocol
+
+    from roam_live.frontend.commands import Commands
+    from roam_live.frontend.display import Display
+    from roam_live.input.keys import Key
+    from roam_live.protocol.session_interface import AnySession
+
+    class AtWindow(Protocol):
+        """A front end, as it is at one window of a session."""
+
+        session: AnySession
+        display: Display
+
+        @property
+        def commands(self) -> Commands:
+            """What is done of what is typed in the window."""
+
+        @property
+        def number(self) -> int:
+            """The window's number, 0 where the session has no windows."""
+
+        def go(self, number: int) -> None:
+            """Goes to another window; Fault tells why that can't be."""
+
+        def reached(self, number: int) -> AnySession | None:
+            """The window of a number, where one is there that isn't about to be ended."""
+
+        def forget(self, number: int) -> None:
+            """Waits for nothing more of a window that is gone."""
+
+
+# What is told to who had a window opened.
+OPENED = re.compile(r"opened (?:(?P<window>[1-9]\d?)|none (?P<why>.{1,200}))", re.ASCII)
+
+# So many seconds a window has until it is opened, so often it is looked whether it is there, and after so many a person is told that it
+# takes long: what is typed meanwhile is for it, so many keys and characters at most.
+OPENS = 3.0
+COMES = 0.02
+TAKES_LONG = 0.5
+MOST_KEYS = 4096
+MOST_TEXT = 1 << 20
+INTERRUPT = "\x03"
+
+# So many seconds a list of windows waits until it is told where the panes are, over one of which it stands.
+LISTS = 1.0
+NO_ROOM = "the list of windows has no room here"
+
+# So many seconds a line stands.
+SAID = 2.0
+ONE = "no other window can be had here"
+FAR = f"{ONE}: an earlier roam has the session there"
+EARLIER = f"{ONE}: the session is an earlier roam's, or by hand"
+NOBODY = "what keeps the windows isn't there just now"
+LATE = "no window is opened yet: what keeps them is silent"
+DROPPED = "; keys for it are dropped"
+OPENING = "a window is opened; C-c doesn't wait for it"
+NOT_AWAITED = "a window may still come, and isn't waited for"
+SMALL = "a window has {} rows and {} columns at least".format(*LEAST)
+MANY = f"there are {MOST_WINDOWS} windows, and no more"
+
+
+class AskedName(AskedLine):
+    """The name that a person gives a window."""
+
+    def __init__(self, number: int, name: str) -> None:
+        super().__init__(f"name of window {number}", name, LONGEST_NAME)
+
+    def bounded(self, text: str) -> str:
+        """What of a text a name may be."""
+        return text[: self.most].encode("utf-8", "replace")[:LONGEST_BYTES].decode("utf-8", "ignore")
+
+
+class WindowWishes:
+    """The windows of a session at one front end. A session that can't have others has none here."""
+
+    def __init__(self, front: AtWindow, loop: Loop) -> None:
+        self.front, self.loop = front, loop
+        self.told = ToldWindows()
+        # Where the person was before, the last one at the end.
+        self.visited: list[int] = []
+        # The numbers of those whose labels stand in the last row.
+        self.shown: list[int] = []
+        # Whether a window is being opened, and that takes so long that a person was told; whether a list of them is about to be; and what
+        # is typed for either.
+        self.is_opening = self.is_late = self.is_listing = False
+        self.held: list[Key] = []
+        # What opens one, while it isn't answered; and where it wasn't said yet, since the keeper isn't connected: it may be soon, as where
+        # it was launched just before.
+        self.opens = self.unsaid = ""
+        # Whether the person stays where he is once a window is opened.
+        self.stays = False
+        self.link = WindowsLink(self.path, loop, self.take, self.told.begin, self.lose)
+
+    def path(self) -> str:
+        """The socket that tells of the windows: that of the window where the person is."""
+        return os.path.join(self.front.commands.session.folder or "", "shells")
+
+    def begin(self) -> None:
+        """Follows them, where there may be some."""
+        if self.front.number:
+            self.link.connect()
+            self.show()
+
+    # ---- which there are
+
+    def here(self) -> int:
+        """The window where the person is."""
+        return self.front.number
+
+    def numbers(self) -> list[int]:
+        """The numbers of the windows; by the session's folder while nobody tells them."""
+        if self.told.is_whole:
+            return self.told.numbers()
+        with contextlib.suppress(Fault):
+            return [window.number for window in self.front.commands.session.windows() if window.number]
+        # They can't be asked now.
+        return [self.here()]
+
+    def last(self) -> int:
+        """The window where the person was before; 0 where that is gone, or there was none."""
+        numbers = self.numbers()
+        return next((number for number in reversed(self.visited) if number in numbers and number != self.here()), 0)
+
+    def described(self, number: int) -> str:
+        """A window as a list has it: its label, and what runs there."""
+        runs = self.told.runs.get(number, "")
+        label = self.told.label(number, self.here(), self.last())
+        return f"{label}  {runs}" if runs and self.told.names.get(number) else label
+
+    def why_one(self) -> str:
+        """Why no other window can be had here; nothing where one can."""
+        if not self.front.number:
+            return FAR if self.front.session.served == "relay" else EARLIER
+        return EARLIER if self.link.is_refused else ""
+
+    # ---- what is told
+
+    def take(self, lines: list[str]) -> None:
+        """Takes what the keeper told."""
+        if self.unsaid:
+            self.link.ask(self.unsaid)
+            self.unsaid = ""
+        for line in lines:
+            opened = OPENED.fullmatch(line)
+            if opened:
+                self.opened(int(opened["window"] or 0), printable(opened["why"] or ""))
+                continue
+            gone = self.told.take(line)
+            if gone is not None and line.startswith(f"{BELL} ") and not line.startswith(f"{BELL} {self.here()} "):
+                self.front.display.ring()
+            for number in gone or ():
+                self.gone(number)
+        self.show()
+
+    def lose(self) -> None:
+        """Goes on with what was told: the windows are told anew once the connection is there again. Of another machine's session that is
+        cut as often as its relay goes another way: a window is asked for again then, which is the same there."""
+        if self.is_opening and self.front.session.served == "relay":
+            self.unsaid = self.opens
+        elif self.is_opening and not self.unsaid:
+            self.end_opening(NOBODY)
+
+    def show(self) -> None:
+        """Has the last row show the windows, and what is chosen from a list of them."""
+        self.told.seen(self.here())
+        numbers, here, last = self.numbers() if self.front.number else [], self.here(), self.last()
+        self.shown = numbers
+        labels = [self.told.label(number, here, last) for number in numbers]
+        place = numbers.index(here) if here in numbers else 0
+        display = self.front.display
+        if display.windows != (labels, place) or display.status:
+            # A settings file may have more of a name stand there than a label has.
+            display.windows = labels, place
+            display.put_line()
+        chooses = self.front.commands.choosing_window
+        if chooses:
+            chooses.told_anew()
+
+    def gone(self, number: int) -> None:
+        """Goes where the person was before, where the window is gone in which he is; else to the one with the nearest number. The last
+        one's end is the session's."""
+        self.visited = [one for one in self.visited if one in self.numbers()]
+        if number == self.here():
+            self.leave(number)
+        self.front.forget(number)
+
+    def leave(self, number: int) -> bool:
+        """Goes where the person was before a window that is gone, or to the one with the nearest number; whether there is one."""
+        others = [one for one in self.numbers() if one != number]
+        nearest = sorted(others, key=lambda one: (abs(one - number), one))
+        for one in [*(one for one in reversed(self.visited) if one in others), *nearest]:
+            if self.front.reached(one):
+                self.go_to(one)
+                self.visited = [before for before in self.visited if before != number]
+                self.front.display.tell(f"window {number} is gone", SAID)
+                return True
+        return False
+
+    # ---- what is asked
+
+    def grant(self, wish: str) -> None:
+        """Does what a person asks for of windows: to go to one, or what somebody who only watches may not."""
+        commands = self.front.commands
+        word, _, what = wish.partition(" ")
+        why = self.why_one()
+        if why:
+            commands.display.tell(why, SAID)
+        elif word == "go":
+            self.go_by(what)
+        elif what == "list":
+            self.list_all()
+        elif commands.link.watches:
+            return
+        elif what == "new":
+            self.open()
+        elif what == "name":
+            self.ask_name()
+        elif what == "shut":
+            self.ask_shut()
+
+    def list_all(self) -> None:
+        """Opens a list of the windows over the pane in focus. While it isn't told yet which that is, as where the person has just come
+        there, the list waits, and keys for it, but no longer than a moment."""
+        commands, waited = self.front.commands, self.is_listing
+        self.is_listing = not waited and commands.awaits_focus()
+        if self.is_listing:
+            self.loop.later("list waits", LISTS, self.list_all)
+            return
+        self.loop.drop("list waits")
+        if not commands.choosing_window or not commands.choosing_window.begin():
+            commands.display.tell(NO_ROOM, SAID)
+        if waited:
+            held, self.held = self.held, []
+            commands.typed(held)
+
+    def told_panes(self) -> None:
+        """Opens a list that waits for what is told of the panes."""
+        if self.is_listing and not self.front.commands.awaits_focus():
+            self.list_all()
+
+    def go_by(self, what: str) -> None:
+        """Goes to the next window, the one before in order, the last one, or that of a number."""
+        numbers, here = self.numbers(), self.here()
+        if what == "last":
+            self.go_to(self.last(), "there is no last window")
+        elif what == "asked":
+            self.front.commands.prompts.ask_line(AskedLine("window", most=2), self.go_asked)
+        elif what in ("next", "previous"):
+            others = [number for number in numbers if (number > here) == (what == "next") and number != here] or numbers
+            self.go_to((others[0] if what == "next" else others[-1]) if others else 0, "there is no other window")
+        else:
+            number = int(what) if what.isascii() and what.isdigit() else 0
+            self.go_to(number if number in numbers else 0, f"there is no window {what}")
+
+    def go_asked(self, text: str) -> None:
+        """Goes to the window of a number that was typed."""
+        if text:
+            self.go_by(str(int(text)) if text.isascii() and text.isdigit() else text)
+
+    def go_to(self, number: int, why: str = "") -> None:
+        """Goes to a window, 0 for none, of which it is told why."""
+        here = self.here()
+        if number == here:
+            return
+        try:
+            if not number:
+                raise Fault(why)
+            self.front.go(number)
+        except (Fault, OSError) as fault:
+            self.front.display.tell(printable(reason(fault)), SAID)
+            return
+        self.visited = [*(one for one in self.visited if one not in (here, number)), here]
+        self.show()
+
+    def say(self, line: str) -> bool:
+        """Says a line to the keeper, and tells whether it is there; where it isn't a person is told."""
+        if not self.link.peer:
+            self.front.display.tell(NOBODY, SAID)
+            return False
+        self.link.ask(line)
+        return True
+
+    # ---- a window more
+
+    def open(self, handed: str = "", stays: bool = False) -> None:
+        """Has a window be opened, of the size that this terminal shows all of, by a command that was handed over where it is named; the
+        person goes there, or stays."""
+        size, self.is_opening, self.stays = self.front.display.room(), True, stays
+        why = SMALL if not is_large_enough(size) else MANY if len(self.numbers()) >= MOST_WINDOWS else ""
+        if why:
+            # What stands behind in the same read was for it too.
+            self.loop.later("window opens", 0.0, lambda: self.end_opening(why))
+            return
+        self.opens = "open {} {}".format(*largest(size)) + (f" {handed}" if handed else "")
+        if self.link.peer:
+            self.link.ask(self.opens)
+        else:
+            self.unsaid = self.opens
+        self.loop.later("window opens", OPENS, lambda: self.end_opening(LATE))
+        self.loop.later("window waits", TAKES_LONG, self.tell_late)
+
+    def tell_late(self) -> None:
+        """Tells that a window takes long, and what doesn't wait for it."""
+        self.is_late = True
+        self.front.display.tell(OPENING, OPENS)
+
+    def opened(self, number: int, why: str) -> None:
+        """Goes to a window that was opened, with what was typed for it; 0 where none was."""
+        if not self.is_opening:
+            # Nobody waits for it any more.
+            self.front.display.tell(f"window {number} is there now" if number else f"no window is opened: {why}", SAID)
+            return
+        if not number:
+            self.end_opening(f"no window is opened: {why}")
+            return
+        # It isn't asked for again.
+        self.opens = ""
+        if self.front.reached(number) is None and "window opens" in self.loop.due:
+            # Of another machine's session it is told here a moment later, by another way.
+            self.loop.later("window comes", COMES, lambda: self.opened(number, why))
+            return
+        held, self.held = self.held, []
+        self.end_opening("")
+        if self.stays:
+            self.front.display.tell(f"window {number} is there now", SAID)
+        else:
+            self.go_to(number)
+        if self.stays or self.here() == number:
+            self.front.commands.typed(held)
+        elif held:
+            self.front.display.tell(f"window {number} can't be shown{DROPPED}", SAID)
+
+    def end_opening(self, why: str) -> None:
+        """Waits for no window, and drops what was typed for it: in another window it would mean something else."""
+        for name in ("window opens", "window waits"):
+            self.loop.drop(name)
+        was_told = self.front.display.told == OPENING
+        dropped, self.held, self.unsaid = self.held, [], ""
+        self.is_opening = self.is_late = False
+        if [key.name for key in dropped if key.name in ("paste", "pasted")][-1:] == ["paste"]:
+            # What comes of it still isn't typed either.
+            self.front.commands.refuse_paste(why + DROPPED)
+        if why:
+            self.front.display.tell(why + DROPPED * bool(dropped), SAID)
+        elif was_told:
+            self.front.display.end_told()
+
+    def takes(self, commands: Commands, keys: list[Key], place: int) -> bool:
+        """Takes the keys from this place on, if they aren't for the window whose commands these are: for one that is being opened, for a
+        list, or for that where the person went. Tells whether they were taken."""
+        if self.is_opening or self.is_listing:
+            self.hold(keys[place:])
+        elif commands is not self.front.commands:
+            self.front.commands.typed(keys[place:])
+        else:
+            return False
+        return True
+
+    def hold(self, keys: list[Key]) -> None:
+        """Has keys wait for a window that is being opened; once a person was told that it takes long C-c waits no longer. What the terminal
+        tells itself doesn't wait."""
+        for place, key in enumerate(keys):
+            if key.name in (COLOUR, ANSWERED):
+                self.front.commands.reported(key)
+            elif key.name == INTERRUPT and self.is_late:
+                self.end_opening(NOT_AWAITED)
+                self.front.commands.typed(keys[place + 1 :])
+                return
+            elif key.name != MOUSE:
+                self.held.append(key)
+
+    def is_full(self) -> bool:
+        """Whether so much waits that nothing more is to come."""
+        return bool(self.held) and (len(self.held) >= MOST_KEYS or sum(len(key.text) for key in self.held) >= MOST_TEXT)
+
+    # ---- names, and ends
+
+    def ask_name(self) -> None:
+        """Asks for the name of the window where the person is."""
+        number = self.here()
+        asked = AskedName(number, self.told.names.get(number, ""))
+        self.front.commands.prompts.ask_line(asked, lambda text: self.say(f"name {number} {name_word(text)}"))
+
+    def ask_shut(self) -> None:
+        """Shuts the window where the person is: once that is confirmed, where something runs there, or it is the last."""
+        number, busy = self.here(), self.front.commands.session.busy()
+        is_last = self.numbers() in ([], [number])
+        runs = "" if busy == {} else f", with {told(busy)}" if busy else ", with whatever runs there"
+        if not runs and not is_last:
+            self.say(f"shut {number}")
+            return
+        end = " and end the session, whose last it is" if is_last else ""
+        self.front.commands.prompts.ask(f"shut window {number}{runs}{end}? y shuts it", lambda: self.say(f"shut {number}"))

@@ -1,0 +1,306 @@
+"""A pane that fills a person's terminal: the session is asked to be larger, the pane's part alone is shown, and the session gets the size
+back that it had."""
+from __future__ import annotations
+
+from roam_live.common import tty
+from roam_live.common.event_loop import Loop
+from roam_live.frontend.borders import splits_of
+from roam_live.frontend.display import NO_SIZE
+from roam_live.frontend.split_math import above, area_of, laid, size_for
+from roam_live.protocol.zoom_record import LEFT, MOST_ASKED, ZoomNote
+
+TYPE_CHECKING = False
+if TYPE_CHECKING:
+    from roam_live.common.tty import Size
+    from roam_live.frontend.commands import Commands
+    from roam_live.protocol.panes import Places, Rect
+
+# So many seconds after a larger size was taken, of which nothing is told, it was refused.
+REFUSES = 2.5
+
+# For so many seconds it may be told where the focus is that a command of this person moves, or what another has zoomed.
+FOCUS_WAIT = 1.0
+
+# So many seconds a line stands that tells why nothing is zoomed.
+TOLD = 3.0
+UNTOLD = "nothing is zoomed where the panes aren't told"
+ONE = "pane {} is the only one, and fills the session"
+LARGER = "pane {} has {} by {}, more than this terminal shows: nothing is zoomed"
+REFUSED = "the session isn't as large as it would have to be: nothing is zoomed"
+OTHERS = "the session has another size now: nothing is zoomed any more"
+
+# Acts after which nothing is zoomed, beside those that put another pane in focus.
+ENDS = ("split", "close", "next", "grow", "size")
+
+
+def places_at(places: Places, size: Size) -> Places:
+    """Where panes are once their session has a size."""
+    parts = splits_of(places.rects)
+    if not parts or size == places.size():
+        return places
+    box = area_of(places.rects)._replace(rows=size[0] - 1, cols=size[1])
+    return places._replace(rects=laid(parts, places.rects, box))
+
+
+class Zooming:
+    """The zoom of one person, if there is one."""
+
+    def __init__(self, commands: Commands, loop: Loop) -> None:
+        self.commands, self.loop = commands, loop
+        # The pane that is zoomed, 0 for none; where the panes are without that, and what the session is to have again and was asked for.
+        self.pane = 0
+        self.before: Places | None = None
+        self.note = ZoomNote((0, 0), ())
+        # What was told of the panes when the last size was asked for, while it may come; and where they were when the pane was shown.
+        self.awaited: Places | None = None
+        self.rects: dict[int, Rect] = {}
+        # Whether this terminal showed all of the session; the zoom of another that was looked after, and one without whose sizes the
+        # session was seen since.
+        self.showed_all = False
+        self.mended: ZoomNote | None = None
+        self.unseen: ZoomNote | None = None
+        # Whether the pane in focus is to be zoomed once it is told which that is, by what was typed, and whether another has a zoom.
+        self.waits = False
+
+    def is_on(self) -> bool:
+        """Whether a pane is zoomed, or will be soon."""
+        return self.pane > 0
+
+    def awaited_size(self) -> Size | None:
+        """The size that the session was asked for, while it may come."""
+        return self.note.asked[-1] if self.awaited else None
+
+    def area(self) -> Size:
+        """The rows and columns that a pane has to fill."""
+        rows, cols = tty.largest(self.commands.display.room())
+        return rows - 1, cols
+
+    def unzoomed(self, places: Places | None) -> Places | None:
+        """Where the panes are once nothing is zoomed."""
+        return places._replace(rects=self.before.rects) if places and self.before else places
+
+    # ---- begin and end
+
+    def switch(self) -> None:
+        """Zooms the pane in focus, or ends that."""
+        if self.pane:
+            self.end()
+            return
+        places = self.commands.places()
+        if places and not self.waits and not self.is_told(places):
+            self.waits = True
+            self.loop.later("zoom waits", FOCUS_WAIT, self.switch)
+            return
+        self.drop_wait()
+        places = self.commands.panes.places if places and not places.focus else places
+        size = self.own_size(places)
+        before = places_at(places, size) if places and places.focus and places.is_covered() else None
+        why = self.refusal(before)
+        if why or not places:
+            self.commands.display.tell(why, TOLD)
+            return
+        self.pane, self.before, self.showed_all = places.focus, before, self.commands.display.shows_all()
+        self.note = ZoomNote(size, ())
+        self.ask(places)
+
+    def is_told(self, places: Places | None) -> bool:
+        """Whether it is told which pane is in focus, and by the keeper whether another has a zoom, where one is about to."""
+        return bool(places and places.focus) and not (self.commands.shells and self.commands.shells.is_awaited())
+
+    def drop_wait(self) -> None:
+        """Waits no more for what is told of the focus."""
+        self.waits = False
+        self.loop.drop("zoom waits")
+
+    def own_size(self, places: Places | None) -> Size:
+        """The session's size where nobody has a zoom: that which another's end gives back."""
+        shells, size = self.commands.shells, self.commands.given or (places.size() if places else (0, 0))
+        note = shells.zoomed[1] if shells else None
+        return note.size if note and size in note.asked else size
+
+    def refusal(self, places: Places | None) -> str:
+        """Why the pane in focus isn't zoomed, by where the panes are while nobody has a zoom; nothing where it is."""
+        if not places:
+            return UNTOLD
+        rect, area = places.rects[places.focus], self.area()
+        if len(places.rects) == 1:
+            return ONE.format(places.focus)
+        return LARGER.format(places.focus, rect.rows, rect.cols) if rect.rows > area[0] or rect.cols > area[1] else ""
+
+    def ask(self, places: Places) -> None:
+        """Asks for the size at which the pane fills the terminal, and shows the pane once the session has it."""
+        parts = splits_of(places.rects)
+        size = size_for(self.area(), self.note.size, above(self.pane, parts, places.rects)) if parts else places.size()
+        if size == places.size() or size in self.note.asked or len(self.note.asked) >= MOST_ASKED:
+            self.show(places)
+            return
+        self.note = self.note._replace(asked=(*self.note.asked, size))
+        self.tell_keeper()
+        self.awaited = places
+        self.loop.later("zoom", REFUSES, self.give_up)
+        self.commands.display.hold()
+        self.commands.type_together(tty.size_act(size))
+
+    def show(self, places: Places) -> None:
+        """Shows the pane alone."""
+        self.awaited, self.rects = None, places.rects
+        self.loop.drop("zoom")
+        self.commands.display.zoom(places.rects[self.pane])
+
+    def stop(self) -> list[str]:
+        """Ends it, and tells the acts that give the session its size back."""
+        note, self.pane = self.note, 0
+        self.forget()
+        if not note.asked:
+            self.commands.display.zoom(None)
+            return []
+        self.commands.display.zoomed = None
+        self.commands.display.hold()
+        self.commands.expect(note.size)
+        return [tty.size_act(note.size)]
+
+    def end(self) -> None:
+        """Ends it."""
+        acts = self.stop()
+        if acts:
+            self.commands.type_together(*acts)
+
+    def forget(self) -> None:
+        """Knows no more of it, but for what the keeper was told."""
+        self.pane, self.before, self.awaited, self.rects = 0, None, None, {}
+        self.loop.drop("zoom")
+
+    def give_up(self) -> None:
+        """Ends it where the session hasn't got the size, and has taken all that was typed."""
+        if not self.commands.link.is_done():
+            self.loop.later("zoom", REFUSES, self.give_up)
+            return
+        self.commands.display.tell(REFUSED, TOLD)
+        self.end()
+
+    def ended_by(self, acts: tuple[str, ...]) -> tuple[str, ...]:
+        """Acts with those before them that give the session its size back, where they end it."""
+        if self.pane and any(act.split(" ")[0] in ENDS or act.startswith("focus ") and act != f"focus {self.pane}" for act in acts):
+            return *self.stop(), *acts
+        return acts
+
+    # ---- what is told
+
+    def told(self) -> None:
+        """Goes by what is told of the panes: it is over where another is in focus, or they are others, or the session's size is another
+        than it was asked for."""
+        places = self.commands.places()
+        if self.waits and self.is_told(places):
+            self.switch()
+            return
+        if not places or not self.pane:
+            self.tell_over()
+            return
+        sizes = [self.note.size, *self.note.asked]
+        earlier = [self.awaited.size(), *sizes[:-1]] if self.awaited else []
+        if places.focus != self.pane or places.rects.keys() != (self.before or places).rects.keys():
+            self.end()
+        elif not places.is_covered() or places.size() in earlier:
+            return
+        elif places.size() != sizes[-1]:
+            self.lose()
+        elif self.awaited:
+            self.ask(places)
+        elif places.rects != self.rects:
+            self.end()
+
+    def lose(self) -> None:
+        """Ends it where somebody gave the session another size, which stays."""
+        self.forget()
+        self.commands.display.zoom(None)
+        self.commands.display.tell(OTHERS, TOLD)
+        self.tell_over()
+
+    def resized(self) -> None:
+        """Goes by another size of the terminal, and by the one that the session would have there if nothing were zoomed."""
+        places, own = self.commands.panes.places, tty.largest(self.commands.display.room())
+        if not places or not self.before or not places.is_covered() or not tty.is_large_enough(own):
+            return
+        size = own if self.commands.follows(self.note.size, own, self.showed_all) else self.note.size
+        self.before, self.note = places_at(self.before, size), ZoomNote(size, self.note.asked[-1:])
+        why = self.refusal(self.before._replace(focus=self.pane))
+        if why:
+            self.commands.display.tell(why, TOLD)
+            self.end()
+            return
+        self.tell_keeper()
+        self.ask(places)
+
+    def overrule_own(self) -> None:
+        """Ends it where this person gives the session another size, which stays."""
+        if self.pane:
+            self.forget()
+            self.drop_note()
+            self.commands.display.zoom(None)
+
+    # ---- what the keeper knows
+
+    def tell_keeper(self) -> None:
+        """Tells the keeper of this zoom, before the session is asked for a size."""
+        if self.commands.shells:
+            self.commands.shells.note_zoom(self.note)
+
+    def tell_over(self) -> None:
+        """Tells the keeper that a zoom is over, once the session hasn't a size of it any more."""
+        shells, places = self.commands.shells, self.commands.panes.places
+        if shells and shells.zoom and not self.pane and places and places.is_covered() and places.size() not in shells.zoom.asked:
+            shells.note_zoom(None)
+
+    def drop_note(self) -> None:
+        """Tells the keeper that a zoom is over, whatever size the session has."""
+        if self.commands.shells and self.commands.shells.zoom and not self.pane:
+            self.commands.shells.note_zoom(None)
+
+    def leave(self) -> None:
+        """Ends it where the person leaves, and is told of no more."""
+        if self.pane:
+            self.end()
+
+    def left_by(self) -> ZoomNote | None:
+        """The zoom that a front end has left, as one that was killed, and that isn't looked after yet; None where there is none."""
+        shells = self.commands.shells
+        maker, note = shells.zoomed if shells else (0, None)
+        if maker or not note:
+            self.mended = self.unseen = None
+        return None if maker or self.pane or self.commands.link.watches or note == self.mended else note
+
+    def mend(self, is_late: bool = False) -> bool:
+        """Gives the session its size back where a front end made it larger that has left, and tells whether it does: what that typed last
+        may not be taken yet. Where somebody else types, or the session had another size meanwhile, it may have that of his zoom: of that
+        the keeper tells, maybe a moment after the panes are told, which is late enough."""
+        note, size = self.left_by(), self.session_size()
+        if not note or size == NO_SIZE:
+            return False
+        if size not in note.asked:
+            self.unseen = note
+            self.loop.drop("zoom comes")
+            self.loop.later("zoom left", LEFT, self.overrule_late)
+        elif is_late or note != self.unseen and self.commands.has_others() is False:
+            self.loop.drop("zoom comes")
+            self.commands.give(note.size)
+            return True
+        elif "zoom comes" not in self.loop.due:
+            self.loop.later("zoom comes", LEFT, lambda: self.commands.mend(is_late=True))
+        return False
+
+    def session_size(self) -> Size:
+        """The session's size, or the one that it was given and may still get."""
+        return self.commands.given or self.commands.session_size()
+
+    def overrule_late(self) -> None:
+        """Tells the keeper that such a zoom is over, where nothing has come of it."""
+        note, size = self.left_by(), self.session_size()
+        if note and size != NO_SIZE and size not in note.asked:
+            self.overrule()
+
+    def overrule(self) -> None:
+        """Tells the keeper that a zoom which a front end has left is over: the session's size is one that it was given otherwise."""
+        note = self.left_by()
+        if note and self.commands.shells:
+            self.mended = note
+            self.commands.shells.note_zoom(None)

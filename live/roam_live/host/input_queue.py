@@ -1,0 +1,205 @@
+"""What is typed into a pane and waits for its programs: bytes, and texts at the places of their marks."""
+from __future__ import annotations
+
+import re
+from collections import deque
+from collections.abc import Callable
+
+from roam_live.common.errors import UNREAD_LIMIT, keep, write
+from roam_live.host.pending_pastes import GivenText, GivenTexts
+from roam_live.protocol.paste_text import CLOSES, OPENS, without_brackets
+
+# A mark: APC, a name and ST, in their forms of U+009F and U+009C, in UTF-8; and the beginning of one at the end of what came.
+MARK = re.compile(rb"\xc2\x9f([0-9a-f]{16})\xc2\x9c")
+BEGUN = re.compile(rb"\xc2(?:\x9f(?:[0-9a-f]{0,16}|[0-9a-f]{16}\xc2))?\Z")
+LONGEST_BEGUN = 19
+
+INTERRUPT = b"\x03"
+
+
+class Marks:
+    """Finds marks in what is typed, however that is cut."""
+
+    def __init__(self) -> None:
+        self.rest = b""
+
+    def fed(self, typed: bytes) -> list[bytes]:
+        """The bytes before, between and behind marks, as they were typed, and the names of these between them: so every second one is a
+        name. What may begin a mark at the end waits for more."""
+        if not self.rest and b"\xc2" not in typed:
+            return [typed]
+        text, self.rest = self.rest + typed, b""
+        parts = MARK.split(text)
+        begun = BEGUN.search(parts[-1], max(0, len(parts[-1]) - LONGEST_BEGUN))
+        if begun:
+            self.rest, parts[-1] = begun[0], parts[-1][: begun.start()]
+        return parts
+
+
+class PlacedText:
+    """A text at its place: what of it, and of the brackets round it, is still to be typed."""
+
+    def __init__(self, text: GivenText) -> None:
+        self.text = text
+        self.waiting = bytearray()
+        self.length = self.tail = 0
+        self.has_begun = self.is_over = False
+
+    def __len__(self) -> int:
+        return len(self.waiting) if self.has_begun or self.is_over else self.text.length
+
+    def begin(self, is_bracketed: bool) -> None:
+        """Begins to type it: between brackets where it isn't plain and the program wants them."""
+        self.has_begun = True
+        data, self.text.data = self.text.data, b""
+        if is_bracketed and not self.text.is_plain:
+            self.waiting += OPENS + without_brackets(data) + CLOSES
+            self.tail = len(CLOSES)
+        else:
+            self.waiting += data
+        self.length = len(self.waiting)
+
+    def stop(self) -> None:
+        """Drops what of it isn't typed yet, but for brackets that are begun, and the rest of a character."""
+        self.is_over, self.text.data = True, b""
+        if not self.has_begun:
+            return
+        head = OPENS[self.length - len(self.waiting) :] if self.tail else b""
+        end = max(len(self.waiting) - self.tail, len(head))
+        cut = len(head)
+        while cut < end and self.waiting[cut] & 0xC0 == 0x80:
+            cut += 1
+        del self.waiting[cut:end]
+
+
+class TypedQueue:
+    """What waits for a pane's programs, in the order in which it was typed: one text after the other, each whole."""
+
+    def __init__(self, texts: GivenTexts, wants_brackets: Callable[[], object]) -> None:
+        self.texts, self.wants_brackets = texts, wants_brackets
+        self.marks = Marks()
+        self.parts: deque[bytearray | PlacedText] = deque()
+        # How many bytes wait that were typed as such.
+        self.typed = 0
+        # True if part of a pasted text was written since the last interrupt, and if it was bracketed; the number of typed bytes that were
+        # written behind it. `drops_unread` flushes the terminal if more bytes than these are unread, and returns True if it did.
+        self.is_pasted = self.is_bracketed = False
+        self.behind = 0
+        self.drops_unread: Callable[[int], bool] = lambda behind: False
+
+    def __bool__(self) -> bool:
+        return bool(self.parts)
+
+    def __len__(self) -> int:
+        return self.typed + sum(len(part) for part in self.parts if isinstance(part, PlacedText))
+
+    def take(self, typed: bytes) -> bool:
+        """Has what was typed wait, a text in the place of its mark, and tells whether all of it was kept. A mark of a text that isn't known
+        is nothing."""
+        is_kept = True
+        for place, part in enumerate(self.marks.fed(typed)):
+            if place % 2:
+                self.place(part.decode())
+            elif part:
+                is_kept = self.add(part) and is_kept
+        return is_kept
+
+    def place(self, name: str) -> None:
+        """Puts the text of a name here."""
+        text = self.texts.placed(name)
+        if text:
+            placed = PlacedText(text)
+            text.stop = placed.stop
+            self.parts.append(placed)
+
+    def add(self, typed: bytes) -> bool:
+        """Queue bytes, as far as there is room, and return True if all were kept. An interrupt drops what is unread of texts before it."""
+        if INTERRUPT in typed:
+            typed = self.interrupted(typed)
+        if not self.parts or not isinstance(self.parts[-1], bytearray):
+            self.parts.append(bytearray())
+        last = self.parts[-1]
+        assert isinstance(last, bytearray)
+        before = len(last)
+        is_kept = keep(last, typed, UNREAD_LIMIT - self.typed + before)
+        self.typed += len(last) - before
+        if not last:
+            self.parts.pop()
+        return is_kept
+
+    def interrupted(self, typed: bytes) -> bytes:
+        """Return what to type for bytes with an interrupt (C-c) in them.
+
+        If the program has read all pasted texts, that is the bytes themselves. Otherwise the unread texts are dropped, with all keys
+        between and behind them, and only the interrupts and what follows them are typed. A closing bracket comes first if a flush may
+        have dropped it.
+        """
+        is_dropped = self.is_pasted and self.drops_unread(self.behind)
+        first = next((place for place, part in enumerate(self.parts) if isinstance(part, PlacedText)), len(self.parts))
+        if first == len(self.parts) and not is_dropped:
+            self.is_pasted = self.is_bracketed = False
+            return typed
+        closes = CLOSES if is_dropped and self.is_bracketed and self.wants_brackets() else b""
+        self.is_pasted = self.is_bracketed = False
+        begun = self.parts[0] if self.parts and not is_dropped else None
+        if isinstance(begun, PlacedText) and begun.has_begun:
+            # Its closing bracket is still typed, and the rest of a character.
+            begun.stop()
+            self.texts.drop(begun.text)
+            first = 1
+        self.drop_from(0 if is_dropped else first)
+        return closes + INTERRUPT * typed.count(INTERRUPT) + typed.rpartition(INTERRUPT)[2]
+
+    def drop_from(self, place: int) -> None:
+        """Drop the parts of the queue from an index on."""
+        while len(self.parts) > place:
+            part = self.parts.pop()
+            if isinstance(part, PlacedText):
+                part.stop()
+                self.texts.drop(part.text)
+            else:
+                self.typed -= len(part)
+
+    def write(self, end: int) -> None:
+        """Writes what the programs take now; what is gone takes no more."""
+        part = self.parts[0] if self.parts else bytearray()
+        if isinstance(part, PlacedText) and not (part.has_begun or part.is_over):
+            part.begin(bool(self.wants_brackets()))
+        waiting = part if isinstance(part, bytearray) else part.waiting
+        before = len(waiting)
+        if waiting and not write(end, waiting):
+            self.clear()
+            return
+        self.note_written(part, before - len(waiting))
+        if len(waiting) < before:
+            self.renew()
+        if self.parts and not waiting:
+            self.end_first()
+
+    def note_written(self, part: bytearray | PlacedText, count: int) -> None:
+        """Count bytes of a part that were written to the terminal."""
+        if isinstance(part, bytearray):
+            self.typed -= count
+            self.behind += count
+        elif count:
+            self.is_pasted, self.behind = True, 0
+            self.is_bracketed = self.is_bracketed or part.tail > 0
+
+    def renew(self) -> None:
+        """Has texts wait longer, since the programs read."""
+        for part in self.parts:
+            if isinstance(part, PlacedText):
+                self.texts.renew(part.text)
+
+    def end_first(self) -> None:
+        """Goes on behind what is written whole."""
+        part = self.parts.popleft()
+        if isinstance(part, PlacedText):
+            self.texts.drop(part.text)
+
+    def clear(self) -> None:
+        """Drops all, since nobody is there any more."""
+        while self.parts:
+            self.end_first()
+        self.typed, self.marks = 0, Marks()
+        self.is_pasted = self.is_bracketed = False

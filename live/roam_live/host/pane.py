@@ -1,0 +1,452 @@
+"""A pane of a session at the keeper of its shells: the command on its pseudo-terminal, the pane's socket, and what waits for either."""
+from __future__ import annotations
+
+import contextlib
+import fcntl
+import math
+import os
+import signal
+import socket
+import struct
+import termios
+from collections.abc import Callable
+
+from roam_live.common import tty
+from roam_live.common.errors import ASKS_WHY, UNREAD_LIMIT, connected_now, read, reason, say, write
+from roam_live.common.event_loop import Loop, always, comes
+from roam_live.common.fault_log import SoonFaults
+from roam_live.host.input_queue import TypedQueue
+from roam_live.host.output_scan import Keypad
+from roam_live.protocol.bells import Bells
+from roam_live.session.environment import AGENT, NAMES, Brought, agent_in
+from roam_live.session.foreground import PANE, group_in_front
+
+# How many bytes may wait for a pane; no more of the command's are read then. What waits here and in the socket is what is still shown
+# of a command that has been interrupted, so it is little.
+LIMIT = 16384
+SOCKET_LIMIT = 8192
+
+# What tells of another terminal.
+FOREIGN = ("COLUMNS", "LINES", "TERMCAP", "TMUX", "TMUX_PANE", "STY", "WINDOWID", "VTE_VERSION", "XTERM_VERSION", "KONSOLE_VERSION",
+           "TERM_PROGRAM", "TERM_PROGRAM_VERSION")
+
+# What was typed before a shell is there again has come once nothing more comes for so many seconds: a client says again what wasn't taken.
+SETTLES = 0.5
+
+# TIOCGPTPEER (Linux): opens the slave of a pseudo-terminal by its master. Python has no name for it before 3.13.
+OPENS_THEIRS = 0x5441
+
+# So many seconds a server has until it reads what a pane's programs write.
+READ_WAIT = 3.0
+
+# After a command has ended, its terminal is read until end of file. If another process still holds the terminal, reading stops once it was
+# empty twice, LAST_WAIT seconds apart, or once MOST_LAST bytes were read: a terminal buffers less. If the pane takes nothing now, the
+# host looks again after LAST_LATER seconds.
+LAST_WAIT = 0.02
+MOST_LAST = 1 << 16
+LAST_LATER = 0.25
+
+GIVEN_UP = b"\r\n[closed after internal errors; a key starts the command again]\r\n"
+DROPPED = b"\r\n[a new shell; what was typed since the last one ended is dropped]\r\n"
+NOT_RUN = "[not run: {}; a key tries again]\r\n"
+
+# What a pane has whose shell can't be run.
+LAST_SHELL = "/bin/sh"
+
+
+class Options:
+    """What a keeper is asked for, of the panes in a folder: their command, the user's shell where none is named; the server's process,
+    where it is known; whether a command's end closes its pane, and whether another keeper was there before. Where they are those of a
+    window of a session, its number, and the session's own folder; or whether the folder is that of a session with windows,
+    of which the first one's server is being spawned by who launches it."""
+
+    def __init__(self, *, folder: str, command: list[str] | None = None, server: int | None = None, close: bool = False,
+                 again: bool = False, window: int = 0, common: str = "", has_windows: bool = False,
+                 is_first: bool = False) -> None:
+        self.dir, self.server, self.close, self.again, self.has_windows = folder, server, close, again, has_windows
+        self.is_first = is_first
+        self.window, self.common = window, common or folder
+        self.command = command or [os.environ.get("SHELL") or LAST_SHELL]
+        self.instead = None if command else LAST_SHELL
+
+    def of_window(self, window: int, folder: str, server: int, again: bool) -> Options:
+        """The same, of the panes of a window."""
+        found = Options(folder=folder, server=server, close=True, again=again, window=window, common=self.common)
+        found.command, found.instead = self.command, self.instead
+        return found
+
+    def named(self, pane: int) -> str:
+        """A pane in words."""
+        return f"pane {pane} of window {self.window}" if self.window else f"pane {pane}"
+
+
+def surroundings(asked: Options, pane: int, brought: Brought) -> dict[str, str]:
+    """The environment of a pane's command, with what was brought to the session."""
+    kept = {name: value for name, value in os.environ.items() if name not in (*FOREIGN, *NAMES, ASKS_WHY)}
+    return {**kept, **tty.names(), **brought.set_values(), AGENT: agent_in(asked.common), PANE: f"{asked.dir}:{pane}"}
+
+
+def entered(folder: str) -> dict[str, str]:
+    """What tells a pane's command of the folder that this process enters for it; nothing where that can't be entered."""
+    try:
+        os.chdir(folder)
+    except OSError:
+        return {}
+    return {"PWD": folder}
+
+
+def say_in(path: str, text: str) -> None:
+    """Says a line in a pane that has no shell: where another is connected there, or nothing can be had for it, it isn't said."""
+    with contextlib.suppress(OSError), connected_now(path) as peer:
+        peer.send(text.encode("utf-8", "replace"))
+
+
+class PaneCommand:
+    """A pane: its command on a pseudo-terminal, the pane's socket, and what waits for either.
+
+    It has no socket before it is connected, and no terminal before its command is run.
+    """
+
+    def __init__(self, asked: Options, loop: Loop, number: int, life: int, size: tty.Size, is_again: bool, folder: str,
+                 typed: TypedQueue) -> None:
+        self.asked, self.loop, self.number, self.life, self.size, self.is_again = asked, loop, number, life, size, is_again
+        self.path = f"{asked.dir}/p{number}"
+        self.named = asked.named(number)
+        # Where its command begins; and its own one, where it isn't that of all panes.
+        self.folder = folder
+        self.command: list[str] = []
+        self.peer: socket.socket | None = None
+        self.process: int | None = None
+        self.terminal: int | None = None
+        self.is_connected = self.is_told = False
+        self.to_pane, self.to_terminal = bytearray(), typed
+        typed.drops_unread = self.drops_unread
+        # Whether something that was typed was dropped since its programs had read all.
+        self.is_dropping = False
+        # True once the command has ended; bytes read since then, when the terminal was first found empty, and a last line to show.
+        self.has_ended = False
+        self.last_read, self.empty_at, self.last_words = 0, math.inf, b""
+        # How much was written there, and whether what was typed before another kept the shell may still come.
+        self.written = 0
+        self.is_settling = False
+        # When its close is asked for anew.
+        self.asked_until = 0.0
+        self.bells, self.has_rung = Bells(), False
+        self.keypad = Keypad()
+        # True if something was typed or written, or written, since the last look. `touches` is called then, and at the end of a command.
+        self.is_touched = self.has_news = False
+        self.touches: Callable[[], object] = lambda: None
+        # What new panes have of those who attached.
+        self.brought = Brought()
+        # What has it known what the server told of the panes before it handed out what was typed.
+        self.follows: Callable[[], object] = lambda: None
+        # What takes all that is written to the pane, for the rows that are kept, and whether it takes more now.
+        self.keeps: Callable[[bytes], object] = lambda data: None
+        self.hears: Callable[[], bool] = always
+        # Exceptions in callbacks of this pane, and what is called after too many.
+        self.faults = SoonFaults(loop.clock)
+        self.gives_up: Callable[[], object] = lambda: None
+
+    def connect(self, look: Callable[[], object]) -> None:
+        """Connects to the pane; a call is for when it can be looked whether the server reads what is written."""
+        self.peer = connected_now(self.path)
+        self.peer.setsockopt(socket.SOL_SOCKET, socket.SO_SNDBUF, SOCKET_LIMIT)
+        self.is_connected = True
+        # What is typed is read whatever waits: a command that doesn't read would stop the server else.
+        self.loop.add(self.peer, self.hear, self.write_pane, has_more=lambda: self.to_pane, fails=self.fail, is_told=True)
+        self.loop.later(f"look at {self.named}", READ_WAIT, look)
+
+    def settle(self) -> None:
+        """Waits until what was typed before has come, and drops it."""
+        self.is_settling = True
+        self.loop.later(f"settle {self.named}", SETTLES, self.settled)
+
+    def settled(self) -> None:
+        """Runs the command, since what was typed before has come."""
+        self.is_settling = False
+        self.show(DROPPED)
+        self.run()
+
+    def show(self, text: bytes) -> None:
+        """Send output to the pane, at once as far as it takes it, and to the kept rows."""
+        is_first = not self.to_pane
+        self.to_pane += text
+        self.keeps(text)
+        if is_first:
+            self.write_pane()
+        if self.to_pane:
+            self.see_to_ends()
+
+    def see_to_ends(self) -> None:
+        """Have the loop ask both ends which events they wait for."""
+        for end in (self.peer, self.terminal):
+            if end is not None:
+                self.loop.changed(end)
+
+    def run(self) -> None:
+        """Runs the command; where it can't be spawned a line in the pane says why."""
+        try:
+            self.process, self.terminal = tty.forked(self.size)
+        except OSError as fault:
+            self.show(NOT_RUN.format(reason(fault)).encode())
+            return
+        if self.process == 0:
+            try:
+                environment = {**surroundings(self.asked, self.number, self.brought), **entered(self.folder)}
+                tty.become(self.command or self.asked.command, environment, None if self.command else self.asked.instead)
+            finally:
+                os._exit(127)
+        os.set_inheritable(self.terminal, False)
+        os.set_blocking(self.terminal, False)
+        self.loop.add(self.terminal, self.hear_terminal, self.write_terminal, has_more=lambda: self.to_terminal.parts,
+                      hears=self.has_room, fails=self.fail, is_told=True)
+
+    def has_room(self) -> bool:
+        """Return True if more output is read now."""
+        return len(self.to_pane) < LIMIT and self.hears()
+
+    def resize(self, size: tty.Size) -> None:
+        """Tells the programs a new size."""
+        if size != self.size and self.terminal is not None:
+            with contextlib.suppress(OSError):
+                tty.set_size(self.terminal, *size)
+        self.size = size
+
+    def close_terminal(self) -> None:
+        """Closes the terminal, which hangs up the programs that are left there."""
+        if self.terminal is not None:
+            self.loop.remove(self.terminal)
+            os.close(self.terminal)
+            self.terminal = None
+        self.to_terminal.clear()
+
+    def close_peer(self) -> None:
+        """Closes the connection to the pane, which takes no more."""
+        if self.peer:
+            self.loop.remove(self.peer)
+            self.peer.close()
+            self.peer = None
+        self.to_pane.clear()
+        self.see_to_ends()
+
+    def fail(self, fault: Exception) -> None:
+        """Drop the piece whose callback failed, and give up after too many failures. If memory is short, only pause."""
+        is_last = not isinstance(fault, MemoryError) and self.faults.is_last()
+        if is_last:
+            self.gives_up()
+        if is_last or isinstance(fault, MemoryError):
+            # A callback that fails before it has read anything would be called again at once.
+            for end in (self.peer, self.terminal):
+                if end is not None:
+                    self.loop.pause(end)
+
+    def give_up(self) -> None:
+        """End the programs after too many failures. The next key starts the command anew."""
+        self.end_programs()
+        self.to_pane.clear()
+        self.process, self.has_ended = None, False
+        self.show(GIVEN_UP)
+
+    def hang_up(self) -> None:
+        """Ends the pane's programs, and the connection to the pane."""
+        for what in ("look at", "settle", "close", "last of"):
+            self.loop.drop(f"{what} {self.named}")
+        self.close_peer()
+        self.end_programs()
+
+    def end_programs(self) -> None:
+        """Ends the pane's programs."""
+        self.close_terminal()
+        if self.process is not None and self.runs():
+            for number in (signal.SIGHUP, signal.SIGCONT):
+                # A process that has become another user's is hung up by its terminal alone.
+                with contextlib.suppress(OSError):
+                    os.kill(self.process, number)
+
+    def runs(self) -> bool:
+        """Whether its command was spawned, and hasn't ended."""
+        return self.process is not None and not self.has_ended
+
+    def is_typed_into(self) -> bool:
+        """Return True if a program may read what is typed."""
+        return self.terminal is not None and not self.has_ended
+
+    def ends(self, words: bytes = b"") -> None:
+        """Note that the command has ended: type nothing more, and read its last output as the pane takes it. `words` are shown behind it.
+
+        Processes that it left behind are hung up once that output is read.
+        """
+        self.has_ended, self.last_words = True, words
+        self.to_terminal.clear()
+        if self.terminal is None:
+            self.finish()
+        else:
+            self.read_last()
+
+    def read_last(self) -> None:
+        """Read on after the end of the command, if the pane takes more."""
+        if self.terminal is not None and self.has_room():
+            self.hear_terminal()
+        elif self.terminal is not None:
+            self.loop.later(f"last of {self.named}", LAST_LATER, self.read_last)
+
+    def note_last(self, count: int, is_empty: bool) -> None:
+        """Count what was read since the command ended, and close the terminal if that is all."""
+        now = self.loop.clock()
+        self.last_read += count
+        self.empty_at = min(self.empty_at, now) if is_empty else self.empty_at
+        if self.last_read >= MOST_LAST or is_empty and now >= self.empty_at + LAST_WAIT:
+            self.take(b"")
+        elif is_empty:
+            self.loop.at(f"last of {self.named}", self.empty_at + LAST_WAIT, self.read_last)
+
+    def finish(self) -> None:
+        """Show the last line, behind all output of an ended command."""
+        self.loop.drop(f"last of {self.named}")
+        self.show(self.last_words)
+        self.last_words = b""
+        self.touches()
+
+    def hear(self) -> None:
+        """Takes what was typed. Where no command could be spawned a key tries again."""
+        self.follows()
+        if not self.peer:
+            # By what was told the pane is gone.
+            return
+        typed = read(self.peer.fileno())
+        if typed:
+            self.touch()
+        if typed == b"":
+            self.close_peer()
+        elif self.is_settling:
+            self.settle()
+        elif self.is_typed_into():
+            self.wait_typed(typed or b"")
+        elif typed and self.process is None:
+            self.run()
+
+    def touch(self) -> None:
+        """Note that something was typed or written."""
+        self.is_touched = True
+        self.touches()
+
+    def hear_terminal(self) -> None:
+        """Takes what the programs wrote, as far as there is room: a program that writes line by line hands out little at once."""
+        pieces: list[bytes] = []
+        room, written = LIMIT - len(self.to_pane), None
+        while self.terminal is not None and room > 0:
+            written = read(self.terminal)
+            if not written:
+                break
+            pieces.append(written)
+            room -= len(written)
+        if pieces:
+            self.take(b"".join(pieces))
+        if written == b"":
+            self.take(written)
+        elif self.has_ended:
+            self.note_last(sum(map(len, pieces)), room > 0)
+
+    def write_terminal(self) -> None:
+        """Writes what the programs take; what is gone takes no more."""
+        if self.terminal is not None:
+            self.to_terminal.write(self.terminal)
+            self.is_dropping = self.is_dropping and bool(self.to_terminal)
+            if self.to_terminal.parts:
+                self.loop.changed(self.terminal)
+
+    def write_pane(self) -> None:
+        """Writes what the pane takes now of what waits for it."""
+        waiting = len(self.to_pane)
+        if self.peer and waiting and not write(self.peer.fileno(), self.to_pane):
+            self.close_peer()
+        self.written += waiting - len(self.to_pane)
+        if waiting >= LIMIT:
+            self.see_to_ends()
+        if self.has_ended and not self.to_pane:
+            self.touches()
+
+    def is_unread(self) -> bool:
+        """Whether something was written to the pane, no more than the socket holds, and is there still."""
+        if not self.peer or not 0 < self.written <= 2 * SOCKET_LIMIT:
+            return False
+        with contextlib.suppress(OSError):
+            waiting: int = struct.unpack("i", fcntl.ioctl(self.peer, termios.TIOCOUTQ, bytes(4)))[0]
+            return waiting > 0
+        return False
+
+    def wait_typed(self, typed: bytes) -> None:
+        """Has what was typed wait for the programs. What they leave unread above a limit is dropped, which is told once until they have
+        read all."""
+        if not self.to_terminal.take(typed) and not self.is_dropping:
+            self.is_dropping = True
+            say(f"{self.named}: what is typed isn't read there; above {UNREAD_LIMIT} bytes it is dropped")
+        if self.to_terminal.parts:
+            self.write_terminal()
+
+    def drops_unread(self, behind: int) -> bool:
+        """Flush the terminal's input if more than `behind` bytes of it are unread, and return True if so.
+
+        The slave is opened for this alone: flushing the master would drop the programs' output.
+        """
+        with contextlib.suppress(OSError, termios.error):
+            assert self.terminal is not None
+            theirs = fcntl.ioctl(self.terminal, OPENS_THEIRS, os.O_RDWR | os.O_NOCTTY | os.O_CLOEXEC)
+            try:
+                # Polling moves bytes that the kernel still holds back into the input queue.
+                comes(theirs, 0)
+                if struct.unpack("i", fcntl.ioctl(theirs, termios.FIONREAD, bytes(4)))[0] > behind:
+                    termios.tcflush(theirs, termios.TCIFLUSH)
+                    return True
+            finally:
+                os.close(theirs)
+        return False
+
+    def type(self, answer: bytes) -> None:
+        """Type an answer to the program, if it may read one."""
+        if self.is_typed_into():
+            self.to_terminal.add(answer)
+            self.write_terminal()
+
+    def in_front(self) -> list[int | None]:
+        """The processes by whose working folder a new pane's is chosen: the first of those in front here, and this pane's command."""
+        return [group_in_front(self.terminal), self.process] if self.terminal is not None else []
+
+    def take(self, written: bytes | None) -> None:
+        """Takes what the programs wrote; where none has the terminal any more it is closed."""
+        if written == b"":
+            self.close_terminal()
+            if self.has_ended:
+                self.finish()
+        elif written:
+            self.has_news = True
+            self.touch()
+            self.has_rung = self.bells.rung(written) or self.has_rung
+            self.keypad.fed(written)
+            self.show(written)
+
+
+class Spare:
+    """A descriptor that is kept for what has to be had where no other is left."""
+
+    def __init__(self) -> None:
+        self.end: int | None = None
+
+    def free(self) -> None:
+        """Gives it free."""
+        if self.end is not None:
+            os.close(self.end)
+            self.end = None
+
+    def keep(self) -> None:
+        """Has it again; OSError where none is to be had."""
+        if self.end is None:
+            self.end = os.open(os.devnull, os.O_RDONLY)
+
+
+def has_ended(process: int) -> bool:
+    """Whether a process of this tool has ended."""
+    try:
+        return os.waitpid(process, os.WNOHANG)[0] != 0
+    except ChildProcessError:
+        return True

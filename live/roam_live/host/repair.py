@@ -1,0 +1,132 @@
+"""Restores what a cleaner of old files removed of a session with windows: the sockets of the pty host, and the notes of its processes.
+
+Without them the session would run on, but nobody could find it or end it.
+"""
+from __future__ import annotations
+
+import json
+import os
+import stat
+
+from roam_live.common.errors import Fault, begun, log_to, reason, replace_text
+from roam_live.host.window import MENDED, UNMENDED
+from roam_live.session.environment import begin_agent
+from roam_live.session.window_state import WINDOWS_VERSION, window_folder, windows_folder
+
+TYPE_CHECKING = False
+if TYPE_CHECKING:
+    from roam_live.host.windows import KeptWindow, Windows
+    from roam_live.session.sessions import WindowedSession
+
+# Suffixes of a session whose name was taken run from 2 to LAST_NUMBER. LONGEST_NAME is the limit of a session's name.
+LAST_NUMBER = 999
+LONGEST_NAME = 32
+
+RENAMED = "the session's folder was removed and another session has its name; this session is now called {}"
+
+
+def names_beside(name: str) -> list[str]:
+    """Return the names to try for a session whose name is taken."""
+    return [f"{name[: LONGEST_NAME - len(str(number)) - 1]}-{number}" for number in range(2, LAST_NUMBER + 1)]
+
+
+def renew_log(folder: str) -> None:
+    """Open a new log in a folder if the log of this process was removed."""
+    found = os.fstat(2)
+    if stat.S_ISREG(found.st_mode) and not found.st_nlink:
+        log = os.open(os.path.join(folder, "log"), os.O_WRONLY | os.O_APPEND | os.O_CREAT | os.O_CLOEXEC | os.O_NOFOLLOW, 0o600)
+        os.dup2(log, 2)
+        os.close(log)
+    log_to(folder)
+
+
+class Mending:
+    """Checks for a pty host with windows whether others can find it."""
+
+    def __init__(self, windows: Windows) -> None:
+        self.windows = windows
+        # The last message about a failure: it isn't repeated.
+        self.said = ""
+
+    def there(self) -> list[KeptWindow]:
+        """Return the windows that have sockets."""
+        return [window for window in self.windows.windows.values() if window.shells]
+
+    def look(self) -> None:
+        """Restore what is missing, unless somebody holds the session's lock, as one who launches something there."""
+        if all(window.shells.is_found() for window in self.there() if window.shells):
+            return
+        from roam_live.session.sessions import WindowedSession
+
+        session = WindowedSession(self.windows.asked.common)
+        try:
+            with session.locked(may_wait=False):
+                self.mend(session)
+                self.said = ""
+        except BlockingIOError:
+            # The next look tries again.
+            pass
+        except (Fault, OSError) as fault:
+            self.tell(UNMENDED.format(reason(fault)))
+
+    def tell(self, words: str) -> None:
+        """Report a failure once."""
+        if words != self.said:
+            self.said = words
+            self.windows.common.tell(words)
+
+    def mend(self, session: WindowedSession) -> None:
+        """Restore everything, under a new name if another session has this one. The caller holds the session's lock."""
+        common, told = self.windows.asked.common, MENDED
+        if self.is_taken(session):
+            common = self.move()
+            told = RENAMED.format(os.path.basename(common))
+        renew_log(common)
+        self.note(common)
+        for window in self.there():
+            window.processes.make_folder()
+            window.processes.note()
+            if window.name:
+                window.processes.note_name(window.name)
+            if window.shells:
+                window.shells.listen_in(window.processes.folder)
+        self.windows.common.tell(told)
+
+    @staticmethod
+    def is_taken(session: WindowedSession) -> bool:
+        """Return True if another session has the name by now."""
+        found = (session.process(session.served), session.listener(session.sockets[session.served]))
+        return any(process not in (None, os.getpid()) for process in found)
+
+    def move(self) -> str:
+        """Give the session another name, and return its new folder."""
+        windows, before = self.windows, self.windows.asked.common
+        for name in names_beside(os.path.basename(before)):
+            common = os.path.join(os.path.dirname(before), name)
+            try:
+                os.mkdir(common, 0o700)
+            except FileExistsError:
+                continue
+            break
+        else:
+            raise Fault("no name is free for this session")
+        windows.asked.common, windows.folder = common, windows_folder(common)
+        windows.common.shells.unmet.folder = common
+        for window in self.there():
+            window.processes.common, window.processes.folder = common, window_folder(common, window.number)
+            if window.shells:
+                window.shells.asked.common = common
+        begin_agent(common)
+        windows.begin_lasting()
+        return common
+
+    def note(self, common: str) -> None:
+        """Write the note of this process, and which window was shown last."""
+        asked = self.windows.asked
+        command = [] if asked.instead else asked.command
+        state = {"version": WINDOWS_VERSION, "command": command, "shells": [os.getpid(), begun(os.getpid())]}
+        replace_text(os.path.join(common, "state.json"), json.dumps(state))
+        os.makedirs(windows_folder(common), 0o700, exist_ok=True)
+        if self.windows.last:
+            self.windows.note_last()
+        self.windows.lasting.own = self.windows.lasting.found()

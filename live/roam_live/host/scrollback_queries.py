@@ -1,0 +1,228 @@
+"""What is answered at the keeper's socket `shells` of the rows that are kept of panes."""
+from __future__ import annotations
+
+from collections.abc import Callable
+
+from roam_live.host.scrollback import KeptPane, RowKeeper, pane_key, pane_of_key
+from roam_live.host.scrollback_store import KeptRange, Search, Snapshot
+
+# So many seconds are spent at once on what is looked for, and so many pass between two lines that tell how many rows came.
+SEARCHES = 0.01
+TELLS_MORE = 0.5
+
+# No number has so many digits.
+MOST_DIGITS = 15
+
+NONE, END = "none", "end"
+BACK = {"back": True, "on": False}
+
+
+def numbers_in(words: list[str]) -> list[int] | None:
+    """The numbers that words are, of which the first is that of a pane; None where they aren't."""
+    if not all(word.isascii() and word.isdigit() and len(word) <= MOST_DIGITS for word in words):
+        return None
+    numbers = [int(word) for word in words]
+    return numbers if numbers and 1 <= numbers[0] <= 9 else None
+
+
+class RowAsker:
+    """One who asks for rows: its snapshot, what is looked for, and which rows it writes down. A call answers it, one tells it a line that
+    it didn't ask for, and one is for an answer that came later than the question, behind which its next question is taken."""
+
+    def __init__(self, keeper: RowKeeper, answer: Callable[[bytes], object], tells: Callable[[str], object],
+                 goes_on: Callable[[], object], window: int = 0) -> None:
+        self.keeper, self.answer, self.tells, self.goes_on = keeper, answer, tells, goes_on
+        # The window whose panes are meant.
+        self.window = window
+        self.snapshot: Snapshot | None = None
+        # How many rows are known to have come since, and when that may be told again.
+        self.more, self.more_due = 0, 0.0
+        # Whether a snapshot is awaited, of which question; what is looked for, and what its answer begins with.
+        self.awaited = 0
+        self.is_asking = False
+        self.search: Search | None = None
+        self.found_begin = ""
+        # The pane whose rows it writes down as they come, and the next of them.
+        self.logged: KeptPane | None = None
+        self.next_row = 0
+        # Whether it was waited for, and is waited for no more until it has all.
+        self.is_late = False
+        self.is_closed = False
+
+    def waits(self) -> bool:
+        """Whether a question isn't answered yet: the next one is taken behind that."""
+        return bool(self.awaited) or self.search is not None
+
+    # ---- questions
+
+    def take(self, line: str) -> bool:
+        """Takes a line, and tells whether it is one of these."""
+        word, *words = line.split(" ")
+        counts = {"count": 2, "snapshot": 2, "release": 2, "log": 3, "rows": 4}
+        if word == "find":
+            return self.find(line.split(" ", 5)[1:])
+        numbers = numbers_in(words) if len(words) == counts.get(word) else None
+        if not numbers:
+            return False
+        asks: dict[str, Callable[..., object]] = {"count": self.count, "snapshot": self.ask_snapshot, "release": self.release,
+                                                  "log": self.log, "rows": self.rows}
+        asks[word](*numbers)
+        return True
+
+    def say(self, line: str, data: bytes = b"") -> None:
+        """Answers with a line, and bytes behind it."""
+        self.answer(f"{line}\n".encode() + data)
+
+    def key(self, pane: int) -> int:
+        """The number of a pane among those of all windows."""
+        return pane_key(self.window, pane)
+
+    def range(self, pane: int, life: int) -> KeptRange | None:
+        """The rows that are meant: those of the snapshot that is held, else those that are kept now."""
+        held = self.snapshot
+        if held and (held.pane, held.life) == (self.key(pane), life):
+            return None if held.is_lost else held
+        kept = self.keeper.pane(self.key(pane), life)
+        return kept.rows.range() if kept else None
+
+    def count(self, pane: int, life: int) -> None:
+        """Tells the numbers of the rows."""
+        among = self.range(pane, life)
+        self.say(f"count {pane} {life} {among.first} {among.end}" if among else f"count {pane} {life} {NONE}")
+
+    def rows(self, pane: int, life: int, first: int, count: int) -> None:
+        """Tells rows."""
+        among = self.range(pane, life)
+        if among:
+            self.say_rows(pane, life, *among.rows(first, count))
+        else:
+            self.say(f"rows {pane} {life} {NONE}")
+
+    def say_rows(self, pane: int, life: int, first: int, found: list[bytes]) -> None:
+        """Answers with rows."""
+        data = b"".join([row + b"\n" for row in found])
+        self.say(f"rows {pane} {life} {first} {len(found)} {len(data)}", data)
+
+    def find(self, words: list[str]) -> bool:
+        """Looks for a text, which is told later; whether these are such words."""
+        numbers = numbers_in(words[:3]) if len(words) == 5 and words[3] in BACK and words[4] else None
+        if not numbers:
+            return False
+        pane, life, start = numbers
+        among = self.range(pane, life)
+        self.found_begin = f"found {pane} {life}"
+        if among:
+            self.search = Search(among, start, BACK[words[3]], words[4])
+        else:
+            self.say(f"{self.found_begin} {NONE}")
+        return True
+
+    def ask_snapshot(self, pane: int, life: int) -> None:
+        """Asks for a snapshot, which is told once it is there; it takes the place of another."""
+        self.let_go()
+        self.awaited, self.is_asking = self.awaited + 1, True
+        self.keeper.ask_snapshot(self.key(pane), life, lambda snapshot: self.take_snapshot(pane, life, snapshot))
+        self.is_asking = False
+
+    def take_snapshot(self, pane: int, life: int, snapshot: Snapshot | None) -> None:
+        """Answers with a snapshot."""
+        if self.is_closed:
+            if snapshot:
+                self.keeper.room.release(snapshot)
+            return
+        self.awaited = 0
+        self.snapshot, self.more, self.more_due = snapshot, 0, 0.0
+        if snapshot:
+            screen = snapshot.screen
+            self.say(f"snapshot {pane} {life} {snapshot.first} {snapshot.kept_end} {screen.count} {len(screen.data)}", screen.data)
+        else:
+            self.say(f"snapshot {pane} {life} {NONE}")
+        if not self.is_asking:
+            self.goes_on()
+
+    def release(self, pane: int, life: int) -> None:
+        """Lets a snapshot go."""
+        if self.snapshot and (self.snapshot.pane, self.snapshot.life) == (self.key(pane), life):
+            self.let_go()
+
+    def let_go(self) -> None:
+        """Lets go of the snapshot that is held."""
+        if self.snapshot:
+            self.keeper.room.release(self.snapshot)
+            self.snapshot = None
+
+    def log(self, pane: int, life: int, first: int) -> None:
+        """Tells each row from a number on as it comes, until the pane is gone; the last screen too then."""
+        self.unlog()
+        self.logged = self.keeper.pane(self.key(pane), life)
+        if self.logged:
+            self.logged.logs += 1
+            self.keeper.logs += 1
+            self.next_row, self.is_late = first, False
+        else:
+            self.say(f"log {pane} {life} {NONE}")
+
+    def unlog(self) -> None:
+        """Tells no more rows as they come."""
+        if self.logged:
+            logged, self.logged = self.logged, None
+            logged.logs -= 1
+            self.keeper.logs -= 1
+            self.keeper.unlogged(logged)
+
+    # ---- what is told later
+
+    def turn(self, now: float, has_room: bool) -> float | None:
+        """Goes on with what isn't told yet; has the moment by which it has to be called again, or None."""
+        dues = [self.go_on_search(now), self.tell_more(now), now if has_room and self.tell_logged() else None]
+        return min((due for due in dues if due is not None), default=None)
+
+    def go_on_search(self, now: float) -> float | None:
+        """Looks through what is to be looked through, for a while."""
+        search, clock = self.search, self.keeper.loop.clock
+        if not search:
+            return None
+        end = clock() + SEARCHES
+        while not search.step():
+            if clock() >= end:
+                return now
+        self.search = None
+        self.say(f"{self.found_begin} {NONE if search.found is None else search.found}")
+        self.goes_on()
+        return None
+
+    def tell_more(self, now: float) -> float | None:
+        """Tells how many rows came since the snapshot, where that is another number than was told."""
+        held = self.snapshot
+        kept = self.keeper.pane(held.pane, held.life) if held else None
+        if not held or not kept or kept.rows.end - held.kept_end == self.more:
+            return None
+        if now < self.more_due:
+            return self.more_due
+        self.more, self.more_due = kept.rows.end - held.kept_end, now + TELLS_MORE
+        self.tells(f"more {pane_of_key(held.pane)[1]} {held.life} {self.more}")
+        return None
+
+    def tell_logged(self) -> bool:
+        """Tells rows that are written down, as far as they came, and tells whether there were any."""
+        logged = self.logged
+        if not logged:
+            return False
+        rows = logged.rows
+        first, found = rows.newest(self.next_row).rows(self.next_row, rows.end) if rows.end > self.next_row else (0, [])
+        if found:
+            self.next_row = first + len(found)
+            self.say_rows(pane_of_key(rows.pane)[1], rows.life, first, found)
+            return True
+        self.is_late = False
+        if logged.is_gone or logged.has_last and self.next_row == rows.end:
+            self.unlog()
+            self.say(f"log {pane_of_key(rows.pane)[1]} {rows.life} {END}")
+        return False
+
+    def close(self) -> None:
+        """Asks no more."""
+        self.is_closed = True
+        self.search = None
+        self.unlog()
+        self.let_go()

@@ -1,0 +1,590 @@
+"""The panes of one window of a session at the keeper of its shells, as the window's server tells them, with what is kept once for all
+windows."""
+from __future__ import annotations
+
+import contextlib
+import functools
+import os
+import signal
+import socket
+import time
+from collections.abc import Callable
+
+from roam_live.common.errors import Fault, begun, is_running, note_end, read, reason, say
+from roam_live.common.event_loop import Loop
+from roam_live.common.fault_log import FaultLog
+from roam_live.common.listener import Listener
+from roam_live.host.foreground_watch import Fronts
+from roam_live.host.input_queue import TypedQueue
+from roam_live.host.pane import Options, PaneCommand, Spare, has_ended, say_in
+from roam_live.host.scrollback import RowKeeper, pane_key, pane_of_key
+from roam_live.host.socket_server import CommonShells, ShellsSocket
+from roam_live.protocol.bells import BellSource
+from roam_live.protocol.panes import BRACKETED, FOCUS, OTHER, Rect, ToldPanes
+from roam_live.protocol.panes_client import PROBE, KeeperFollowing
+from roam_live.protocol.queries import ASKS, holds_frames, question_in
+from roam_live.session.foreground import working_folder
+from roam_live.session.tmp_keepalive import LOOKS, Lasting
+
+TYPE_CHECKING = False
+if TYPE_CHECKING:
+    from roam_live.common.tty import Size
+    from roam_live.host.pending_spawns import Begins
+
+# So many seconds a close may take before it is asked for anew.
+CLOSE_WAIT = 3.0
+
+# So many seconds later what the system refused is tried again.
+AGAIN = 0.25
+
+# The socket at which a server takes its clients: where its file was removed the server is had to take so many turns, so many seconds apart.
+CLIENTS = "clients"
+ROUSED, ROUSED_EACH = 2, 1.0
+
+# Messages after the host's sockets were removed.
+MENDED = "sockets of the session were removed, as by a cleaner of old files, and have been restored"
+UNMENDED = "sockets of the session were removed and cannot be restored: {}"
+
+UNREAD = "{} isn't shown: the server doesn't read it, as where no descriptor is left for it"
+
+# What ends the keeper. Its shells hang up then.
+LEAVING = (signal.SIGTERM, signal.SIGHUP)
+
+# So many seconds who writes rows down has for the last of them, where the session ends.
+LOGS_END = 1.0
+
+ENDED = b"\r\n[ended]"
+NOT_CONNECTED = "[not run: {}; tried again]\r\n"
+NOT_FOLLOWED = "[no shell: the panes can't be followed: {}; tried again]\r\n"
+
+# What a program reads that asked for reports of the focus (xterm, 1004), where it comes and where it goes.
+FOCUS_IN, FOCUS_OUT = b"\x1b[I", b"\x1b[O"
+
+
+class Common:
+    """What a keeper has once for all windows: its loop, the rows that are kept, what is told at all sockets `shells`, the processes that
+    were hung up, and descriptors that are kept for need."""
+
+    def __init__(self, wakeup: int, loop: Loop | None = None) -> None:
+        self.wakeup, self.loop = wakeup, loop or Loop()
+        self.faults = FaultLog(self.loop.clock)
+        # The panes of each window, by its number; 0 is that of a session that has no others.
+        self.windows: dict[int, Shells] = {}
+        self.hung: list[int] = []
+        self.is_over = False
+        # What was refused, as it was told.
+        self.refused: set[str] = set()
+        self.loop.add(wakeup, self.reap)
+        # One for what a pane is begun with, and one by which a pane that can't be begun says so.
+        self.spare, self.voice = Spare(), Spare()
+        # They come before the bells; what is refused is told there.
+        with contextlib.suppress(OSError):
+            self.voice.keep()
+            self.spare.keep()
+        self.rows = RowKeeper(self.loop, self.tell)
+        self.rows.is_other = self.shows_other
+        self.shells = CommonShells(self.loop, self.rows)
+        self.loop.faults = self.take_fault
+        self.rows.hears_changed = self.see_to_panes
+        # Called once a minute to look after folders.
+        self.lasting: list[Callable[[], object]] = []
+        self.loop.later("folders", LOOKS, self.look_at_folders)
+
+    def take_fault(self, fault: Exception) -> None:
+        """Log an unexpected exception. If memory is short, drop kept rows first: they matter least."""
+        if isinstance(fault, MemoryError):
+            self.rows.shed()
+        self.faults.take(fault)
+
+    def see_to_panes(self) -> None:
+        """Check all panes whether they are read now."""
+        for window in self.windows.values():
+            for pane in window.panes.values():
+                pane.see_to_ends()
+
+    def see_to(self, lasts: Callable[[], object]) -> None:
+        """Call something before the next wait, and then once a minute, to look after a folder."""
+        self.lasting.append(lasts)
+        self.loop.soon(lasts)
+
+    def see_no_more(self, lasts: Callable[[], object]) -> None:
+        """Stop calling it."""
+        if lasts in self.lasting:
+            self.lasting.remove(lasts)
+
+    def look_at_folders(self) -> None:
+        """Look after all folders."""
+        for lasts in list(self.lasting):
+            self.loop.is_done(lasts)
+        self.loop.later("folders", LOOKS, self.look_at_folders)
+
+    def tell(self, text: str) -> None:
+        """Tells what a person has to know, in the log and to who follows the bells of any window."""
+        say(text)
+        for window in list(self.windows.values()):
+            window.bells.say(text)
+
+    def shows_other(self, key: int) -> bool:
+        """Whether a pane's program is known to show the other screen."""
+        number, pane = pane_of_key(key)
+        window = self.windows.get(number)
+        return window is not None and window.aside.has_set(pane, OTHER)
+
+    def keep_spares(self) -> None:
+        """Has the spare descriptors, as soon as they are to be had: first that by which a pane says what it hasn't."""
+        try:
+            for spare in (self.voice, self.spare):
+                spare.keep()
+        except OSError as fault:
+            self.refuse("a spare descriptor", fault)
+
+    def refuse(self, what: str, fault: OSError) -> None:
+        """Takes note of what the system refused, which is tried again; the log is told once until all is had."""
+        if what not in self.refused:
+            self.refused.add(what)
+            self.tell(f"{what}: {reason(fault)}; tried again")
+        self.loop.later("again", AGAIN, self.try_again)
+
+    def try_again(self) -> None:
+        """Tries again what was refused."""
+        for window in list(self.windows.values()):
+            window.begin_again()
+        self.keep_spares()
+        if "again" not in self.loop.due:
+            self.refused.clear()
+
+    def reap(self) -> None:
+        """Takes note of commands that ended, and of a signal to end."""
+        if any(number in LEAVING for number in read(self.wakeup) or b""):
+            self.is_over = True
+        self.hung = [process for process in self.hung if not has_ended(process)]
+        for window in list(self.windows.values()):
+            self.loop.is_done(window.reap)
+
+    def turn(self) -> None:
+        """Waits until something can be done, and does it."""
+        self.loop.turn()
+
+    def run(self) -> int:
+        """Keeps the shells of a session of one window until it ends."""
+        try:
+            while not self.is_over and not any(window.is_over for window in self.windows.values()):
+                self.turn()
+        finally:
+            self.close()
+        return 0
+
+    def end_logs(self) -> None:
+        """Tells who writes rows down what stood last in the panes, as far as that is soon taken."""
+        end = self.loop.clock() + LOGS_END
+        self.loop.at("end logs", end, lambda: None)
+        while self.rows.leaving and self.loop.clock() < end:
+            self.loop.turn()
+
+    def close(self) -> None:
+        """Ends all that is left: the shells first, of which who writes rows down has the last."""
+        windows = list(self.windows.values())
+        for window in windows:
+            window.hang_up()
+        self.end_logs()
+        for window in windows:
+            window.close()
+        self.shells.close()
+        self.rows.close()
+
+
+class Shells:
+    """The panes of a window with their commands."""
+
+    def __init__(self, asked: Options, common: Common, peer: socket.socket | None = None, size: Size | None = None,
+                 folder: str = "", first: Begins | None = None) -> None:
+        self.asked, self.common, self.loop, self.rows = asked, common, common.loop, common.rows
+        self.lasting = Lasting(asked.dir)
+        self.panes: dict[int, PaneCommand] = {}
+        # The panes of which nothing was told since they are followed anew.
+        self.untold: set[int] = set()
+        self.focus = 0
+        self.history: list[int] = []
+        # What was told of the panes since they are followed, as which modes their programs have set.
+        self.aside, self.is_new = ToldPanes(), False
+        # Whether it is over, and on purpose: its last command has ended.
+        self.is_over = self.is_meant = False
+        # Panes in which a bell rang, and whether one wrote something, since that was reported; panes with news, and a call behind `tend`.
+        self.rung: set[int] = set()
+        self.has_news = False
+        self.touched: dict[int, PaneCommand] = {}
+        self.tended: Callable[[], object] = lambda: None
+        # The panes that are there at first, where another kept their shells before, end with the first focus.
+        self.is_again = asked.again
+        # Whether a pane said that the panes can't be followed.
+        self.has_said = False
+        # The size that its first pane is about to have: it begins with that.
+        self.awaited = size
+        # Where that one's command begins, where another window tells it.
+        self.folder = folder
+        # What its first pane begins with, where somebody asked for that.
+        self.first = first
+        # True once it was reported that its sockets can't be restored; and once the server's socket for clients was there.
+        self.has_missed = self.had_clients = False
+        common.see_to(self.last)
+        self.following = KeeperFollowing(f"{asked.dir}/panes", self.loop, self.hear, self.lost, self.tell, peer)
+        # The process whose end is the window's: who listens there, where it isn't named.
+        self.server = asked.server or self.following.server or None
+        self.server_began = begun(self.server) if self.server else None
+        self.bells = BellSource(asked.dir, self.loop)
+        common.shells.unmet.folder = asked.common
+        self.socket = ShellsSocket(asked.dir, self.loop, self.look_at_fronts, common.shells, asked.window)
+        self.socket.handed.rect_of, self.socket.handed.folder_beside = self.rect_of, self.folder_beside
+        # What runs in front in panes, as far as that was looked up.
+        self.in_front: dict[int, str] = {}
+        self.fronts = Fronts(self.loop, self.tell_front, f"window {asked.window} " if asked.window else "")
+        common.windows[asked.window] = self
+        if not asked.window:
+            common.see_to(self.listen_again)
+        common.keep_spares()
+
+    def tell(self, text: str) -> None:
+        """Tells what a person has to know, in the log and to who follows the bells here."""
+        say(f"window {self.asked.window}: {text}" if self.asked.window else text)
+        self.bells.standing = self.following.told
+        self.bells.say(text)
+
+    def told(self, line: str) -> None:
+        """Takes a line of D/panes: where a pane is, that it is gone, the focus, or what stands beside a pane's terminal; counts of starts
+        are nothing here, and others answer what was asked."""
+        words, is_known = line.split(), self.aside.take(line)
+        if not is_known:
+            self.take_other(words, line)
+        elif words[0] == "focus":
+            before, self.focus, self.is_again = self.focus, int(words[1]), False
+            self.report_focus(before)
+            self.history = [self.focus] + [pane for pane in self.history if pane != self.focus]
+            # The focus is told behind all panes.
+            for number in self.untold & self.panes.keys():
+                self.drop(number)
+            self.untold.clear()
+        elif words[1:] == ["gone"]:
+            self.drop(int(words[0]))
+        elif words[0].isdigit() and len(words) == 6:
+            number, *rect, life = map(int, words)
+            self.there_is(number, Rect(*rect), life)
+
+    def take_other(self, words: list[str], line: str) -> None:
+        """Handle a line of D/panes that doesn't describe panes."""
+        if words[:1] == [ASKS]:
+            self.answer(line)
+        elif len(words) == 3 and all(word.isdigit() for word in words):
+            raise Fault("the server is of an earlier roam: it doesn't tell where panes are")
+
+    def answer(self, line: str) -> None:
+        """Types the answer to what a pane's program asks of its terminal, where its keeper knows one."""
+        question = question_in(line)
+        pane = self.panes.get(question.pane) if question else None
+        if question and pane and pane.life == question.life and pane.is_typed_into():
+            pane.type(question.answer(self.common.shells.colours, holds_frames(self.server)))
+
+    def report_focus(self, before: int) -> None:
+        """Reports to the programs of the pane that had the focus before, and of that which has it now, that it went, where they asked for
+        that."""
+        for number, report in ((before, FOCUS_OUT), (self.focus, FOCUS_IN)):
+            pane = self.panes.get(number)
+            if before != self.focus and pane and pane.is_typed_into() and self.aside.has_set(number, FOCUS):
+                pane.type(report)
+
+    def there_is(self, number: int, rect: Rect, life: int) -> None:
+        """Makes, moves or sizes a pane."""
+        pane, size = self.panes.get(number), self.awaited_size((rect.rows, rect.cols))
+        self.untold.discard(number)
+        if pane and pane.life == life:
+            self.socket.handed.moved(number, rect)
+            pane.resize(size)
+            self.rows.resize(self.key(number), size)
+        else:
+            folder, begins = self.folder_of_new(), self.handed_to(rect)
+            self.drop(number)
+            typed = TypedQueue(self.common.shells.texts, lambda: self.aside.has_set(number, BRACKETED))
+            self.panes[number] = PaneCommand(self.asked, self.loop, number, life, size, self.is_again,
+                                              begins and begins.folder or folder, typed)
+            self.panes[number].command = begins.command() if begins else []
+            self.panes[number].follows, self.panes[number].brought = self.follow_now, self.common.shells.brought
+            self.panes[number].gives_up = functools.partial(self.give_up, self.panes[number])
+            self.panes[number].touches = functools.partial(self.note, self.panes[number])
+            key = self.key(number)
+            self.rows.begin(key, life, size)
+            self.panes[number].keeps, self.panes[number].hears = lambda data: self.rows.feed(key, data), self.rows.hears
+            self.begin(self.panes[number])
+
+    def awaited_size(self, told: Size) -> Size:
+        """The size of a pane that is told: while another is awaited that, which is so no more once it is told."""
+        if self.awaited in (None, told):
+            self.awaited = None
+        return self.awaited or told
+
+    def await_no_more(self) -> None:
+        """Goes by the sizes that are told, since no other has come."""
+        self.awaited = None
+        for number, rect in self.aside.rects.items():
+            if number in self.panes:
+                self.panes[number].resize((rect.rows, rect.cols))
+                self.rows.resize(self.key(number), (rect.rows, rect.cols))
+
+    def has_begun(self) -> bool:
+        """Whether the command of a pane runs, or one says why it doesn't."""
+        return any(pane.is_connected and (pane.runs() or pane.is_again or pane.to_pane or pane.written) for pane in self.panes.values())
+
+    def folder_of_new(self) -> str:
+        """Where a new pane's command starts: where the program in front in the pane in focus is, else where the server is."""
+        return self.folder if self.folder and not self.panes else self.folder_beside(0)
+
+    def folder_beside(self, number: int) -> str:
+        """Where the program in front in a pane works, or in that in focus for 0."""
+        pane = self.panes.get(number or self.focus)
+        return working_folder([*(pane.in_front() if pane else []), self.asked.server])
+
+    def rect_of(self, number: int, life: int) -> Rect | None:
+        """Where that making of a pane is; None where it isn't there."""
+        pane = self.panes.get(number)
+        return self.aside.rects.get(number) if pane and pane.life == life else None
+
+    def handed_to(self, rect: Rect) -> Begins | None:
+        """What a new pane begins with, where that was handed over for it."""
+        if self.panes or not self.first:
+            return self.socket.handed.for_pane(rect)
+        first, self.first = self.first, None
+        return first
+
+    def begin(self, pane: PaneCommand) -> None:
+        """Connects to a pane and runs its command there; the spare descriptor is for the pane to say what is refused."""
+        self.common.spare.free()
+        try:
+            self.lasting.demand()
+            pane.connect(lambda: self.look(pane))
+        except OSError as fault:
+            self.common.refuse(pane.named, fault)
+            self.common.voice.free()
+            if not pane.is_told and not isinstance(fault, FileNotFoundError):
+                pane.is_told = True
+                say_in(pane.path, NOT_CONNECTED.format(reason(fault)))
+        else:
+            if pane.is_again:
+                pane.settle()
+            else:
+                pane.run()
+        self.common.keep_spares()
+
+    def begin_again(self) -> None:
+        """Tries again what the system refused."""
+        for pane in list(self.panes.values()):
+            if not pane.is_connected:
+                self.begin(pane)
+
+    def key(self, number: int) -> int:
+        """The number of a pane among those of all windows."""
+        return pane_key(self.asked.window, number)
+
+    def drop(self, number: int) -> None:
+        """Hangs up the programs of a pane that is gone."""
+        pane = self.panes.pop(number, None)
+        self.history = [other for other in self.history if other != number]
+        if pane:
+            self.ring(pane)
+            self.bells.tell_keypad(number, False)
+            self.fronts.drop(number)
+            self.in_front.pop(number, None)
+            self.rows.drop(self.key(number))
+            pane.hang_up()
+            self.common.hung += [pane.process] if pane.process is not None and pane.runs() else []
+
+    def give_up(self, pane: PaneCommand) -> None:
+        """End the programs of a pane after too many exceptions, and close it. The only pane of a window stays and shows a line instead."""
+        if self.panes.get(pane.number) is not pane:
+            return
+        self.common.hung += [pane.process] if pane.process is not None and pane.runs() else []
+        pane.give_up()
+        pane.has_ended = self.asked.close and len(self.panes) > 1
+        self.note(pane)
+
+    def hear(self, lines: list[str]) -> None:
+        """Takes what came from D/panes."""
+        if self.is_new:
+            self.aside, self.is_new = ToldPanes(), False
+        for line in lines:
+            self.told(line)
+        self.loop.soon(self.tend)
+        places = self.aside.places() if any(line[:1].isdigit() for line in lines) else None
+        if places and places.is_covered():
+            self.socket.sized(places.size())
+
+    def follow_now(self) -> None:
+        """Takes what came from D/panes so far."""
+        if self.following.peer:
+            self.loop.hear(self.following.peer)
+
+    def lost(self) -> None:
+        """Goes on without D/panes, which is connected to again; where the server's process has ended the session has."""
+        self.untold, self.is_new = set(self.panes), True
+        self.socket.sized(None)
+        self.goes_on()
+
+    def has_server(self) -> bool:
+        """Whether the server's process runs; where it isn't known somebody has to be at its socket."""
+        return is_running(self.server, self.server_began) if self.server else not self.following.is_gone
+
+    def goes_on(self) -> None:
+        """Sees to it that the session ends with the server; where it can't be followed from the start a pane says so."""
+        following = self.following
+        self.loop.soon(self.tend)
+        if not self.has_server():
+            self.is_over = True
+            return
+        if following.is_gone:
+            following.tell(following.why)
+        if following.told and not self.panes and not self.has_said:
+            self.has_said = True
+            say_in(f"{self.asked.dir}/p1", NOT_FOLLOWED.format(following.why))
+        for pane in self.panes.values():
+            pane.asked_until = 0.0
+
+    def reap(self) -> None:
+        """Takes note of commands that ended."""
+        for pane in self.panes.values():
+            if pane.process is not None and pane.runs() and has_ended(pane.process):
+                pane.ends(b"" if self.asked.close else ENDED)
+
+    def done(self) -> list[PaneCommand]:
+        """The panes whose command has ended, and whose last words are written."""
+        return [pane for pane in self.panes.values() if pane.has_ended and pane.terminal is None and not pane.to_pane]
+
+    def close_ended(self) -> None:
+        """Has panes closed whose commands have ended; the last one's end is the session's."""
+        done, now = self.done(), time.monotonic()
+        if done and len(self.panes) == 1:
+            self.is_over = self.is_meant = True
+            if self.asked.server and not self.asked.window:
+                note_end(self.asked.common, self.asked.server, self.server_began)
+                with contextlib.suppress(ProcessLookupError):
+                    os.kill(self.asked.server, signal.SIGTERM)
+            return
+        for pane in done:
+            if now >= pane.asked_until:
+                pane.asked_until = now + CLOSE_WAIT
+                self.loop.later(f"close {pane.named}", CLOSE_WAIT, functools.partial(self.note, pane))
+                self.following.ask(self.close_line(pane))
+
+    def close_line(self, pane: PaneCommand) -> str:
+        """The line that closes a pane, and where the focus goes if it has it: to the pane that had it before, of those that stay."""
+        others = [number for number in self.history if number in self.panes and not self.panes[number].has_ended]
+        heir = f" {others[0]}" if pane.number == self.focus and others else ""
+        return f"close {pane.number} {pane.life}{heir}"
+
+    def last(self) -> None:
+        """Sees to what has to last of the folder."""
+        self.lasting.due = 0.0
+        self.lasting.turn()
+        is_there = not self.lasting.is_missing(CLIENTS)
+        if self.had_clients and not is_there:
+            self.rouse()
+        self.had_clients = self.had_clients or is_there
+
+    def rouse(self) -> None:
+        """Have the server take turns: it binds removed sockets anew in a turn, by the clock of the turn before, and takes none while all
+        its clients sleep."""
+        for again in range(ROUSED):
+            self.loop.later(f"rouse {again} {self.asked.dir}", again * ROUSED_EACH, lambda: self.following.ask(PROBE))
+
+    def note(self, pane: PaneCommand) -> None:
+        """Note that a pane has news; `tend` handles it before the next wait."""
+        self.touched[pane.number] = pane
+        self.loop.soon(self.tend)
+
+    def listeners(self) -> list[Listener]:
+        """Return the sockets by which others find this window."""
+        return [one for one in (self.socket.listener, self.bells.listener) if one]
+
+    def is_found(self) -> bool:
+        """Return True if all sockets are where they were bound."""
+        return all(one.is_found() for one in self.listeners())
+
+    def listen_in(self, folder: str) -> None:
+        """Bind the sockets that were removed anew, in a folder; Fault or OSError if that fails."""
+        for one in self.listeners():
+            if not one.is_found():
+                one.move(os.path.join(folder, os.path.basename(one.path)))
+        if folder == self.asked.dir:
+            self.lasting.own = self.lasting.found()
+
+    def listen_again(self) -> None:
+        """Restore removed sockets in this session's own folder, unless somebody else listens there."""
+        if self.is_found():
+            return
+        try:
+            self.lasting.demand()
+            self.listen_in(self.asked.dir)
+        except (Fault, OSError) as fault:
+            if not self.has_missed:
+                say(UNMENDED.format(reason(fault)))
+            self.has_missed = True
+        else:
+            self.has_missed = False
+            self.tell(MENDED)
+
+    def is_followed(self) -> bool:
+        """Whether it is known which panes are there."""
+        return bool(self.following.peer) and not self.untold
+
+    def tend(self) -> None:
+        """Sees to what is new of the panes."""
+        touched, self.touched = self.touched, {}
+        for pane in touched.values():
+            if self.panes.get(pane.number) is pane:
+                self.ring(pane)
+                self.touch(pane)
+        if self.asked.close and not self.is_over and self.is_followed():
+            self.close_ended()
+        self.tended()
+
+    def look(self, pane: PaneCommand) -> None:
+        """Tells of a pane whose programs have written for a while what the server doesn't read."""
+        if pane.is_unread():
+            self.tell(UNREAD.format(f"pane {pane.number}"))
+
+    def ring(self, pane: PaneCommand) -> None:
+        """Tells whether a pane rang, and how its keypad is."""
+        self.bells.tell_keypad(pane.number, pane.keypad.is_application)
+        if pane.has_rung:
+            pane.has_rung = False
+            self.rung.add(pane.number)
+            self.bells.tell(pane.number)
+
+    def tell_front(self, number: int, life: int, name: str) -> None:
+        """Tells what runs in front in that making of a pane."""
+        self.in_front[number] = name
+        self.socket.tell_command(number, life, name)
+        self.loop.soon(self.tend)
+
+    def look_at_fronts(self) -> None:
+        """Looks up what runs in front in all panes, for one more who wants to know."""
+        self.fronts.is_wanted = True
+        for pane in self.panes.values():
+            self.fronts.touched(pane, 0.0)
+
+    def touch(self, pane: PaneCommand) -> None:
+        """Has it looked up what runs in front in a pane where something was typed or written, while somebody wants to know."""
+        self.has_news, pane.has_news = self.has_news or pane.has_news, False
+        if pane.is_touched:
+            pane.is_touched, self.fronts.is_wanted = False, self.socket.has_asked_commands() or self.common.shells.has_asked_windows()
+            self.fronts.touched(pane)
+
+    def hang_up(self) -> None:
+        """Ends the programs of all panes."""
+        self.bells.close()
+        for number in list(self.panes):
+            self.drop(number)
+        self.following.end()
+
+    def close(self) -> None:
+        """Closes the sockets, and forgets the window."""
+        self.socket.close()
+        for lasts in (self.last, self.listen_again):
+            self.common.see_no_more(lasts)
+        self.common.windows.pop(self.asked.window, None)

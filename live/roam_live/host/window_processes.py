@@ -1,0 +1,180 @@
+"""The processes of a session's window as its keeper has them: spawned, noted in the window's folder, found by its sockets, and ended."""
+from __future__ import annotations
+
+import contextlib
+import json
+import os
+
+from roam_live.common.errors import SocketPeer, begun, connected_now, end_words, is_running, program, reason, replace_text, say
+from roam_live.common.tty import forked_apart
+from roam_live.host.window_commands import NO_NAME, name_in, name_word
+from roam_live.session.foreground import PANE
+from roam_live.session.processes import is_note
+from roam_live.session.window_state import SPARE, STANDS_READY, WINDOWS_VERSION, window_folder, windows_folder
+
+TYPE_CHECKING = False
+if TYPE_CHECKING:
+    from typing import NoReturn
+
+    from roam_live.session.processes import State
+
+# The roles of a window's processes, and the sockets at which they listen.
+SERVER, TERMINALS = "server", "terminals"
+SOCKETS = {SERVER: "clients", TERMINALS: "terminals"}
+
+# No note has so many bytes.
+MOST_NOTE = 1 << 16
+
+
+def remove_folder(folder: str) -> None:
+    """Removes a folder with what lies in it; OSError where it can't be."""
+    for name in os.listdir(folder):
+        with contextlib.suppress(OSError):
+            os.unlink(os.path.join(folder, name))
+    os.rmdir(folder)
+
+
+class WindowProcesses:
+    """The processes of one window, and what is noted of them."""
+
+    def __init__(self, common: str, number: int) -> None:
+        self.common, self.number = common, number
+        self.folder = window_folder(common, number)
+        self.noted: dict[str, tuple[int, int | None]] = {}
+
+    def path(self, name: str) -> str:
+        """The path of what lies in the window's folder."""
+        return os.path.join(self.folder, name)
+
+    def make_folder(self) -> None:
+        """Makes the window's folder, where nobody else may enter it."""
+        for folder in (windows_folder(self.common), self.folder):
+            with contextlib.suppress(FileExistsError):
+                os.mkdir(folder, 0o700)
+
+    # ---- what is known
+
+    def state(self) -> State:
+        """What is noted, where that is whole."""
+        try:
+            with open(self.path("state.json"), encoding="utf-8") as file:
+                state = json.loads(file.read(MOST_NOTE))
+        except (OSError, ValueError, RecursionError):
+            return {}
+        return dict(state) if is_note(state) else {}
+
+    def find(self) -> None:
+        """Reads what is noted; where that is lost it is known who listens at the sockets."""
+        self.read()
+        for role, name in SOCKETS.items():
+            if not self.is_known(role):
+                with contextlib.suppress(OSError), connected_now(self.path(name)) as peer:
+                    process = SocketPeer.of(peer).process
+                    self.noted[role] = process, begun(process)
+
+    def read(self) -> None:
+        """Reads what is noted."""
+        state = self.state()
+        for role in [role for role in SOCKETS if role in state]:
+            self.noted[role] = state[role][0], state[role][1]
+
+    def is_known(self, role: str) -> bool:
+        """Whether a process of a role is known to run."""
+        return role in self.noted and is_running(*self.noted[role])
+
+    def runs(self, role: str) -> bool:
+        """Whether a process of a role runs; a start may have been spawned anew by a front end, which notes that."""
+        if not self.is_known(role) and role == TERMINALS:
+            self.read()
+        return self.is_known(role)
+
+    def server(self) -> int:
+        """The process that serves; 0 where none is known."""
+        return self.noted[SERVER][0] if SERVER in self.noted else 0
+
+    def ending(self) -> str:
+        """How the end of its server is noted."""
+        return end_words(*self.noted[SERVER])
+
+    def mark_spare(self, is_spare: bool) -> None:
+        """Marks what only stands ready, or has it be a window from now on."""
+        if is_spare:
+            with open(self.path(SPARE), "w", encoding="ascii"):
+                return
+        os.unlink(self.path(SPARE))
+
+    def is_spare(self) -> bool:
+        """Whether it only stands ready."""
+        return os.path.exists(self.path(SPARE))
+
+    def name(self) -> str:
+        """What the window is called, as was noted."""
+        try:
+            with open(self.path("name"), encoding="utf-8") as file:
+                return name_in(file.read(MOST_NOTE).strip() or NO_NAME) or ""
+        except (OSError, ValueError):
+            return ""
+
+    def note_name(self, name: str) -> None:
+        """Notes what the window is called."""
+        replace_text(self.path("name"), f"{name_word(name)}\n")
+
+    # ---- what is spawned
+
+    def spawn(self, role: str, words: list[str]) -> int:
+        """Spawns a process with a session of its own, which notes itself before it runs the words, so that it is found however this one
+        ends; and tells its number."""
+        process = forked_apart()
+        if process == 0:
+            self.become(role, words)
+        self.noted[role] = process, begun(process)
+        return process
+
+    def spawn_server(self) -> int:
+        """Spawns the window's server."""
+        return self.spawn(SERVER, [program(), "serve", "--as-meant", "--dir", self.folder])
+
+    def spawn_start(self) -> int:
+        """Spawns the client start of this machine's terminals."""
+        with contextlib.suppress(FileNotFoundError):
+            os.unlink(self.path("terminals"))
+        return self.spawn(TERMINALS, [program(), "attach", "--dir", self.folder, "--terminals", self.path("terminals")])
+
+    def become(self, role: str, words: list[str]) -> NoReturn:
+        """Becomes the process of a role; what it says goes where this process says something."""
+        try:
+            os.setsid()
+            self.noted[role] = os.getpid(), begun(os.getpid())
+            self.note()
+            nothing = os.open(os.devnull, os.O_RDONLY)
+            os.dup2(nothing, 0)
+            os.dup2(2, 1)
+            # By the variable programs are known that run in a pane, also of another session, in which this one was begun.
+            environment = {name: value for name, value in os.environ.items() if name not in (PANE, STANDS_READY)}
+            os.execve(words[0], words, {**environment, **({STANDS_READY: "1"} if self.is_spare() else {})})
+        except OSError as fault:
+            say(f"window {self.number}: {words[0]} can't be run: {reason(fault)}")
+        finally:
+            os._exit(127)
+
+    def note(self) -> None:
+        """Notes the processes that are known."""
+        state: State = {"version": WINDOWS_VERSION}
+        for role, one in self.noted.items():
+            state[role] = list(one)
+        replace_text(self.path("state.json"), json.dumps(state))
+
+    # ---- their end
+
+    def end(self, number: int, *roles: str) -> None:
+        """Signals the processes that run, of these roles, or of both."""
+        for role in roles or (SERVER, TERMINALS):
+            if self.runs(role):
+                with contextlib.suppress(OSError):
+                    os.kill(self.noted[role][0], number)
+
+    def clean(self) -> None:
+        """Removes what they left, and the notes of far relays."""
+        for folder in (self.path("relays"), self.folder):
+            with contextlib.suppress(OSError):
+                remove_folder(folder)

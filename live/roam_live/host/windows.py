@@ -1,0 +1,496 @@
+"""The windows of a session at its keeper: each is a server with its start, in a folder of its own, and shells in its panes."""
+from __future__ import annotations
+
+import contextlib
+import functools
+import os
+import signal
+import socket
+from collections.abc import Callable
+
+from roam_live.common.errors import Fault, connected_now, read, reason, say
+from roam_live.common.tty import LEAST, size_act
+from roam_live.host.pane import Options
+from roam_live.host.repair import Mending
+from roam_live.host.scrollback import pane_of_key
+from roam_live.host.window import Common, Shells
+from roam_live.host.window_commands import ACTIVITY, BELL, GONE, MOST_WINDOWS, RUNS, WindowLines
+from roam_live.host.window_processes import SERVER, TERMINALS, WindowProcesses
+from roam_live.session.foreground import working_folder
+from roam_live.session.tmp_keepalive import Lasting
+from roam_live.session.window_state import note_ends, numbers_in, windows_folder
+
+TYPE_CHECKING = False
+if TYPE_CHECKING:
+    from roam_live.common.event_loop import Loop
+    from roam_live.common.tty import Size
+    from roam_live.host.pending_spawns import Begins
+
+# What a window is: about to be there, there, or about to be gone.
+OPENING, THERE, ENDING = "opening", "there", "ending"
+
+# So often it is looked whether what was begun is there, or has ended, and so many seconds it has for that; and all windows of a session
+# together have so many for their ends.
+STEP = 0.004
+OPENS = 10.0
+ENDS = 1.0
+ALL_END = 1.5 * ENDS
+
+# So many seconds after somebody asked for windows, or one was opened, a server is spawned that stands ready for the next.
+READY = 1.0
+AGAIN = 1.0
+
+# So many seconds lie between two lines that tell of one window that something was written, or of one pane that it rang.
+APART = 1.0
+
+# What tells of a socket at which somebody may listen soon.
+SOON_THERE = (FileNotFoundError, ConnectionRefusedError, BlockingIOError)
+
+FULL = f"a session has {MOST_WINDOWS} windows at most"
+OVER = "the session ends"
+
+
+class KeptWindow:
+    """A window: its processes, its panes once they are followed, its name, and who is told once it is there."""
+
+    def __init__(self, number: int, processes: WindowProcesses, told: Callable[[int, str], object]) -> None:
+        self.number, self.processes, self.told = number, processes, told
+        self.state = OPENING
+        self.name = processes.name()
+        self.shells: Shells | None = None
+        self.size: Size | None = None
+        self.sizes: SizeAct | None = None
+        # Where its first pane's command begins, whether another keeper had it before, and whether it has a start here from the beginning:
+        # of a session's first window who launches it sees to that, or a terminal of another machine has one there.
+        self.begins_in, self.is_again, self.has_start = "", False, True
+        # What somebody asked for it to begin with.
+        self.begins: Begins | None = None
+        # Whether its server is spawned by somebody else, and isn't known yet.
+        self.is_given = False
+        # Until when it has to be there, or gone.
+        self.until = 0.0
+        # When it may be told again that something was written there, and that a pane rang.
+        self.active_at = 0.0
+        # What runs in front in its pane in focus, as it was told.
+        self.runs = ""
+        self.rung_at: dict[int, float] = {}
+
+    def has_terminals(self) -> bool:
+        """Whether somebody is there."""
+        return self.shells is not None and self.shells.socket.has_terminals()
+
+
+class Windows:
+    """All windows of a session. The last one's end is the session's."""
+
+    def __init__(self, asked: Options, common: Common) -> None:
+        self.asked, self.common, self.loop = asked, common, common.loop
+        self.folder = windows_folder(asked.common)
+        self.windows: dict[int, KeptWindow] = {}
+        self.last = 0
+        # Why there is no first window.
+        self.refusal = ""
+        # A server that stands ready for the next window, and when it was spawned: it has no start, so it sleeps, and is told nowhere.
+        self.spare: WindowProcesses | None = None
+        self.spared_at = 0.0
+        self.lasting = Lasting(asked.common)
+        common.see_to(Mending(self).look)
+        common.see_to(self.make_last)
+        self.lines = common.shells.lines = WindowLines(self, common.shells.sockets)
+        if asked.is_first:
+            self.await_first()
+        else:
+            self.take_over()
+
+    def begin_lasting(self) -> None:
+        """Hold the folder that the session has from now on, and let go of the one before."""
+        self.lasting.let_go()
+        self.lasting = Lasting(self.asked.common)
+
+    # ---- what is asked
+
+    def named(self) -> dict[int, str]:
+        """The windows that are there, and their names."""
+        return {number: one.name for number, one in self.windows.items() if one.state == THERE}
+
+    def open(self, size: Size | None, beside: int, told: Callable[[int, str], object], begins: Begins | None = None) -> None:
+        """Opens a window, of a size where one is named, asked for at another, that begins as is asked; told with its number, or with 0 and
+        why there is none."""
+        number = self.free_number()
+        if not number or self.common.is_over:
+            told(0, OVER if number else FULL)
+            return
+        processes = self.taken_spare(number) or WindowProcesses(self.asked.common, number)
+        window = KeptWindow(number, processes, told)
+        window.has_start = size is not None
+        window.size = (max(size[0], LEAST[0]), max(size[1], LEAST[1])) if size else None
+        window.begins, window.begins_in = begins, begins and begins.folder or self.folder_beside(beside)
+        self.windows[number] = window
+        self.begin(window)
+
+    # ---- what stands ready
+
+    def await_spare(self) -> None:
+        """Has a server stand ready soon, where somebody may have a window opened."""
+        self.loop.later("spare window", READY, self.prepare)
+
+    def prepare(self) -> None:
+        """Spawns a server that stands ready in the folder of the next window; where that can't be the next one is spawned when it is asked
+        for."""
+        if self.spare and not self.spare.runs(SERVER):
+            self.spare.clean()
+            self.spare = None
+        number = self.free_number()
+        if self.spare or not number or self.common.is_over or not self.lines.has_asked():
+            return
+        spare = WindowProcesses(self.asked.common, number)
+        try:
+            spare.make_folder()
+            spare.mark_spare(True)
+            self.common.hung.append(spare.spawn_server())
+        except (OSError, Fault):
+            spare.clean()
+            return
+        self.spare, self.spared_at = spare, self.loop.clock()
+
+    def free_number(self) -> int:
+        """The smallest number that no window has; 0 where all have."""
+        return next((one for one in range(1, MOST_WINDOWS + 1) if one not in self.windows), 0)
+
+    def taken_spare(self, number: int) -> WindowProcesses | None:
+        """What stands ready for a window of this number, which it is for that from now on; None where nothing does."""
+        spare = self.spare
+        if not spare or spare.number != number:
+            return None
+        self.spare = None
+        is_there = os.path.exists(spare.path("session")) and os.path.exists(spare.path("panes"))
+        if spare.runs(SERVER) and (is_there or self.loop.clock() < self.spared_at + OPENS):
+            with contextlib.suppress(OSError):
+                spare.mark_spare(False)
+                return spare
+        # A cleaner of old files may have had what lies there.
+        spare.end(signal.SIGKILL)
+        spare.clean()
+        return None
+
+    def end_spare(self) -> None:
+        """Ends what stands ready, as a window is."""
+        if self.spare:
+            spare, self.spare = self.spare, None
+            self.windows[spare.number] = KeptWindow(spare.number, spare, lambda number, why: None)
+            self.end(self.windows[spare.number], is_meant=True)
+
+    def folder_beside(self, number: int) -> str:
+        """Where the first command of a window begins: where the program in front in the pane in focus of another is."""
+        shells = self.windows[number].shells if number in self.windows else None
+        pane = shells.panes.get(shells.focus) if shells else None
+        return working_folder(pane.in_front()) if pane else ""
+
+    def rename(self, number: int, name: str) -> bool:
+        """Gives a window a name; whether it is there."""
+        window = self.windows.get(number)
+        if not window or window.state != THERE:
+            return False
+        window.name = name
+        try:
+            window.processes.note_name(name)
+        except OSError as fault:
+            say(f"window {number}: its name isn't noted: {reason(fault)}")
+        self.lines.tell_window(number)
+        return True
+
+    def shut(self, number: int) -> bool:
+        """Ends a window; whether it is there."""
+        window = self.windows.get(number)
+        if not window or window.state != THERE:
+            return False
+        self.end(window, is_meant=True)
+        return True
+
+    def in_front(self) -> dict[int, str]:
+        """What runs in front in the windows' panes in focus, as far as that was looked up, which it is from now on."""
+        self.await_spare()
+        for window in self.windows.values():
+            if window.shells:
+                window.shells.look_at_fronts()
+        return {number: one.runs for number, one in sorted(self.windows.items()) if one.runs and one.state == THERE}
+
+    def came(self, number: int) -> None:
+        """Takes note that a terminal is at a window now: who attaches without naming one goes there."""
+        if number != self.last:
+            self.last = number
+            with contextlib.suppress(OSError):
+                self.note_last()
+
+    def note_last(self) -> None:
+        """Notes at which window somebody was last."""
+        new = os.path.join(self.folder, f"last.{os.getpid()}")
+        with open(new, "w", encoding="ascii") as file:
+            file.write(f"{self.last}\n")
+        os.replace(new, os.path.join(self.folder, "last"))
+
+    # ---- how one is begun
+
+    def take_over(self) -> None:
+        """Goes on with the windows of a keeper that has ended, of which the servers run; what others left is removed."""
+        for number in numbers_in(self.folder):
+            processes = WindowProcesses(self.asked.common, number)
+            processes.find()
+            if not processes.runs(SERVER) or processes.is_spare():
+                processes.end(signal.SIGKILL)
+                processes.clean()
+                continue
+            window = self.windows[number] = KeptWindow(number, processes, self.taken)
+            window.is_again, window.has_start = True, False
+            self.await_(window, OPENS)
+
+    def await_first(self) -> None:
+        """Goes on with the first window, whose server somebody else is about to spawn."""
+        window = self.windows[1] = KeptWindow(1, WindowProcesses(self.asked.common, 1), self.first)
+        window.has_start, window.is_given = False, True
+        self.await_(window, OPENS)
+
+    def taken(self, number: int, why: str) -> None:
+        """Takes note of a window that was taken over, or couldn't be."""
+        if not number:
+            say(f"a window of an earlier keeper can't be gone on with: {why}")
+
+    def begin(self, window: KeptWindow) -> None:
+        """Begins a window with its server."""
+        try:
+            window.processes.make_folder()
+            if not window.processes.runs(SERVER):
+                self.common.hung.append(window.processes.spawn_server())
+        except (OSError, Fault) as fault:
+            self.fail(window, reason(fault))
+            return
+        self.await_(window, OPENS)
+
+    def await_(self, window: KeptWindow, seconds: float) -> None:
+        """Has the next step of a window tried until a moment."""
+        window.until = self.loop.clock() + seconds
+        self.step(window)
+
+    def step(self, window: KeptWindow) -> None:
+        """Does the next steps of a window that is about to be there."""
+        if window.state != OPENING:
+            return
+        processes = window.processes
+        if window.is_given:
+            processes.read()
+            window.is_given = not processes.runs(SERVER)
+        try:
+            is_there = self.follow(window) and (window.is_again or self.has_come(window))
+        except (OSError, Fault) as fault:
+            self.fail(window, reason(fault))
+            return
+        if is_there:
+            self.opened(window)
+        elif not window.is_given and not processes.runs(SERVER):
+            self.fail(window, "its server has ended")
+        elif self.loop.clock() < window.until:
+            self.loop.later(f"window {window.number} begins", STEP, lambda: self.step(window))
+        elif window.is_again:
+            # Its server may have been stopped.
+            self.loop.later(f"window {window.number} begins", AGAIN, lambda: self.step(window))
+        else:
+            self.fail(window, "its server or its client start doesn't come up")
+
+    def follow(self, window: KeptWindow) -> bool:
+        """Follows a window's panes, and has its start spawned, once its server is there; whether that is so."""
+        processes = window.processes
+        if window.shells:
+            return True
+        if window.is_given:
+            return False
+        if not window.is_again and not os.path.exists(processes.path("session")):
+            return False
+        try:
+            peer = connected_now(processes.path("panes"))
+        except SOON_THERE:
+            return False
+        try:
+            if window.has_start and not processes.runs(TERMINALS):
+                self.common.hung.append(processes.spawn_start())
+            asked = self.asked.of_window(window.number, processes.folder, processes.server(), window.is_again)
+            size = (window.size[0] - 1, window.size[1]) if window.size else None
+            window.shells = Shells(asked, self.common, peer, size, window.begins_in, window.begins)
+            window.shells.tended = functools.partial(self.tell_news, window)
+        except BaseException:
+            peer.close()
+            raise
+        return True
+
+    def has_come(self, window: KeptWindow) -> bool:
+        """Whether a window's start takes terminals, which has its size typed once it does, and its first command runs."""
+        if window.has_start and not self.is_sized(window):
+            return False
+        return window.shells is not None and window.shells.has_begun()
+
+    def is_sized(self, window: KeptWindow) -> bool:
+        """Whether a window's start takes terminals: it has the size typed that was asked for, once."""
+        try:
+            peer = connected_now(window.processes.path("terminals"))
+        except SOON_THERE:
+            if not window.processes.runs(TERMINALS):
+                raise Fault("its client start has ended") from None
+            return False
+        if window.size:
+            window.sizes, window.size = SizeAct(self.loop, peer, window.size), None
+        else:
+            peer.close()
+        return True
+
+    def opened(self, window: KeptWindow) -> None:
+        """Tells of a window that is there."""
+        window.state = THERE
+        if window.shells and window.shells.awaited:
+            self.loop.later(f"window {window.number} has its size", OPENS, window.shells.await_no_more)
+        if window.shells:
+            self.loop.soon(window.shells.tend)
+        if window.begins and window.begins.title:
+            self.rename(window.number, window.begins.title)
+        else:
+            self.lines.tell_window(window.number)
+        window.told(window.number, "")
+        self.await_spare()
+
+    def fail(self, window: KeptWindow, why: str) -> None:
+        """Leaves nothing of a window that can't be there, and tells why."""
+        say(f"window {window.number} can't be opened: {why}")
+        told, window.told = window.told, lambda number, why: None
+        self.end(window, is_meant=True)
+        told(0, why)
+
+    # ---- how one ends
+
+    def end(self, window: KeptWindow, is_meant: bool) -> None:
+        """Ends a window: its programs are hung up, and its server and start ended, by force where they don't end in time."""
+        was_there = window.state == THERE
+        window.state = ENDING
+        for moment in (f"window {window.number} begins", f"news of window {window.number}"):
+            self.loop.drop(moment)
+        if is_meant and window.processes.server():
+            note_ends(self.asked.common, [window.processes.ending()])
+        if was_there:
+            self.lines.tell(f"{GONE} {window.number}")
+        if window.shells:
+            window.shells.hang_up()
+        if window.sizes:
+            window.sizes.close()
+        window.processes.end(signal.SIGTERM, SERVER)
+        window.until = self.loop.clock() + ENDS
+        self.step_end(window)
+
+    def step_end(self, window: KeptWindow) -> None:
+        """Waits for the end of a window's processes, and for what was last written there."""
+        now, processes = self.loop.clock(), window.processes
+        waits = [role for role in (SERVER, TERMINALS) if processes.runs(role)]
+        if waits and now >= window.until - ENDS / 2:
+            processes.end(signal.SIGKILL if now >= window.until else signal.SIGTERM)
+        leaves = any(pane_of_key(pane.rows.pane)[0] == window.number for pane in self.common.rows.leaving)
+        if waits or leaves and now < window.until - ENDS / 2:
+            self.loop.later(f"window {window.number} ends", STEP * 2, lambda: self.step_end(window))
+            return
+        if window.shells:
+            window.shells.close()
+        processes.clean()
+        del self.windows[window.number]
+        self.common.is_over = self.common.is_over or not self.windows
+
+    def end_all(self) -> None:
+        """Ends all windows, and waits for that, no longer than they have."""
+        self.end_spare()
+        for window in [one for one in self.windows.values() if one.state != ENDING]:
+            self.end(window, is_meant=True)
+        end = self.loop.clock() + ALL_END
+        while self.windows and self.loop.clock() < end:
+            self.loop.turn()
+        with contextlib.suppress(OSError):
+            os.unlink(os.path.join(self.folder, "last"))
+        with contextlib.suppress(OSError):
+            os.rmdir(self.folder)
+
+    # ---- what is new
+
+    def turn(self) -> None:
+        """Waits until something can be done, and does it."""
+        self.common.turn()
+
+    def tell_news(self, window: KeptWindow) -> None:
+        """Tells what is new in a window: that panes rang, that something was written where nobody is, and that it is over."""
+        shells, now = window.shells, self.loop.clock()
+        if not shells or window.state != THERE:
+            return
+        for pane in shells.rung:
+            if now >= window.rung_at.get(pane, 0.0):
+                window.rung_at[pane] = now + APART
+                self.lines.tell(f"{BELL} {window.number} {pane}")
+        shells.rung.clear()
+        runs = shells.in_front.get(shells.focus, window.runs)
+        if runs != window.runs:
+            window.runs = runs
+            self.lines.tell(f"{RUNS} {window.number} {runs}")
+        if shells.has_news and window.has_terminals():
+            # Whoever is there saw it.
+            shells.has_news = False
+        elif shells.has_news and now >= window.active_at:
+            shells.has_news, window.active_at = False, now + APART
+            self.lines.tell(f"{ACTIVITY} {window.number}")
+        elif shells.has_news:
+            self.loop.at(f"news of window {window.number}", window.active_at, functools.partial(self.tell_news, window))
+        if shells.is_over:
+            if not shells.is_meant:
+                self.common.tell(f"window {window.number}: its server was killed, or has failed")
+            self.end(window, is_meant=shells.is_meant)
+
+    def make_last(self) -> None:
+        """Sees to what has to last of the session's folder."""
+        self.lasting.due = 0.0
+        self.lasting.turn()
+
+    def run(self) -> int:
+        """Keeps the windows until the last of them ends. Where that can't be gone on with another takes them over: they stay then."""
+        try:
+            if not self.windows:
+                self.open(None, 0, self.first)
+            while not self.common.is_over:
+                self.turn()
+            self.end_all()
+        finally:
+            self.common.close()
+        if self.refusal:
+            raise Fault(f"no window can be opened: {self.refusal}")
+        return 0
+
+    def first(self, number: int, why: str) -> None:
+        """Takes note of the first window, without which there is no session."""
+        self.refusal = "" if number else why
+
+
+class SizeAct:
+    """A connection to a start, over which a size is typed: it is closed once the start has taken that."""
+
+    def __init__(self, loop: Loop, peer: socket.socket, size: Size) -> None:
+        self.loop, self.peer = loop, peer
+        # A start that is stopped takes nothing: it is closed then too.
+        self.name = f"size {peer.fileno()} is taken"
+        loop.add(peer, self.hear, fails=lambda fault: self.close())
+        loop.later(self.name, OPENS, self.close)
+        try:
+            peer.send(f"{size_act(size)}\n".encode())
+            peer.shutdown(socket.SHUT_WR)
+        except OSError:
+            self.close()
+
+    def hear(self) -> None:
+        """Passes over what is painted, until the start has closed it."""
+        if read(self.peer.fileno()) == b"":
+            self.close()
+
+    def close(self) -> None:
+        """Closes it."""
+        if self.peer.fileno() >= 0:
+            self.loop.remove(self.peer)
+            self.loop.drop(self.name)
+            self.peer.close()

@@ -1,0 +1,152 @@
+"""Bytes of the outer terminal as keys, and keys as acts. The spellings are those of xterm, of the VT220 and of what stands between."""
+from __future__ import annotations
+
+import codecs
+import re
+from collections import namedtuple
+
+from roam_live.input.extended_keys import ANSWERED, BEGIN as BEGINS_ANSWER, META, ExtendedKey, answered, extended_key
+from roam_live.input.mouse_reports import BEGIN, MOUSE
+from roam_live.protocol.colours import ANSWER, BEGINS, COLOUR, begun_at
+
+
+class Key(namedtuple("Key", "name text extended", defaults=(None,))):
+    """A key: its name, which of a character is itself, the text that terminals send for it, and what this one told of what is held."""
+
+    name: str
+    text: str
+    extended: ExtendedKey | None
+
+
+# The keys that have an act of their own: what a pane's program is sent for them hangs on its modes.
+NUMBERED = {1: "find", 2: "insert", 3: "remove", 4: "select", 5: "prev", 6: "next", 7: "find", 8: "select", 17: "f6", 18: "f7", 19: "f8",
+            20: "f9", 21: "f10", 23: "f11", 24: "f12", 25: "f13", 26: "f14", 28: "f15", 29: "f16", 31: "f17", 32: "f18", 33: "f19",
+            34: "f20", 11: "pf1", 12: "pf2", 13: "pf3", 14: "pf4"}
+CURSOR = {"A": "up", "B": "down", "C": "right", "D": "left", "H": "find", "F": "select"}
+SHIFTED = {**CURSOR, "P": "pf1", "Q": "pf2", "R": "pf3", "S": "pf4", "M": "padenter", "l": "padcomma", "m": "padminus", "n": "padperiod",
+           **{letter: f"pad{digit}" for digit, letter in enumerate("pqrstuvwxy")}}
+LINUX = {"A": "pf1", "B": "pf2", "C": "pf3", "D": "pf4"}
+CONTROLLED = {"A": "C-up", "B": "C-down", "C": "C-right", "D": "C-left"}
+
+SPELLINGS = {
+    **{f"\x1b[{number}~": name for number, name in NUMBERED.items()},
+    **{f"\x1b[{letter}": name for letter, name in CURSOR.items()},
+    **{f"\x1bO{letter}": name for letter, name in SHIFTED.items()},
+    **{f"\x1b[[{letter}": name for letter, name in LINUX.items()},
+    **{f"\x1b[1;5{letter}": name for letter, name in CONTROLLED.items()},
+    **{f"\x1bO{letter.lower()}": name for letter, name in CONTROLLED.items()},
+}
+# A paste begins and ends so; what stands between is one key of the name `text`, or several, as it comes.
+PASTE, PASTED = "\x1b[200~", "\x1b[201~"
+SPELLINGS.update({PASTE: "paste", PASTED: "pasted"})
+ACTS = {name for name in SPELLINGS.values() if not name.startswith("C-") and not name.startswith("paste")}
+TYPED = {"\r": "key return", "\x7f": "key backspace"}
+# What an act begins with that goes to the program in the pane in focus.
+TYPES = ("char ", "key ")
+
+# A sequence, or a character; and the beginning of a sequence that more may follow.
+WHOLE = re.compile(ANSWER.pattern + r"|\x1b\[\[[A-E]|\x1b\[[0-?]*[ -/]*[@-~]|\x1bO[ -~]|.", re.DOTALL)
+BEGUN = re.compile(r"\x1b(\[\[?|\[[0-?]+[ -/]*|O)?")
+
+
+class Keys:
+    """Keys of a stream that comes in any pieces."""
+
+    def __init__(self) -> None:
+        self.decoder = codecs.getincrementaldecoder("utf-8")("replace")
+        self.rest = ""
+        self.is_pasting = False
+
+    def fed(self, piece: bytes) -> list[Key]:
+        """The keys that are whole now. An escape that may begin more waits."""
+        text, self.rest = self.rest + self.decoder.decode(piece), ""
+        keys: list[Key] = []
+        while text:
+            found, text = self.pasted(text) if self.is_pasting else self.typed(text)
+            keys += found
+        return keys
+
+    def typed(self, text: str) -> tuple[list[Key], str]:
+        """The keys of a text up to the beginning of a paste, and what stands behind that."""
+        before, begins, rest = text.partition(PASTE)
+        if begins:
+            self.is_pasting = True
+            return [*keys_in(before), Key("paste", PASTE)], rest
+        answer = begun_at(text)
+        cut = text.rfind("\x1b", max(0, len(text) - 32)) if answer is None else answer
+        is_cut = answer is not None or cut >= 0 and BEGUN.fullmatch(text, cut) is not None
+        self.rest = text[cut:] if is_cut else ""
+        return keys_in(text[:cut] if is_cut else text), ""
+
+    def pasted(self, text: str) -> tuple[list[Key], str]:
+        """What of a text is pasted, as one key, the end of the paste, and what stands behind that."""
+        before, ends, rest = text.partition(PASTED)
+        if ends:
+            self.is_pasting = False
+        else:
+            begun = next((length for length in range(len(PASTED) - 1, 0, -1) if text.endswith(PASTED[:length])), 0)
+            self.rest = text[len(text) - begun :]
+            before = text[: len(text) - begun]
+        return [Key("text", before)] * bool(before) + [Key("pasted", PASTED)] * bool(ends), rest
+
+    def waits(self) -> bool:
+        """Whether an escape waits for more that may not come; of a report of the mouse all does, and of an answer of the terminal, however
+        long that takes."""
+        return self.rest != "" and not self.is_pasting and not self.rest.startswith((BEGIN, BEGINS_ANSWER, *BEGINS))
+
+    def ended(self) -> list[Key]:
+        """The keys of what waits, where no more came in time."""
+        text, self.rest = self.rest, ""
+        return [Key(letter, letter) for letter in text]
+
+
+def keys_in(text: str) -> list[Key]:
+    """The keys of a text, and reports of the mouse and answers of the terminal among them; a sequence that isn't known has the name of
+    none."""
+    return [key_of(found[0]) for found in WHOLE.finditer(text)]
+
+
+def key_of(text: str) -> Key:
+    """The key of a character or a sequence: one that tells what is held is the key that other terminals send for it."""
+    extended = extended_key(text) if text.endswith(("~", "u")) else None
+    if not extended:
+        return Key(name_of(text), text)
+    plain = extended.plain()
+    name = name_of(plain)
+    return Key(f"M-{name}", f"\x1b{plain}", extended) if extended.held & META else Key(name, plain, extended)
+
+
+def name_of(text: str) -> str:
+    """The name of a character or a sequence."""
+    if text.startswith(BEGIN) and text[-1] in "Mm":
+        return MOUSE
+    if text.startswith(BEGINS):
+        return COLOUR
+    if text.startswith(BEGINS_ANSWER) and answered(text) is not None:
+        return ANSWERED
+    return SPELLINGS.get(text, text if len(text) == 1 else "unknown")
+
+
+def acts_of(key: Key) -> list[str]:
+    """The acts of a key that is typed: its own, or a character for each of its text."""
+    if key.name in ACTS:
+        return [f"key {key.name}"]
+    return [TYPED.get(letter) or f"char {ord(letter):x}" for letter in key.text]
+
+
+# What stands round a paste, to a program that asked for it (xterm, bracketed paste).
+BRACKETS = tuple([f"char {ord(letter):x}" for letter in text] for text in (PASTE, PASTED))
+
+
+def pasted_acts(text: str, is_bracketed: bool) -> list[str]:
+    """The acts of a text that is pasted, between brackets where the program wants that. No control character is in it but TAB and CR, so it
+    never ends its brackets."""
+    if not is_bracketed:
+        return acts_of(Key("text", text))
+    return [*BRACKETS[0], *(f"char {ord(letter):x}" for letter in text), *BRACKETS[1]]
+
+
+def acts_of_bytes(text: bytes) -> list[str]:
+    """The acts of bytes that come at once and nothing after them."""
+    keys = Keys()
+    return [act for key in keys.fed(text) + keys.ended() for act in acts_of(key)]

@@ -1,0 +1,355 @@
+"""A connection to a session's client start: the lines that wait for it, what is told over it, and how it is had again where it is lost."""
+from __future__ import annotations
+
+import os
+import socket
+import time
+from collections.abc import Callable
+
+from roam_live.common.errors import Fault, SocketPeer, connected_now, is_disk_full, read, reason
+from roam_live.common.event_loop import READ, WRITE, ready
+from roam_live.input.keys import TYPES
+from roam_live.protocol.display_records import NoRecord, Records
+
+TYPE_CHECKING = False
+if TYPE_CHECKING:
+    from roam_live.protocol.display_records import ToldRecord
+    from roam_live.protocol.session_interface import AnySession
+    from roam_live.session.sessions import FolderSession
+
+# The pauses before a start is spawned anew; a connection that lasted so long had no fault at its start.
+PAUSES = (0.1, 1, 2, 4, 8, 15)
+SOUND = 5.0
+
+# While no room is left on the disk it is tried so often: a start is had as soon as there is some.
+FULL_PAUSE = 1
+
+# So many seconds a start has for its socket, and how often it is looked for.
+READY_WAIT = 10.0
+STEP = 0.02
+
+# So many seconds what was typed before a person left may take, and a start has for its first record.
+LAST_WAIT = 1.5
+FIRST_WAIT = 5.0
+
+# What a start tells before it ends is read so many times at most, 65,536 bytes each.
+LAST_READS = 64
+
+# So many acts stand in one line at most, where they come at once, as what is pasted: they are typed in one turn. A start has 64 on their
+# way, so that one line waits while another is answered, and another terminal's key finds room between.
+MOST_ACTS = 32
+
+# So many bytes wait for a start before no more is read of what is typed.
+TYPED_LIMIT = 1 << 24
+
+# What a line begins with whose acts were pasted.
+PASTED = "paste ; "
+
+# Why a link was lost.
+LOST = "the client start has ended; what was typed last may be lost"
+NO_MORE = "no more terminals are taken: 16 are there"
+LET_GO = "this terminal was let go; what was typed last may be lost"
+EARLIER = "the client start is an earlier roam's"
+REFUSED = "the client start refused a line"
+SILENT = "the client start tells nothing"
+
+
+def greeting_of(watches: bool, guessing: str) -> bytes:
+    """What a start is told first."""
+    more = b"watch\n" if watches else b"" if guessing == "never" else f"guess {guessing}\n".encode()
+    return b"told\n" + more
+
+
+class StartLink:
+    """A terminal's connection to the start, over which it is told records. Each line goes whole to one connection: what of a line came to
+    one that is lost is nothing."""
+
+    def __init__(self, path: str | os.PathLike[str], watches: bool, guessing: str = "never") -> None:
+        self.path, self.watches = path, watches
+        self.greeting = greeting_of(watches, guessing)
+        self.peer: socket.socket | None = None
+        # The process at the other end, where it is known.
+        self.process = 0
+        self.waiting = bytearray()
+        self.given = 0
+        # How many acts the last line has, where more may join them, and whether they were pasted.
+        self.acts = 0
+        self.is_pasted = False
+        self.since = 0.0
+        self.forget()
+
+    def forget(self) -> None:
+        """Knows nothing yet of what a connection tells."""
+        self.records = Records()
+        # Whether anything came, and whether the end; how many lines it was given, and how many of them are done; that it is full, and which
+        # line it refused.
+        self.has_come = self.has_ended = False
+        self.lines = self.taken = 0
+        self.is_full, self.refusal = False, ""
+
+    def fileno(self) -> int:
+        """Its descriptor."""
+        return self.end().fileno()
+
+    def end(self) -> socket.socket:
+        """The connection, which has to be there."""
+        if self.peer is None:
+            raise ValueError("a link that isn't connected was asked for its connection")
+        return self.peer
+
+    def connect(self) -> None:
+        """Connects to the start."""
+        self.peer = connected_now(self.path)
+        self.process = SocketPeer.of(self.peer).process
+        self.since, self.given = time.monotonic(), 0
+        self.acts = 0
+        self.forget()
+        if self.watches:
+            self.waiting[:] = self.greeting
+        elif not self.waiting.startswith(self.greeting):
+            self.waiting[:0] = self.greeting
+        self.lines = self.waiting.count(b"\n")
+
+    def guess(self, guessing: str) -> None:
+        """Has guesses be shown otherwise, here and by the starts that are connected to later."""
+        is_waiting = self.waiting.startswith(self.greeting)
+        greeting = greeting_of(self.watches, guessing)
+        if is_waiting:
+            self.waiting[: len(self.greeting)] = greeting
+        self.greeting = greeting
+        if self.peer and not self.watches:
+            self.say(f"guess {guessing}")
+
+    def say(self, line: str) -> None:
+        """Adds a line at the end."""
+        self.waiting += f"{line}\n".encode()
+        self.acts = 0
+        self.lines += 1
+
+    def type(self, *acts: str, is_pasted: bool = False) -> None:
+        """Adds acts at the end; those that were pasted have lines of their own, which say so."""
+        for act in acts:
+            if 0 < self.acts < MOST_ACTS and is_pasted == self.is_pasted:
+                self.waiting[-1:] = f" ; {act}\n".encode()
+                self.acts += 1
+            else:
+                self.say(f"{PASTED}{act}" if is_pasted else act)
+                self.acts = 1
+            self.is_pasted = is_pasted
+
+    def is_stuffed(self) -> bool:
+        """Return True if so much waits that nothing more is to be typed, and no paste among it, which a C-c would drop."""
+        return len(self.waiting) >= TYPED_LIMIT and not self.has_pastes()
+
+    def is_full_behind(self) -> bool:
+        """Return True if as much waits with a paste among it, so that only a C-c helps."""
+        return len(self.waiting) >= TYPED_LIMIT and self.has_pastes()
+
+    def has_pastes(self) -> bool:
+        """Return True if a paste waits, or may."""
+        return PASTED.encode() in self.waiting
+
+    def drop_pasted(self) -> list[str]:
+        """Drop the pastes that weren't begun to be sent, and all keys behind the first of them, and return the lines that had them. Other
+        acts, and what is asked for, stay. A line that is half sent is sent whole."""
+        if not self.has_pastes():
+            return []
+        begin = self.waiting.find(b"\n") + 1 if self.given else 0
+        lines = self.waiting[begin:].decode().splitlines()
+        first = next((place for place, line in enumerate(lines) if line.startswith(PASTED)), len(lines))
+        left = [*lines[:first], *filter(None, map(without_keys, lines[first:]))]
+        dropped = [line for line in lines[first:] if without_keys(line) != line]
+        self.waiting[begin:] = "".join(f"{line}\n" for line in left).encode()
+        self.lines -= len(lines) - len(left)
+        self.acts = 0
+        return dropped
+
+    def send(self) -> bool:
+        """Sends what the start takes now; tells whether it is still there."""
+        self.acts = 0
+        try:
+            self.given += self.end().send(memoryview(self.waiting)[self.given : self.given + 65536])
+        except BlockingIOError:
+            return True
+        except OSError:
+            return False
+        whole = self.waiting.rfind(b"\n", 0, self.given) + 1
+        del self.waiting[:whole]
+        self.given -= whole
+        return True
+
+    def told(self) -> list[ToldRecord] | None:
+        """The records that came; None where the connection has ended, or tells what is no record."""
+        piece = read(self.end().fileno())
+        self.has_come = self.has_come or bool(piece)
+        try:
+            records = self.records.came(piece or b"")
+        except NoRecord:
+            piece = b""
+        if piece == b"":
+            self.has_ended = True
+            return None
+        for record in records:
+            self.note(record)
+        return records
+
+    def note(self, record: ToldRecord) -> None:
+        """Takes note of what a record tells of the connection."""
+        if record.word == "taken":
+            self.taken = record.numbers[0]
+        elif record.word == "full":
+            self.is_full = True
+        elif record.word == "refused":
+            self.refusal = record.words
+
+    def exchanged(self, seconds: float = 0.1) -> list[ToldRecord] | None:
+        """Waits so many seconds at most, gives what is taken, and tells the records that came; None where the connection has ended: what
+        was told before that is read first."""
+        events = ready(self.end(), READ | WRITE if self.waiting else READ, seconds)
+        if events & WRITE:
+            self.send()
+        return self.told() if events & READ else []
+
+    def hear_last(self) -> None:
+        """Takes note of what a start told that takes nothing more, as that it refused a line."""
+        for _ in range(LAST_READS):
+            if self.told() is None:
+                return
+
+    def begins(self, seconds: float) -> bool:
+        """Gives what waits, and tells whether records begin to come in so many seconds."""
+        end = time.monotonic() + seconds
+        while not self.records.begun and time.monotonic() < end:
+            if self.exchanged() is None:
+                break
+        return self.records.begun
+
+    def untaken(self) -> int:
+        """How many lines were given that aren't taken yet."""
+        return max(0, self.lines - self.taken)
+
+    def is_done(self) -> bool:
+        """Whether all lines that were given are taken, with all their acts."""
+        return self.taken >= self.lines
+
+    def loss(self) -> str:
+        """Why a connection has ended, where its start is still there."""
+        if self.is_full or not self.has_come:
+            return NO_MORE
+        if not self.records.begun:
+            return EARLIER
+        return f"{REFUSED}: {self.refusal}" if self.refusal else LET_GO
+
+    def close(self) -> None:
+        """Closes it."""
+        if self.peer:
+            self.peer.close()
+            self.peer = None
+
+    def part(self, seconds: float = LAST_WAIT) -> bool:
+        """Gives the start what was typed, closes, and tells whether it took all in so many seconds."""
+        end = time.monotonic() + seconds
+        has_said, has_ended = False, not self.peer
+        while not has_ended and time.monotonic() < end:
+            if not has_said and not self.waiting:
+                has_said = True
+                self.end().shutdown(socket.SHUT_WR)
+            has_ended = self.exchanged() is None
+        self.close()
+        return has_ended and not self.waiting
+
+
+def without_keys(line: str) -> str:
+    """Return a line without what it types into a pane; nothing of one that was pasted."""
+    if line.startswith(PASTED):
+        return ""
+    return " ; ".join(act for act in line.split(" ; ") if not act.startswith(TYPES))
+
+
+def opened(session: FolderSession, watches: bool) -> StartLink:
+    """A connection over which records come; where an earlier roam's start is there it is to another, which is launched in its place."""
+    link = StartLink(session.terminals, watches)
+    for _ in range(2):
+        link.connect()
+        if link.begins(FIRST_WAIT):
+            return link
+        why = link.loss() if link.has_ended else SILENT
+        link.close()
+        if why != EARLIER:
+            break
+        with session.locked():
+            session.demand_terminals(link.process)
+    raise Fault(why)
+
+
+class Keeper:
+    """Has a link connected: to the start that is there, or to another, which is spawned after pauses that grow, and in place of one that
+    is an earlier roam's."""
+
+    def __init__(self, session: AnySession, link: StartLink, is_full: Callable[[], bool] = lambda: False) -> None:
+        self.session, self.link, self.is_full = session, link, is_full
+        self.faults = 0
+        self.begun_at = 0.0
+        self.start: int | None = None
+        # The process of a start that is an earlier roam's.
+        self.earlier: int | None = None
+
+    def lost(self) -> str:
+        """Takes note of a link that has ended, and tells why, as far as that is known yet."""
+        self.session.read()
+        why = self.link.loss() if self.session.runs("terminals") else LOST
+        self.faults = 1 if time.monotonic() - self.link.since > SOUND else self.faults + 1
+        if why == EARLIER:
+            self.earlier, self.start = self.link.process, None
+        self.link.close()
+        return why
+
+    def pause(self) -> float:
+        """The seconds until it is tried anew."""
+        pause = PAUSES[min(self.faults, len(PAUSES)) - 1] if self.faults else 0.0
+        return min(pause, FULL_PAUSE) if pause and is_disk_full(self.link.path) else pause
+
+    def connected(self) -> str:
+        """Takes note of a link that is there, and tells what was lost with the one before."""
+        self.begun_at = 0.0
+        self.session.read()
+        before, self.start = self.start, self.session.process("terminals")
+        return "" if before is None else LET_GO if before == self.start else LOST
+
+    def connect(self) -> tuple[float, str] | None:
+        """Connects where that can be done now; else the seconds until it is tried again, and why, where a person is to know."""
+        if self.earlier is not None:
+            return self.begin(time.monotonic())
+        try:
+            self.link.connect()
+            return None
+        except PermissionError as fault:
+            return self.failed(f"{self.link.path}: {reason(fault)}")
+        except OSError as fault:
+            why = reason(fault)
+        now = time.monotonic()
+        if self.begun_at and self.session.runs("terminals") and now < self.begun_at + READY_WAIT:
+            return STEP, ""
+        if self.begun_at:
+            return self.failed(f"no client start is ready: {why}")
+        if not self.session.is_served():
+            return self.failed(f"no server is {self.session}")
+        if self.is_full():
+            return self.failed("the server has had the 64 client starts of its life, and hears no other")
+        return self.begin(now)
+
+    def begin(self, now: float) -> tuple[float, str]:
+        """Starts a start, which has its socket soon."""
+        earlier, self.earlier = self.earlier, None
+        try:
+            self.session.revive(earlier)
+        except (Fault, OSError) as fault:
+            return self.failed(reason(fault).removeprefix(f"session {self.session.name}: "))
+        self.begun_at = now
+        return STEP, ""
+
+    def failed(self, said: str) -> tuple[float, str]:
+        """What is told of a fault, and the pause after it."""
+        self.faults += 1
+        self.begun_at = 0.0
+        return self.pause(), said

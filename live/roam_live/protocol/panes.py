@@ -1,0 +1,265 @@
+"""Where the panes of a session are: as the socket `panes` of its folder tells it, line by line, to whoever follows it or asks once."""
+from __future__ import annotations
+
+import os
+import re
+import time
+from collections import namedtuple
+
+from roam_live.common.errors import Lines, connected_in, read
+from roam_live.common.event_loop import comes
+
+TYPE_CHECKING = False
+if TYPE_CHECKING:
+    import socket
+
+BESIDE = {"left": (0, -1), "right": (0, 1), "up": (-1, 0), "down": (1, 0)}
+
+# Acts after which another pane may be in focus.
+MOVES = ("focus", "next", "split", "close")
+
+# A session has so many panes at most; one that is split has room for two and the border between.
+MOST_PANES = 9
+ROOM = {"right": (0, 9), "down": (5, 0)}
+
+# A server knows so many client starts that edit, and that watch; from so many that edit on a person is warned: then none of another machine
+# that is new is taken.
+MOST_STARTS, MOST_WATCHERS = 64, 16
+WARNED_STARTS = 48
+
+# What a line tells: where a pane is and which making of its number, that it is gone, which is in focus, or how many starts there were of
+# how many; and to who asked for it which modes a pane's program has set, or what else stands beside its terminal. It may have come from
+# another machine: its numbers are small, and a text for the clipboard is base64 and has 131,072 characters at most.
+TOLD = re.compile(r"(?P<pane>[1-9])((?: \d{1,4}){4}) (?P<life>\d{1,19})|(?P<gone>[1-9]) gone|focus (?P<focus>[1-9])"
+                  r"|(?P<kind>starts|watchers) (?P<count>\d{1,4})(?: of \d{1,4})?"
+                  r"|(?P<aside>modes [1-9] \d{1,19}(?: [a-z0-9]{1,16}){0,16}|shape [1-9] \d{1,19} [0-6]"
+                  r"|title [1-9] \d{1,19} (?:[0-9a-f]{2}){0,800})|bell [1-9] \d{1,19}|(?P<clip>clip [1-9] \d{1,19} "
+                  r"(?:[A-Za-z0-9+/]{4}){0,32767}(?:[A-Za-z0-9+/]{4}|[A-Za-z0-9+/]{3}=|[A-Za-z0-9+/]{2}==)?)", re.ASCII)
+LONGEST_LINE = (1 << 17) + 64
+
+# What a server is asked for by who goes by what stands beside the panes' terminals, and the words that begin the lines of that; that a
+# program wants what is pasted between brackets, and reports of the focus.
+ASIDE = "beside"
+ASIDES = ("modes", "shape", "title", "bell")
+BRACKETED = "paste"
+FOCUS = "focus"
+OTHER = "other"
+
+# What it is asked for by who sets a clipboard too, and the word of its lines.
+CLIPS = "clips"
+CLIP = "clip"
+
+# So many seconds a server has for what it is asked once, and what is told behind the focus for coming.
+ASKED = 1.0
+BEHIND = 0.1
+
+
+class Rect(namedtuple("Rect", "row col rows cols")):
+    """A pane's first row and column, from 1, and its rows and columns."""
+
+    row: int
+    col: int
+    rows: int
+    cols: int
+
+
+class Places(namedtuple("Places", "rects focus starts watchers", defaults=(0, 0, 0))):
+    """What is told of a session: the rectangles of its panes by number, the focus, and how many starts edited and watched so far."""
+
+    rects: dict[int, Rect]
+    focus: int
+    starts: int
+    watchers: int
+
+    def size(self) -> tuple[int, int]:
+        """The session's rows and columns."""
+        rects = self.rects.values()
+        return max(rect.row + rect.rows for rect in rects), max(rect.col + rect.cols - 1 for rect in rects)
+
+    def is_covered(self) -> bool:
+        """Whether the panes and borders cover the area, as far as their sizes tell: while only some are told anew they don't."""
+        rows, cols = self.size()
+        return sum((rect.rows + 1) * (rect.cols + 1) for rect in self.rects.values()) == rows * (cols + 1)
+
+    def labels(self) -> str:
+        """The panes' numbers as a session's status row has them: that in focus in brackets, each other between spaces."""
+        return "".join(f"[{pane}]" if pane == self.focus else f" {pane} " for pane in in_order(self.rects))
+
+    def pane_at(self, row: int, col: int) -> int:
+        """The pane that has a place of the session; 0 where none does."""
+        return next((pane for pane, rect in self.rects.items() if covers(rect, row, col, True) and covers(rect, row, col, False)), 0)
+
+    def is_full(self) -> bool:
+        """Whether the server knows as many starts as it ever does."""
+        return self.starts >= MOST_STARTS
+
+    def warning(self) -> str:
+        """What a person is warned of, in a few words: that the server takes only so many starts more; nothing where it isn't needed."""
+        return f"{self.starts} of {MOST_STARTS} starts" if self.starts >= WARNED_STARTS else ""
+
+    def neighbour(self, way: str) -> int | None:
+        """The pane that touches the one in focus on that side, nearest to its middle; None where none does."""
+        here = self.rects[self.focus]
+        down, right = BESIDE[way]
+        middle = (here.row + (here.rows - 1) / 2, here.col + (here.cols - 1) / 2)
+        row = middle[0] if not down else here.row + (here.rows + 1 if down > 0 else -2)
+        col = middle[1] if not right else here.col + (here.cols + 1 if right > 0 else -2)
+        others = [(pane, rect) for pane, rect in self.rects.items() if pane != self.focus]
+        found = [(distance(rect, row, col), pane) for pane, rect in others if covers(rect, row, col, bool(right))]
+        return min(found)[1] if found else None
+
+    def unsplit(self, way: str) -> str:
+        """Why the pane in focus can't be split that way; nothing where it can, or that isn't known."""
+        here = self.rects.get(self.focus)
+        if len(self.rects) >= MOST_PANES:
+            return f"there are {MOST_PANES} panes, and no more"
+        if here and (here.rows < ROOM[way][0] or here.cols < ROOM[way][1]):
+            return f"pane {self.focus} is too small to be split: {here.rows} by {here.cols}"
+        return ""
+
+
+def in_order(rects: dict[int, Rect]) -> list[int]:
+    """Panes in the order of the layout's tree, as far as their rectangles tell it: those on the left, or above, of a cut through all of
+    them come first. Where four meet in a cross either cut may have been the first."""
+    for begin, extent in (("col", "cols"), ("row", "rows")):
+        ordered = sorted(rects.items(), key=lambda item: int(getattr(item[1], begin)))
+        end = 0
+        for count, (_, rect) in enumerate(ordered):
+            if count and end <= getattr(rect, begin):
+                return in_order(dict(ordered[:count])) + in_order(dict(ordered[count:]))
+            end = max(end, getattr(rect, begin) + getattr(rect, extent))
+    return sorted(rects)
+
+
+def covers(rect: Rect, row: float, col: float, is_beside: bool) -> bool:
+    """Whether a pane has the column to a side, or the row above or below."""
+    if is_beside:
+        return rect.col <= col < rect.col + rect.cols
+    return rect.row <= row < rect.row + rect.rows
+
+
+def distance(rect: Rect, row: float, col: float) -> float:
+    """How far a pane is from a point, along the side that it may lie off."""
+    below, beside = rect.row + rect.rows - 1, rect.col + rect.cols - 1
+    return max(rect.row - row, row - below, 0) + max(rect.col - col, col - beside, 0)
+
+
+def aside_of(line: str) -> str:
+    """What a line tells of what stands beside a pane's terminal: its word and the pane, and of the clipboard its word alone; nothing where
+    it tells something else."""
+    word, _, rest = line.partition(" ")
+    return f"{word} {rest[:1]}" if word in ASIDES else CLIP if word == CLIP else ""
+
+
+class ToldAside(namedtuple("ToldAside", "life value line")):
+    """Something that stands beside the terminal of one making of a pane, and the line that tells it."""
+
+    life: str
+    value: str
+    line: str
+
+
+class ToldPanes:
+    """What was told of a session's panes so far."""
+
+    def __init__(self) -> None:
+        self.panes: dict[int, str] = {}
+        self.rects: dict[int, Rect] = {}
+        # Of each pane which making of its number it is; and the newest of what stands beside its terminal, by word and pane.
+        self.lives: dict[int, str] = {}
+        self.asides: dict[str, ToldAside] = {}
+        # The text for the clipboard that was told last, and the pane, until it is taken.
+        self.clip: tuple[int, str] | None = None
+        self.focus = 0
+        self.counts: dict[str, tuple[int, str]] = {}
+
+    def take(self, line: str) -> bool:
+        """Takes a line, and tells whether it can be one of these."""
+        found = TOLD.fullmatch(line)
+        if not found:
+            return False
+        if found["pane"]:
+            pane = int(found["pane"])
+            self.panes[pane], self.rects[pane] = line, Rect(*map(int, found[2].split()))
+            self.lives[pane] = found["life"]
+        elif found["gone"]:
+            self.panes.pop(int(found["gone"]), None)
+            self.rects.pop(int(found["gone"]), None)
+            self.forget_aside(found["gone"])
+        elif found["focus"]:
+            self.focus = int(found["focus"])
+        elif found["aside"]:
+            life, _, value = line.split(" ", 2)[2].partition(" ")
+            self.asides[aside_of(line)] = ToldAside(life, value, line)
+        elif found["clip"]:
+            pane_told, life, text = line.split(" ")[1:]
+            self.clip = (int(pane_told), text) if life == self.lives.get(int(pane_told)) else self.clip
+        elif found["kind"]:
+            self.counts[found["kind"]] = int(found["count"]), line
+        return True
+
+    def places(self) -> Places | None:
+        """Where the panes are; None where the focus, which is told behind them, isn't known, or on no pane."""
+        if self.focus not in self.rects:
+            return None
+        starts, watchers = (self.counts.get(kind, (0, ""))[0] for kind in ("starts", "watchers"))
+        return Places(dict(sorted(self.rects.items())), self.focus, starts, watchers)
+
+    def forget_aside(self, pane: str) -> None:
+        """Knows nothing of what stands beside the terminal of a pane that is gone."""
+        for word in ASIDES:
+            self.asides.pop(f"{word} {pane}", None)
+
+    def value(self, word: str, pane: int) -> str:
+        """What is told by a word of what stands beside a pane's terminal; nothing where it isn't known of this making of the pane."""
+        told = self.asides.get(f"{word} {pane}")
+        return told.value if told and told.life == self.lives.get(pane) else ""
+
+    def taken_clip(self) -> tuple[int, str] | None:
+        """The text for the clipboard that was told since, and the pane."""
+        clip, self.clip = self.clip, None
+        return clip
+
+    def has_set(self, pane: int, mode: str) -> bool:
+        """Whether a pane's program is known to have set a mode."""
+        return mode in self.value("modes", pane).split()
+
+    def aside(self, pane: int) -> tuple[str, int]:
+        """A pane's title, and the shape of its cursor, as far as they are known."""
+        return bytes.fromhex(self.value("title", pane)).decode("utf-8", "replace"), int(self.value("shape", pane) or 0)
+
+    def is_whole(self) -> bool:
+        """Whether all is known that is told at first."""
+        return self.focus in self.rects and len(self.counts) == 2
+
+    def lines(self) -> list[str]:
+        """The lines by which somebody who knows nothing knows as much, in the order of a server."""
+        counts = [self.counts[kind][1] for kind in ("starts", "watchers") if kind in self.counts]
+        return [*(line for _, line in sorted(self.panes.items())), f"focus {self.focus}", *counts] if self.places() else []
+
+    def lines_beside(self) -> dict[str, str]:
+        """The lines by which somebody knows as much of what stands beside the terminals, by word and pane. Bells have rung."""
+        return {key: told.line for key, told in self.asides.items()}
+
+
+def asked_places(path: str | os.PathLike[str], seconds: float = ASKED) -> Places | None:
+    """Where the panes are, asked once at a socket `panes`; None where nobody tells it in so many seconds."""
+    end = time.monotonic() + seconds
+    try:
+        with connected_in(path, seconds) as peer:
+            return places_by(peer, end)
+    except OSError:
+        return None
+
+
+def places_by(peer: socket.socket, end: float) -> Places | None:
+    """Where the panes are, as is told there until a moment; None where it isn't."""
+    told, lines = ToldPanes(), Lines()
+    while not told.is_whole() and comes(peer, max(0.0, end - time.monotonic())):
+        piece = read(peer.fileno())
+        if piece == b"":
+            break
+        for line in lines.fed(piece or b""):
+            told.take(line)
+        end = min(end, time.monotonic() + BEHIND) if told.places() else end
+    return told.places()

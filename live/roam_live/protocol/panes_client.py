@@ -1,0 +1,347 @@
+"""The connection at which a server tells where its panes are, for a program that follows them as long as the server is there."""
+from __future__ import annotations
+
+import os
+import socket
+from collections import deque
+from collections.abc import Callable
+
+from roam_live.common.errors import Lines, SocketPeer, connected, connected_now, read, reason, runs_program, say, write
+from roam_live.common.event_loop import Loop
+from roam_live.protocol.panes import ASIDE, BRACKETED, CLIPS, LONGEST_LINE, Places, ToldPanes
+from roam_live.protocol.queries import ASKS
+
+TYPE_CHECKING = False
+if TYPE_CHECKING:
+    import pathlib
+
+# The pauses before a connection that was lost is had again; why it can't be is told once it took longer than the first of them.
+PAUSES = (0.1, 1, 2, 4, 8, 15)
+LET_GO = "the server lets this go, as where as many others follow the panes as may"
+
+# So many seconds a server has until it tells something: it may have taken none of those that came.
+QUIET = 3.0
+TELLS_NOTHING = "the server tells nothing, as where no descriptor is left for it"
+
+# A connection that ended sooner is had again after a longer pause, whatever it told: so two keepers of shells, who take the server's one
+# place for them from each other, do so ever more seldom.
+SOUND = 5.0
+
+# A server that lets go who asks for texts for a clipboard is asked for them again after so many seconds.
+CLIPS_AGAIN = 60.0
+
+# What a server is told by the keeper of shells, for which it has a place of its own; and what it answers to a line that it doesn't know.
+KEEPER = "keeper"
+BAD_LINE = "bad line"
+
+# A line that no server knows: the refusal shows that it lives. So many may be unanswered.
+PROBE = "alive"
+MOST_PROBES = 4
+
+# Where nobody tells where the panes are it isn't said before so many tries, since who tells it may come a moment later; and for so many
+# seconds a front end takes it that it will be told.
+TRIES = 3
+AWAITED = 10.0
+UNTOLD = "where panes are isn't told, as by an earlier roam; an arrow goes to the next"
+NOR_BELLS = "panes and bells aren't told, as by an earlier roam; an arrow goes to the next"
+NO_PLACE = "no more may follow where panes are; an arrow goes to the next pane"
+
+# A server tells one for whom it has no place too where the panes are, and lets it go then: who met that goes by what is told once the
+# connection has stood for so many seconds.
+STANDS = 1.0
+
+
+class Following:
+    """Follows a socket, as `panes`, which a call connects to: a call for the lines that came, and one where the connection is lost. It is
+    had again then after pauses, for as long as this is there."""
+
+    # What the moment is called at which it is had again.
+    again = "follow panes"
+
+    def __init__(self, connects: Callable[[], socket.socket], loop: Loop, hears: Callable[[list[str]], object],
+                 loses: Callable[[], object]) -> None:
+        self.connects, self.loop, self.hears, self.loses = connects, loop, hears, loses
+        # Handler for an exception in what is reported here; without one it ends the process.
+        self.fails: Callable[[Exception], object] | None = None
+        # What is asked for at each connection, before all else.
+        self.words: list[str] = []
+        self.peer: socket.socket | None = None
+        self.lines = Lines()
+        self.waiting = bytearray()
+        # How often in a row nothing came, and why; when the connection was had, and how many in a row ended soon.
+        self.faults = 0
+        self.why = ""
+        self.since, self.soon = 0.0, 0
+        # Whether nobody is there, as far as the socket tells.
+        self.is_gone = False
+
+    def begin(self, peer: socket.socket) -> None:
+        """Follows a connection that is there."""
+        self.peer, self.lines, self.since = peer, Lines(), self.loop.clock()
+        self.lengthen()
+        self.waiting.clear()
+        self.loop.add(peer, self.hear, lambda: write(peer.fileno(), self.waiting), has_more=lambda: self.waiting, fails=self.fails,
+                      is_told=True)
+        for word in self.words:
+            self.ask(word)
+
+    def want(self, word: str) -> None:
+        """Asks for something now, and at each connection from now on."""
+        if word not in self.words:
+            self.words.append(word)
+            self.lengthen()
+            self.ask(word)
+
+    def lengthen(self) -> None:
+        """Takes lines that are longer where a text for a clipboard may be told."""
+        if CLIPS in self.words:
+            self.lines.longest = LONGEST_LINE
+
+    def ask(self, line: str) -> None:
+        """Asks the server for something, while it is followed."""
+        if self.peer:
+            self.waiting += f"{line}\n".encode()
+            self.loop.changed(self.peer)
+
+    def hear(self) -> None:
+        """Takes what came."""
+        piece = read(self.peer.fileno()) if self.peer else None
+        if piece == b"":
+            self.lost(LET_GO)
+            return
+        lines = self.lines.fed(piece) if piece else []
+        if lines:
+            self.faults = 0
+            self.hears(lines)
+
+    def lost(self, why: str) -> None:
+        """Lets go of a connection, which is had again after a pause."""
+        if self.peer:
+            self.soon = self.soon + 1 if self.loop.clock() < self.since + SOUND else 1
+        if self.soon > 1 and CLIPS in self.words:
+            # Who is let go again and again may be so for what was asked.
+            self.words.remove(CLIPS)
+            self.loop.later("clips again", CLIPS_AGAIN, lambda: self.want(CLIPS))
+        self.leave()
+        self.why = why
+        self.loop.later(self.again, PAUSES[min(self.pauses(), len(PAUSES) - 1)], self.connect)
+        self.faults += 1
+        self.loses()
+
+    def pauses(self) -> int:
+        """How many pauses were had in a row, each of which is longer than the one before."""
+        return max(self.faults, self.soon - 1)
+
+    def leave(self) -> None:
+        """Lets go of the connection."""
+        if self.peer:
+            self.loop.remove(self.peer)
+            self.peer.close()
+            self.peer = None
+
+    def end(self) -> None:
+        """Follows no more."""
+        self.leave()
+        self.loop.drop(self.again)
+
+    def connect(self) -> None:
+        """Connects. What is told then is all anew, and what was asked is asked again by who needs it."""
+        try:
+            self.begin(self.connects())
+            self.is_gone = False
+        except OSError as fault:
+            self.is_gone = isinstance(fault, (FileNotFoundError, ConnectionRefusedError, PermissionError))
+            self.lost(reason(fault))
+
+
+class KeeperFollowing(Following):
+    """Follows the panes of a folder's server, of this machine, and what stands beside their terminals, for what keeps their shells: it says
+    so, and what is wrong is told in words, once, and that it is over."""
+
+    def __init__(self, path: str, loop: Loop, hears: Callable[[list[str]], object], loses: Callable[[], object],
+                 tells: Callable[[str], None] = say, peer: socket.socket | None = None) -> None:
+        super().__init__(lambda: connected_now(path), loop, self.heard, loses)
+        self.takes, self.tells, self.told, self.fails = hears, tells, "", self.lose_for
+        self.quiet = "panes are quiet"
+        if peer:
+            # Other windows have such moments too.
+            self.again, self.quiet = f"{self.again} {path}", f"{self.quiet} {path}"
+        peer = peer or connected(path)
+        # The process that serves, where the system tells it here.
+        self.server = SocketPeer.of(peer).process
+        self.begin(peer)
+
+    def begin(self, peer: socket.socket) -> None:
+        """Follows a connection that is there; something has to come soon. An earlier server doesn't know who keeps the shells."""
+        super().begin(peer)
+        if runs_program(peer):
+            self.ask(KEEPER)
+            self.ask(ASIDE)
+            self.ask(ASKS)
+        self.loop.later(self.quiet, QUIET, lambda: self.tell(TELLS_NOTHING))
+
+    def end(self) -> None:
+        """Follows no more."""
+        self.loop.drop(self.quiet)
+        super().end()
+
+    def lose_for(self, fault: Exception) -> None:
+        """Drop the connection after an exception. The panes stay, and the server reports everything anew."""
+        self.lost(f"invalid report of panes: {reason(fault)}")
+
+    def heard(self, lines: list[str]) -> None:
+        """Takes lines that came."""
+        self.loop.drop(self.quiet)
+        if self.told:
+            self.told = ""
+            self.tells("the panes are followed again")
+        self.takes(lines)
+
+    def lost(self, why: str) -> None:
+        """Lets go of a connection, and tells why where that isn't over soon; of a server that is gone another tells."""
+        self.loop.drop(self.quiet)
+        if self.faults and not self.is_gone:
+            self.tell(why)
+        super().lost(why)
+
+    def tell(self, why: str) -> None:
+        """Tells once why it can't follow."""
+        if not self.told:
+            self.why, self.told = why, f"the panes can't be followed: {why}"
+            self.tells(self.told)
+
+
+class AsideFollowing(Following):
+    """Follows the panes, and what stands beside their terminals: an earlier server doesn't know the word, and answers so."""
+
+    # Whether it was asked, and hasn't answered that.
+    has_asked = False
+
+    def begin(self, peer: socket.socket) -> None:
+        """Follows a connection that is there."""
+        super().begin(peer)
+        self.has_asked = ASIDE in self.words
+
+    def hear_refusal(self) -> None:
+        """Takes note that it doesn't know a word: of two the one that came later."""
+        if CLIPS in self.words:
+            self.words.remove(CLIPS)
+        else:
+            self.has_asked = False
+
+
+class PanesFollower:
+    """What a front end knows of a session's panes: where they are, None where that isn't told. A call is for what is new of that, and one
+    for why it can't be told here, which a person is told once."""
+
+    def __init__(self, folder: pathlib.Path | None, loop: Loop, changed: Callable[[], object], tells: Callable[[str], object]) -> None:
+        self.folder, self.loop, self.changed, self.tells = folder, loop, changed, tells
+        self.told = ToldPanes()
+        self.places: Places | None = None
+        # The title of the pane in focus, and the shape of its cursor; and the modes that its program has set.
+        self.aside = ("", 0)
+        self.focus_modes: list[str] = []
+        # What is called with a text for the clipboard that the program in focus set, and the making of its pane.
+        self.clipped: Callable[[str, str], object] = lambda text, making: None
+        self.has_said = self.was_told = self.has_no_place = False
+        # What is called at each answer to a probe that is still to come.
+        self.probes: deque[Callable[[], object]] = deque()
+        self.awaited_until = loop.clock() + AWAITED if folder else 0.0
+        path = os.path.join(folder, "panes") if folder else ""
+        self.following = AsideFollowing(lambda: connected_now(path), loop, self.hear, self.lose)
+        self.following.want(ASIDE)
+        if folder:
+            self.following.connect()
+
+    def is_awaited(self) -> bool:
+        """Whether nothing is told yet, and something may be soon."""
+        return self.places is None and not self.has_said and self.loop.clock() < self.awaited_until
+
+    def is_untold(self) -> bool:
+        """Whether nothing is told, and nothing will be soon."""
+        return self.places is None and (self.has_said or not self.was_told and not self.is_awaited())
+
+    def follow_clips(self, clipped: Callable[[str, str], object]) -> None:
+        """Has a call be for each text for the clipboard that the program in focus sets, with the making of its pane."""
+        self.clipped = clipped
+        self.following.want(CLIPS)
+
+    def making(self, pane: int) -> str:
+        """Which making of its number a pane is: another has other words. Nothing where that isn't known."""
+        life = self.told.lives.get(pane) if self.places else None
+        return f"{pane} {life}" if life else ""
+
+    def modes(self, pane: int) -> list[str]:
+        """The modes that a pane's program is known to have set."""
+        return self.told.value("modes", pane).split() if self.places else []
+
+    def wants_brackets(self) -> bool:
+        """Whether the program in the pane in focus is known to want what is pasted between brackets."""
+        return self.places is not None and self.told.has_set(self.places.focus, BRACKETED)
+
+    def knows_modes(self) -> bool:
+        """Whether it is told here which modes the panes' programs have set."""
+        return self.places is not None and self.following.has_asked
+
+    def is_full(self) -> bool:
+        """Whether the server is known to have had as many starts as it ever has."""
+        return self.places is not None and self.places.is_full()
+
+    def probe(self, answered: Callable[[], object]) -> None:
+        """Ask the server for a sign of life; `answered` is called once it comes."""
+        if self.following.peer and len(self.probes) < MOST_PROBES:
+            self.probes.append(answered)
+            self.following.ask(PROBE)
+
+    def hear(self, lines: list[str]) -> None:
+        """Takes what was told."""
+        for _ in range(lines.count(BAD_LINE)):
+            (self.probes.popleft() if self.probes else self.following.hear_refusal)()
+        taken = [self.told.take(line) for line in lines if line != BAD_LINE]
+        if taken and not any(taken) and not self.places:
+            self.say(UNTOLD)
+        if self.has_no_place and self.loop.clock() < self.following.since + STANDS:
+            self.loop.later("panes stand", STANDS, self.know)
+        else:
+            self.know()
+
+    def know(self) -> None:
+        """Goes by what was told."""
+        self.has_no_place = False
+        before, self.places = (self.places, self.aside, self.focus_modes), self.told.places()
+        self.aside = self.told.aside(self.places.focus) if self.places else ("", 0)
+        self.focus_modes = self.modes(self.places.focus) if self.places else []
+        self.was_told = self.was_told or self.places is not None
+        if (self.places, self.aside, self.focus_modes) != before:
+            self.changed()
+        clip = self.told.taken_clip()
+        if clip and self.places and clip[0] == self.places.focus:
+            self.clipped(clip[1], self.making(clip[0]))
+
+    def lose(self) -> None:
+        """Goes on without, until it is told anew; where it stays so from the beginning that is said."""
+        following, was_told = self.following, self.places is not None
+        self.probes.clear()
+        self.told, self.places, self.aside, self.focus_modes = ToldPanes(), None, ("", 0), []
+        self.loop.drop("panes stand")
+        if was_told:
+            # A relay that goes another way cuts what it carries, which is there again in a moment.
+            self.awaited_until = self.loop.clock() + AWAITED
+            self.changed()
+        if following.faults >= TRIES and following.is_gone and self.folder:
+            self.say(UNTOLD if os.path.exists(os.path.join(self.folder, "bells")) else NOR_BELLS)
+        elif max(following.faults, following.soon) >= TRIES and following.why == LET_GO:
+            self.has_no_place = True
+            self.say(NO_PLACE)
+
+    def close(self) -> None:
+        """Follows them no more."""
+        self.following.end()
+        for name in ("panes stand", "clips again"):
+            self.loop.drop(name)
+
+    def say(self, words: str) -> None:
+        """Says something once."""
+        if not self.has_said:
+            self.has_said = True
+            self.tells(words)

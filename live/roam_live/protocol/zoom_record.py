@@ -1,0 +1,100 @@
+"""What is noted of a zoom, at the keeper of a session's shells: which size the session is to have again, so that it gets that also where
+the front end was killed that made it larger."""
+from __future__ import annotations
+
+from collections import namedtuple
+
+from roam_live.common.tty import MOST
+from roam_live.protocol.presence import MOST_NUMBER, number_in
+
+TYPE_CHECKING = False
+if TYPE_CHECKING:
+    from roam_live.common.tty import Size
+
+# The word by which a terminal tells of its zoom, and that by which it is told of one, behind who made it; and what is told of none.
+ZOOM, ZOOMED = "zoom", "zoomed"
+NONE = "none"
+NO_ZOOM = f"{ZOOMED} {NONE}"
+
+# So many sizes are asked for in one zoom at most.
+MOST_ASKED = 8
+
+# So many seconds after a front end left that had made a zoom the session has taken what that typed last, also on a busy machine; and after
+# so many nothing comes of it any more.
+LEFT = 2.0
+OVER = 10.0
+
+
+class ZoomNote(namedtuple("ZoomNote", "size asked")):
+    """The size that a session is to have again, and those that it was asked for by the zoom, the last of them last."""
+
+    size: Size
+    asked: tuple[Size, ...]
+
+    def __str__(self) -> str:
+        return " ".join("{} {}".format(*size) for size in (self.size, *self.asked))
+
+
+def note_in(words: list[str]) -> ZoomNote | None:
+    """The note that words tell; None where they don't."""
+    numbers = [number_in(word, MOST[place % 2]) for place, word in enumerate(words)]
+    if len(words) % 2 or not 2 <= len(words) // 2 <= MOST_ASKED + 1 or not all(numbers):
+        return None
+    sizes = list(zip(numbers[::2], numbers[1::2]))
+    return ZoomNote(sizes[0], tuple(sizes[1:]))
+
+
+def zoomed_in(words: list[str]) -> tuple[int, ZoomNote | None] | None:
+    """Who made a zoom, 0 where he has left, and its note, as words tell it, or that there is none; None where they tell neither."""
+    if words == [NONE]:
+        return 0, None
+    note, maker = note_in(words[1:]), number_in(words[0], MOST_NUMBER) if words else 0
+    return (maker, note) if note and (maker or words[0] == "0") else None
+
+
+class NotedZoom:
+    """The zoom that was told of last, and who told of it: it stays noted once he has left, until somebody tells that it is over, or the
+    session has another size."""
+
+    def __init__(self) -> None:
+        self.maker = 0
+        self.note: ZoomNote | None = None
+        # The session's size, where it is known; and whether nothing comes any more of what one typed who has left.
+        self.size: Size | None = None
+        self.is_over = False
+
+    def take(self, number: int, line: str) -> bool:
+        """Takes a line of the terminal of a number, and tells whether it is one of a zoom. Of another's that is there nobody tells that it
+        is over; a zoom that is told of takes its place."""
+        word, *words = line.split(" ")
+        note = note_in(words)
+        if word != ZOOM or not (note or words == [NONE]):
+            return False
+        if note or self.maker in (0, number):
+            self.maker, self.note = number if note else 0, note
+            self.is_over = False
+        return True
+
+    def leave(self, number: int) -> bool:
+        """Takes note that a terminal has left, and tells whether the zoom was its."""
+        is_maker = self.note is not None and self.maker == number
+        self.maker = 0 if is_maker else self.maker
+        return is_maker
+
+    def sized(self, size: Size | None) -> bool:
+        """Takes note of the session's size, and tells whether the zoom is noted no more for that."""
+        self.size = size
+        return self.is_over and self.end_left()
+
+    def end_left(self) -> bool:
+        """Has a zoom be noted no more whose maker has left, now that nothing comes of it, where the session has no size of it; and tells
+        whether that is so."""
+        self.is_over = not self.maker
+        if self.maker or not self.note or self.size is None or self.size in self.note.asked:
+            return False
+        self.note = None
+        return True
+
+    def line(self) -> str:
+        """The line that tells of it."""
+        return f"{ZOOMED} {self.maker} {self.note}" if self.note else NO_ZOOM

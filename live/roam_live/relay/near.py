@@ -1,0 +1,600 @@
+"""The end of a relay beside the clients, which stands for a server of another machine."""
+from __future__ import annotations
+
+import contextlib
+import itertools
+import os
+import pathlib
+import shlex
+import socket
+import subprocess
+import time
+from collections.abc import Callable, Iterator
+
+from roam_live.common.errors import Fault, count_front_ends, logs, make_room_in_logs, opened_process, read, reason, replace_text, say
+from roam_live.common.event_loop import Loop
+from roam_live.common.listener import Listener
+from roam_live.common.text import Said
+from roam_live.protocol.datagram_stream import Carrier, is_datagram
+from roam_live.relay.common import FORGOTTEN_AFTER, PEER_LIMIT, Ended, Options, end_for, loopback_socket, received
+from roam_live.relay.far_windows import MOST_IN_WINDOW, WINDOW_SHIFT, windows_in
+from roam_live.relay.forwarding import BadStream
+from roam_live.relay.frames import ENDED, KILLED, LEAVES, SEALED, WINDOWS, BadWords, RelayStream, Waiting
+from roam_live.relay.near_sockets import NearSockets
+from roam_live.relay.near_windows import NearWindows
+from roam_live.relay.path_setup import Finder, NearPath, is_wanted, kept_name, near_path, wish
+from roam_live.relay.transport_switch import SOUND, Ways, finish
+from roam_live.session.tmp_keepalive import Lasting
+
+TYPE_CHECKING = False
+if TYPE_CHECKING:
+    from typing import IO, Any
+
+    from roam_live.relay.common import Address
+    from roam_live.relay.forwarding import Streams
+    from roam_live.relay.udp_path import Path
+
+# After so many seconds of silence another command is spawned.
+SILENT = 7.0
+
+# The seconds from the start of one command to that of the next, where none answers, and how long each is given.
+PAUSES = (0.2, 1, 2, 5)
+PATIENCE = 20.0
+
+# So many seconds a command has for its end, and the other end for hearing by a path that this one leaves; and so many packets tell it that
+# its own end was heard.
+END_WAIT = 1.0
+LAST_PACKETS = 3
+
+# So often it is looked whether a front end is noted.
+LOOKS = 5.0
+
+# So often at most other windows are taken that are told, and what that moment is called.
+WINDOWS_EVERY = 0.1
+TOLD_WINDOWS = "windows told"
+
+# After the other end said what can't be the next command is spawned no sooner than after so many seconds, twice as many each time up to the
+# most; so many times end the relay; and all are forgotten once it was sound for so long.
+BROKEN_PAUSE, MOST_PAUSE = 2.0, 60.0
+MOST_BROKEN = 10
+FORGIVEN = 600.0
+
+# What a shell's status tells of a command that it hasn't found, and what may be done then.
+NOT_FOUND = 127
+NOT_THERE = ": roam isn't installed there, or --far has to name its roam-mux"
+
+
+class Peers:
+    """The addresses of clients and their numbers. A number isn't given again before all others were."""
+
+    def __init__(self, forget: Callable[[int], None]) -> None:
+        self.numbers: dict[Address | Carrier, int] = {}
+        self.addresses: dict[int, Address | Carrier] = {}
+        self.moments: dict[int, float] = {}
+        # The last of each window; 0 is the relay's own, which has all numbers while none is known of another.
+        self.last: dict[int, int] = {}
+        self.has_windows = False
+        self.forget = forget
+
+    def number(self, address: Address | Carrier, window: int = 0) -> int:
+        """The number of an address, from 1; its high byte is that of its window."""
+        if address not in self.numbers:
+            while len(self.numbers) >= PEER_LIMIT:
+                self.drop(min(self.moments, key=self.moments.__getitem__))
+            number = next(self.free(window))
+            self.last[window] = number
+            self.numbers[address], self.addresses[number] = number, address
+        number = self.numbers[address]
+        self.moments[number] = time.monotonic()
+        return number
+
+    def free(self, window: int) -> Iterator[int]:
+        """The numbers that are free for a window, from the one behind the last on."""
+        first = (window << WINDOW_SHIFT) + 1
+        end = first + MOST_IN_WINDOW if window or self.has_windows else 65536
+        last = self.last.get(window, first - 1)
+        return (number for number in itertools.chain(range(last + 1, end), range(first, last + 1)) if number not in self.addresses)
+
+    def use_windows(self) -> None:
+        """Has the relay's own window keep to its numbers: others are forgotten."""
+        self.has_windows = True
+        self.last[0] = min(self.last.get(0, 0), MOST_IN_WINDOW)
+        for number in [number for number in self.addresses if number > MOST_IN_WINDOW]:
+            self.drop(number)
+
+    def drop_window(self, window: int) -> None:
+        """Forgets the peers of a window that is gone."""
+        for number in [number for number in self.addresses if number >> WINDOW_SHIFT == window]:
+            self.drop(number)
+
+    def drop(self, number: int) -> None:
+        """Forgets a peer."""
+        del self.numbers[self.addresses.pop(number)], self.moments[number]
+        self.forget(number)
+
+    def drop_silent(self) -> None:
+        """Forgets the peers that have said nothing for long."""
+        for number in [number for number, moment in self.moments.items() if moment + FORGOTTEN_AFTER < time.monotonic()]:
+            self.drop(number)
+
+
+class BrokenWords:
+    """How often the other end said what can't be."""
+
+    def __init__(self) -> None:
+        self.count = 0
+        self.sound_since: float | None = None
+
+    def add(self, now: float) -> float:
+        """Counts one more, and tells when the next command may be spawned."""
+        self.count += 1
+        self.sound_since = None
+        pause: float = min(BROKEN_PAUSE * 2 ** (self.count - 1), MOST_PAUSE)
+        return now + pause
+
+    def are_too_many(self) -> bool:
+        """Whether the relay ends."""
+        return self.count >= MOST_BROKEN
+
+    def note(self, is_sound: bool, now: float) -> None:
+        """Takes note of whether something carries what goes: after so long all are forgotten."""
+        self.sound_since = (self.sound_since if self.sound_since is not None else now) if is_sound else None
+        if self.sound_since is not None and now >= self.sound_since + FORGIVEN:
+            self.count = 0
+
+
+class RunningCommand:
+    """A command that runs, and the stream over its standard input and output."""
+
+    def __init__(self, command: list[str], session: str, may_ask: bool) -> None:
+        pipe = subprocess.PIPE
+        self.process = subprocess.Popen(command, stdin=pipe, stdout=pipe, stderr=pipe, start_new_session=not may_ask)
+        self.ends: list[IO[bytes]] = [end for end in (self.process.stdin, self.process.stdout, self.process.stderr) if end]
+        target, source, errors = (end.fileno() for end in self.ends)
+        self.errors: int | None = errors
+        self.said = Said()
+        self.loop: Loop | None = None
+        for end in (target, source, errors):
+            os.set_blocking(end, False)
+        self.stream = RelayStream(source, target, session)
+        self.since = time.monotonic()
+
+    def join(self, loop: Loop, hears: Callable[[], object]) -> None:
+        """Has a loop carry what goes to the command, pass on what it says, and call where something came."""
+        self.loop = loop
+        if self.errors is not None:
+            loop.add(self.errors, self.pass_errors, hears=lambda: self.errors is not None)
+        loop.add(self.stream.target, None, self.stream.flush, has_more=lambda: self.stream.going)
+        # Its end is seen where it is read: it may have said something.
+        loop.add(self.stream.source, hears)
+
+    def pass_errors(self) -> None:
+        """Says what the command said on its standard error, as far as that isn't too much: at the terminal at first, and in the log later,
+        as this tool does."""
+        piece = read(self.errors) if self.errors else None
+        if piece == b"":
+            self.errors = None
+        text = self.said.fed(piece or b"")
+        if text:
+            make_room_in_logs(len(text.encode()))
+            with contextlib.suppress(OSError):
+                os.write(2, text.encode())
+
+    def end(self) -> None:
+        """Has the command end."""
+        self.process.terminate()
+        self.pass_errors()
+        # What is left in Python's own buffers is nothing: the descriptors alone were used.
+        for end in self.ends:
+            if self.loop:
+                self.loop.remove(end)
+            end.close()
+        self.errors = None
+
+    def status(self) -> int:
+        """Waits for its end, which comes in time, and tells the status."""
+        try:
+            return self.process.wait(END_WAIT)
+        except subprocess.TimeoutExpired:
+            self.process.kill()
+            return self.process.wait()
+
+
+def bound_port(port: int | None) -> socket.socket | None:
+    """A port of loopback, where one is asked for."""
+    if port is None:
+        return None
+    one = loopback_socket()
+    try:
+        one.bind(("127.0.0.1", port))
+    except OSError as fault:
+        raise Fault(f"port {port}: {fault.strerror}") from fault
+    return one
+
+
+class Near:
+    """The end beside the clients: the socket at which they connect, or a port of loopback, and the command, which is spawned as often as
+    needed."""
+
+    def __init__(self, asked: Options, wakeup: int, loop: Loop | None = None) -> None:
+        self.asked, self.loop = asked, loop or Loop()
+        self.loop.each(self.prepare)
+        self.loop.add(wakeup, lambda: end_for(wakeup))
+        if asked.owner:
+            self.loop.add(opened_process(asked.owner), self.left)
+        self.port = bound_port(asked.port)
+        if self.port:
+            self.loop.add(self.port, self.hear_port)
+        self.listener = self.listening(asked.dir) if asked.dir else None
+        self.sockets = NearSockets(asked.dir, self.loop, self.carrying) if asked.dir else None
+        self.windows = NearWindows(asked.dir, self.loop, self.carrying, self.listening, self.part_window) if asked.dir else None
+        self.lasting = Lasting(asked.dir) if asked.dir else None
+        self.carriers: list[Carrier] = []
+        self.window_of: dict[Carrier, int] = {}
+        self.waiting = Waiting()
+        self.peers = Peers(self.waiting.forget)
+        self.session = "-"
+        self.ways = Ways(self.loop)
+        self.finder = Finder(asked.host)
+        self.link: RunningCommand | None = None
+        # Whether the far end carries connections; None where that isn't known yet.
+        self.carries: bool | None = None
+        self.has_told_lack = False
+        self.tries: list[RunningCommand] = []
+        self.ending: list[RunningCommand] = []
+        self.has_answered = self.is_told = False
+        self.next_try = 0.0
+        self.try_count = 0
+        self.broken = BrokenWords()
+        # The text that told windows last, and when another may be taken.
+        self.windows_told, self.windows_at = b"", 0.0
+        self.looked_at = self.used_at = time.monotonic()
+        self.is_over = False
+        # What is noted of the session's end.
+        self.ended = ""
+
+    def left(self) -> None:
+        """Ends, since the process of --with has."""
+        raise Ended(0)
+
+    def has_live_link(self) -> bool:
+        """Whether a command is there that carries something, or would."""
+        return self.link is not None and (self.ways.rests or not self.link.stream.is_silent(SILENT))
+
+    def is_silent(self) -> bool:
+        """Whether there is neither a path nor a command that is known to carry anything."""
+        return not self.ways.is_sound() and not self.has_live_link()
+
+    def way(self) -> Path | RelayStream | None:
+        """What carries what waits."""
+        return self.ways.chosen(self.has_live_link())
+
+    def tend(self) -> None:
+        """Spawns a command where one is due, and ends those that are late."""
+        now = time.monotonic()
+        self.ending = [link for link in self.ending if link.process.poll() is None]
+        self.ways.rest()
+        self.broken.note(not self.is_silent(), now)
+        if not self.is_silent():
+            self.drop_tries()
+            was_sound = self.ways.was_sound() or self.link is not None and self.link.since + SOUND < now
+            self.try_count = 0 if was_sound else self.try_count
+            return
+        # The first one may be waiting for a person's answer.
+        if self.has_answered:
+            for link in [link for link in self.tries if link.since + PATIENCE < now]:
+                self.drop(link)
+        if self.has_answered and not self.is_told:
+            self.is_told = True
+            say("the other end is silent" if self.link or self.ways.path else "the other end has ended")
+        if now >= self.next_try and (self.has_answered or not self.tries):
+            self.spawn(now)
+
+    def spawn(self, now: float) -> None:
+        """Spawns a command; where the system refuses one later it is told of, and tried again."""
+        try:
+            link = RunningCommand(self.asked.command, self.session, not self.has_answered)
+            link.join(self.loop, lambda: self.hear(link))
+            self.tries.append(link)
+        except OSError as fault:
+            line = f"{self.asked.command[0]}: {fault.strerror}"
+            if not self.has_answered:
+                raise Fault(line) from fault
+            say(line)
+        self.next_try = now + PAUSES[min(self.try_count, len(PAUSES) - 1)]
+        self.try_count += 1
+
+    def drop(self, link: RunningCommand) -> None:
+        """Has a command end."""
+        link.end()
+        self.ending.append(link)
+        self.tries = [other for other in self.tries if other is not link]
+        if self.link is link:
+            self.link = None
+            self.ways.drop_stream()
+
+    def drop_tries(self) -> None:
+        """Has the commands end that aren't needed any more."""
+        for link in list(self.tries):
+            self.drop(link)
+        if self.is_told:
+            self.is_told = False
+            say("the other end answers again")
+
+    def lost(self, link: RunningCommand) -> None:
+        """Goes on without a command that has ended."""
+        is_first = not self.has_answered
+        self.drop(link)
+        if is_first:
+            line = f"{shlex.join(self.asked.command)} ended with status {link.status()}, and hadn't answered"
+            line += NOT_THERE if link.status() == NOT_FOUND else ""
+            if self.asked.owner or self.asked.alone is not None:
+                raise Fault(line)
+            say(line)
+
+    def refuse(self, link: RunningCommand, fault: BadWords | BadStream) -> None:
+        """Goes on without a command whose other end said what can't be; a first one that did is told of, and ends this, and so does one of
+        too many."""
+        if not self.has_answered:
+            raise fault
+        now = time.monotonic()
+        self.next_try = max(self.next_try, self.broken.add(now))
+        if self.broken.are_too_many():
+            raise Fault(f"{fault}; the other end has said what can't be {MOST_BROKEN} times, and no other is spawned")
+        say(f"{fault}; another is spawned in {self.next_try - now:.0f} s")
+        self.drop(link)
+
+    def look(self) -> None:
+        """Ends where no front end has been noted for so long."""
+        now = time.monotonic()
+        if self.asked.alone is None or now < self.looked_at + LOOKS:
+            return
+        self.looked_at = now
+        if self.asked.dir and count_front_ends(self.asked.dir):
+            self.used_at = now
+        elif now > self.used_at + self.asked.alone:
+            raise Ended(0)
+
+    def answered(self, link: RunningCommand, session: str) -> None:
+        """Takes a command as the one that carries, now that its other end has answered for a session."""
+        if self.session not in ("-", session):
+            self.is_over = True
+            raise Ended(0)
+        self.tries.remove(link)
+        for old in [*self.tries, *([self.link] if self.link else [])]:
+            self.drop(old)
+        self.link, self.session, self.carries = link, session, None
+        self.ways.take_stream(link.stream)
+        self.ask_for_path()
+        if self.has_answered:
+            return
+        self.has_answered = True
+        if self.asked.dir:
+            replace_text(os.path.join(self.asked.dir, "session"), f"{self.session}\n")
+        print(f"port {self.port.getsockname()[1] if self.port else '-'} session {self.session}", flush=True)
+        if self.asked.log:
+            logs[:] = [pathlib.Path(self.asked.log)]
+            with open(self.asked.log, "ab") as log:
+                os.dup2(log.fileno(), 2)
+
+    def hear(self, link: RunningCommand) -> None:
+        """Takes what came over a command. Whatever the other end says, this one goes on, once it has answered."""
+        try:
+            frames = link.stream.received()
+            if frames is None:
+                self.lost(link)
+                return
+            if link.stream.session and link is not self.link:
+                self.answered(link, link.stream.session)
+            for peer, text in frames:
+                self.take(peer, text)
+            if link is self.link and link.stream.carries is not self.carries:
+                self.note_carrying(link.stream.carries)
+        except (BadWords, BadStream) as fault:
+            self.refuse(link, fault)
+
+    def take(self, peer: int, text: bytes) -> None:
+        """Takes a frame."""
+        if peer:
+            # What can't be a datagram is dropped.
+            if is_datagram(text):
+                self.deliver(peer, text)
+        elif text in (ENDED, KILLED):
+            self.is_over, self.ended = True, "killed" if text == KILLED else ""
+            raise Ended(0)
+        elif text[:1] == SEALED:
+            self.take_path(near_path(text))
+        elif text[:1] == WINDOWS:
+            self.hear_windows(text)
+        elif self.link and self.link.stream.streams:
+            self.link.stream.streams.take(text)
+
+    # ---- connections to the other machine's sockets
+
+    def note_carrying(self, carries: bool | None) -> None:
+        """Takes note of whether the far end carries connections: the sockets that stand for those there are here while it does."""
+        self.carries = carries
+        if self.sockets and carries:
+            self.sockets.open()
+            if self.link:
+                self.link.stream.tell(0, WINDOWS)
+        elif self.sockets and carries is not None:
+            self.sockets.close()
+            if not self.has_told_lack:
+                self.has_told_lack = True
+                say("the other machine's roam is an earlier one: it tells neither where panes are nor that one rings")
+
+    def hear_windows(self, text: bytes) -> None:
+        """Takes which windows are told: at once, and of what is told soon after another the newest."""
+        now = self.loop.clock()
+        self.windows_told = text
+        if now >= self.windows_at:
+            self.use_windows()
+        else:
+            self.loop.at(TOLD_WINDOWS, self.windows_at, self.use_windows)
+
+    def use_windows(self) -> None:
+        """Goes by the windows that were told last."""
+        self.loop.drop(TOLD_WINDOWS)
+        self.windows_at = self.loop.clock() + WINDOWS_EVERY
+        self.take_windows(windows_in(self.windows_told))
+
+    def take_windows(self, told: dict[int, str]) -> None:
+        """Takes which windows there are. The session is found again by one that is there."""
+        if not self.windows or not told:
+            return
+        if not self.peers.has_windows:
+            self.peers.use_windows()
+        self.windows.take(told)
+        if self.session not in told.values():
+            self.session = next(iter(told.values()))
+            with contextlib.suppress(OSError):
+                replace_text(os.path.join(self.asked.dir or "", "session"), f"{self.session}\n")
+
+    def part_window(self, number: int) -> None:
+        """Lets the clients go of a window that is gone."""
+        for carrier in [carrier for carrier in self.carriers if self.window_of.get(carrier) == number]:
+            self.part(carrier)
+        self.peers.drop_window(number)
+
+    def carrying(self) -> Streams[Any] | None:
+        """What carries connections now; None where nothing does."""
+        return self.ways.carrier.streams if self.carries and self.ways.carrier else None
+
+    # ---- the path beside the command
+
+    def ask_for_path(self) -> None:
+        """Asks the other end for a path under a new key, where one is wanted; what there was of one before is dropped."""
+        self.ways.drop_path()
+        if self.link and is_wanted():
+            self.link.stream.tell(0, wish(kept_name(self.asked.dir)))
+
+    def take_path(self, path: NearPath | None) -> None:
+        """Takes a path that the other end tells of, where it can be had."""
+        if path:
+            self.ways.take_path(path, self.hear_path)
+            path.tell(0, WINDOWS)
+
+    def hear_path(self) -> None:
+        """Takes what came over the path."""
+        for peer, text in self.ways.path.received() if self.ways.path else ():
+            self.take(peer, text)
+
+    def tend_path(self) -> None:
+        """Looks where the other end of the path may be; one that has no numbers left is dropped, and another asked for."""
+        path = self.ways.path
+        if path and path.is_spent():
+            self.ask_for_path()
+        elif isinstance(path, NearPath):
+            self.finder.look(path)
+
+    def leave_path(self) -> None:
+        """Tells the far end that nobody will come any more, or that its own end was heard, and lets the path go."""
+        path = self.ways.path
+        if path and path.answered_at is not None and self.is_over:
+            for _ in range(LAST_PACKETS):
+                path.send_packet(time.monotonic())
+        elif path and path.answered_at is not None:
+            path.tell(0, LEAVES)
+            finish(path, END_WAIT)
+        self.ways.drop_path()
+
+    # ---- clients
+
+    def deliver(self, peer: int, datagram: bytes) -> None:
+        """Hands a client its datagram, where it is still known."""
+        address = self.peers.addresses.get(peer)
+        if isinstance(address, Carrier):
+            address.send(datagram)
+        elif address and self.port:
+            try:
+                self.port.sendto(datagram, address)
+            except OSError:
+                pass
+
+    def listening(self, folder: str, window: int = 0) -> Listener:
+        """The socket at which clients connect; as many as peers are known, and another waits until one has left."""
+        return Listener(self.loop, os.path.join(folder, "clients"), lambda peer: self.take_client(peer, window),
+                        lambda: len(self.carriers) < PEER_LIMIT, lambda fault: say(f"a client waits: {reason(fault)}"))
+
+    def take_client(self, peer: socket.socket, window: int = 0) -> None:
+        """Takes a client that came, of a window."""
+        carrier = Carrier(peer)
+        self.carriers.append(carrier)
+        self.window_of[carrier] = window
+        self.loop.add(carrier, lambda: self.hear_client(carrier), lambda: self.flush_client(carrier), has_more=lambda: carrier.going)
+
+    def flush_client(self, carrier: Carrier) -> None:
+        """Writes what a client takes; one that has left is let go."""
+        if not carrier.flush():
+            self.part(carrier)
+
+    def hear_client(self, carrier: Carrier) -> None:
+        """Takes what came from a client; one that has left, or says what is no datagram, is let go."""
+        datagrams = carrier.received()
+        if datagrams is None:
+            self.part(carrier)
+        for datagram in datagrams or []:
+            self.waiting.add(self.peers.number(carrier, self.window_of.get(carrier, 0)), datagram)
+
+    def hear_port(self) -> None:
+        """Takes what came at the port."""
+        for datagram, address in received(self.port) if self.port else []:
+            self.waiting.add(self.peers.number(address), datagram)
+        self.peers.drop_silent()
+
+    def part(self, carrier: Carrier) -> None:
+        """Lets a client go."""
+        self.loop.remove(carrier)
+        carrier.close()
+        self.carriers.remove(carrier)
+        self.window_of.pop(carrier, None)
+        if carrier in self.peers.numbers:
+            self.peers.drop(self.peers.numbers[carrier])
+
+    def prepare(self) -> float | None:
+        """Does what is due before a wait, and tells by when something is due again."""
+        self.tend()
+        self.look()
+        if self.lasting:
+            self.lasting.turn()
+        self.tend_path()
+        self.ways.fill(self.waiting, self.has_live_link())
+        if self.sockets:
+            self.sockets.wake()
+        if self.windows:
+            self.windows.wake()
+        return min(self.moments(), default=None)
+
+    def moments(self) -> list[float]:
+        """When something is due."""
+        found = [self.next_try] if self.is_silent() and (self.has_answered or not self.tries) else []
+        found += [] if self.asked.alone is None else [self.looked_at + LOOKS]
+        if self.link and not self.ways.rests and not self.link.stream.is_silent(SILENT):
+            found.append(self.link.stream.silent_at(SILENT))
+        return found + self.ways.moments()
+
+    def turn(self) -> None:
+        """Waits until something can be done, and does it."""
+        self.loop.turn()
+
+    def close(self) -> None:
+        """Ends all commands."""
+        self.leave_path()
+        for link in [*self.tries, *([self.link] if self.link else [])]:
+            self.drop(link)
+        for link in self.ending:
+            link.status()
+        for carrier in list(self.carriers):
+            self.part(carrier)
+        for source in (self.windows, self.listener, self.sockets):
+            if source:
+                source.close()
+        if self.asked.dir:
+            self.leave(self.asked.dir)
+
+    def leave(self, folder: str) -> None:
+        """Notes in the folder what has ended, and removes what lies there of this end."""
+        if self.is_over:
+            replace_text(os.path.join(folder, "ended"), self.ended)
+        pathlib.Path(folder, "session").unlink(missing_ok=True)

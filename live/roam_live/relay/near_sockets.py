@@ -1,0 +1,263 @@
+"""The sockets of a near folder that stand for those of the session at the other machine: each connection to `bells` and `shells` is carried
+there, and `panes` is followed there once and told here to all who follow it."""
+from __future__ import annotations
+
+import os
+import socket
+from collections.abc import Callable
+
+from roam_live.common.errors import Fault, read, reason, say, write
+from roam_live.common.event_loop import Loop
+from roam_live.common.listener import Listener
+from roam_live.protocol.panes import ASIDE, CLIP, CLIPS, ToldPanes, aside_of
+from roam_live.protocol.panes_client import Following
+from roam_live.relay.forwarding import SHELLS
+
+TYPE_CHECKING = False
+if TYPE_CHECKING:
+    from typing import Any
+
+    from roam_live.relay.forwarding import Streams
+
+    # What carries connections now; None where nothing does.
+    Carries = Callable[[], "Streams[Any] | None"]
+
+# Who follows the panes here, so many at most, and so many bytes at most wait for one.
+MOST_FOLLOWERS = 64
+MOST_WAITING = 1 << 16
+
+PANES = "panes"
+CARRIED = ("bells", SHELLS)
+
+# What is asked for there once, for all who ask for it here.
+ASKED_HERE = (ASIDE, CLIPS)
+
+
+class CarriedSocket:
+    """A socket of the near folder: who connects is carried to that of its name at the other machine. Who comes while nothing carries waits;
+    for whom there is no room is let go."""
+
+    def __init__(self, folder: str, name: str, loop: Loop, carries: Carries, leads: str = "") -> None:
+        self.name, self.carries = leads + name, carries
+        self.listener = Listener(loop, os.path.join(folder, name), self.take, lambda: carries() is not None, lambda fault: None)
+
+    def take(self, peer: socket.socket) -> None:
+        """Has one who came carried."""
+        streams = self.carries()
+        if not streams or not streams.begin(self.name, peer):
+            peer.close()
+
+    def close(self) -> None:
+        """Removes the socket."""
+        self.listener.close()
+
+
+class PanesPeer:
+    """One who follows the panes here, and what waits for it."""
+
+    def __init__(self, end: socket.socket) -> None:
+        self.end = end
+        self.waiting = bytearray()
+        # Whether it was told all.
+        self.knows = False
+        # What it asked for that is told here, and what it said of another line; the newest of what it is still to be told of that, and how
+        # many bytes of it wait.
+        self.words: list[str] = []
+        self.said = b""
+        self.news: dict[str, str] = {}
+        self.beside = 0
+
+    def said_lines(self) -> list[str] | None:
+        """The lines that it said since, where each asks for what is told here, and what follows may do so; else None."""
+        *lines, rest = self.said.split(b"\n")
+        words = [word.encode() for word in ASKED_HERE]
+        if not all(line in words for line in lines) or not any(word.startswith(rest) for word in words):
+            return None
+        self.said = rest
+        return [line.decode() for line in lines]
+
+    def put_news(self) -> None:
+        """Has what it is still to be told wait, once all is taken that waited before."""
+        if not self.waiting:
+            self.waiting += "".join(f"{line}\n" for line in self.news.values()).encode()
+            self.beside = len(self.waiting)
+            self.news.clear()
+
+
+class SharedPanes:
+    """The socket `panes` of the near folder: the panes of the other machine, which are followed there once."""
+
+    def __init__(self, folder: str, loop: Loop, carries: Carries, leads: str = "") -> None:
+        self.loop, self.carries, self.name = loop, carries, leads + PANES
+        self.told = ToldPanes()
+        self.peers: list[PanesPeer] = []
+        self.following = Following(self.opened, loop, self.hear, self.lose)
+        self.following.again += f" {leads}" if leads else ""
+        self.listener = Listener(loop, os.path.join(folder, PANES), self.take, lambda: self.following.peer is not None, lambda fault: None)
+        self.following.connect()
+
+    def opened(self) -> socket.socket:
+        """A connection to the other machine's panes; OSError where nothing carries one now."""
+        streams = self.carries()
+        if not streams:
+            raise ConnectionRefusedError("nothing carries it")
+        ours, theirs = socket.socketpair()
+        for end in (ours, theirs):
+            end.setblocking(False)
+        if not streams.begin(self.name, theirs):
+            ours.close()
+            theirs.close()
+            raise BlockingIOError("no room is left for it")
+        return ours
+
+    def wake(self) -> None:
+        """Follows at once, now that something carries it."""
+        if not self.following.peer:
+            self.following.faults = 0
+            self.loop.drop(self.following.again)
+            self.following.connect()
+
+    # ---- what the other machine tells
+
+    def hear(self, lines: list[str]) -> None:
+        """Tells what was told there; what can't be isn't passed on."""
+        news = [line for line in lines if self.told.take(line)]
+        places, asides = [line for line in news if not aside_of(line)], {aside_of(line): line for line in news if aside_of(line)}
+        for peer in list(self.peers):
+            if not peer.knows:
+                self.tell_all(peer)
+                continue
+            peer.news.update({key: line for key, line in asides.items() if (CLIPS if key == CLIP else ASIDE) in peer.words})
+            self.tell(peer, places)
+        # It isn't told to who comes later.
+        self.told.clip = None
+
+    def lose(self) -> None:
+        """Lets all go who follow: where the panes are isn't known now, and who comes again is told what is so then."""
+        self.told = ToldPanes()
+        for peer in list(self.peers):
+            self.drop(peer)
+
+    # ---- who follows here
+
+    def take(self, end: socket.socket) -> None:
+        """Takes one who came; above the most it is let go."""
+        if len(self.peers) >= MOST_FOLLOWERS:
+            end.close()
+            return
+        peer = PanesPeer(end)
+        self.peers.append(peer)
+        # What one asks is read once it has all that it was told, so that another can go on from there.
+        self.loop.add(end, lambda: self.asked(peer), lambda: self.write(peer), has_more=lambda: peer.waiting,
+                      hears=lambda: not peer.waiting)
+        self.tell_all(peer)
+
+    def tell_all(self, peer: PanesPeer) -> None:
+        """Tells one all that is known, once it is enough."""
+        lines = self.told.lines()
+        if lines:
+            peer.knows = True
+            if ASIDE in peer.words:
+                peer.news.update(self.told.lines_beside())
+            self.tell(peer, lines)
+
+    def tell(self, peer: PanesPeer, lines: list[str]) -> None:
+        """Tells one lines; who doesn't take what is told of the panes is let go."""
+        peer.waiting += "".join(f"{line}\n" for line in lines).encode()
+        if len(peer.waiting) - peer.beside > MOST_WAITING:
+            self.drop(peer)
+        else:
+            peer.put_news()
+
+    def write(self, peer: PanesPeer) -> None:
+        """Writes what one takes."""
+        if not write(peer.end.fileno(), peer.waiting):
+            self.drop(peer)
+        elif not peer.waiting:
+            peer.beside = 0
+            peer.put_news()
+
+    def asked(self, peer: PanesPeer) -> None:
+        """Takes what one says. Where it asks the server for something else than is told here it has a connection of its own there from then
+        on, since it is answered alone."""
+        piece = read(peer.end.fileno())
+        if piece is None:
+            return
+        streams = self.carries()
+        if not piece or not streams:
+            self.drop(peer)
+            return
+        peer.said += piece
+        lines = peer.said_lines()
+        if lines is not None:
+            for word in lines:
+                self.ask(peer, word)
+            return
+        self.part(peer)
+        if not streams.begin(self.name, peer.end, "".join(f"{word}\n" for word in peer.words).encode() + peer.said):
+            peer.end.close()
+
+    def ask(self, peer: PanesPeer, word: str) -> None:
+        """Takes note that one asks for something, which is asked for there where nobody did before, and tells what is known of it."""
+        is_new = word not in peer.words
+        if is_new:
+            peer.words.append(word)
+        self.following.want(word)
+        if is_new and peer.knows and word == ASIDE:
+            peer.news.update(self.told.lines_beside())
+            peer.put_news()
+
+    def part(self, peer: PanesPeer) -> None:
+        """Tells one no more."""
+        self.loop.remove(peer.end)
+        self.peers.remove(peer)
+
+    def drop(self, peer: PanesPeer) -> None:
+        """Lets one go."""
+        self.part(peer)
+        peer.end.close()
+
+    def close(self) -> None:
+        """Removes the socket, and lets all go."""
+        self.listener.close()
+        self.following.end()
+        for peer in list(self.peers):
+            self.drop(peer)
+
+
+class NearSockets:
+    """All of them, while the other end carries connections."""
+
+    def __init__(self, folder: str, loop: Loop, carries: Carries, leads: str = "") -> None:
+        self.folder, self.loop, self.carries = folder, loop, carries
+        # What leads their names at the other machine, where they are those of another window than the relay's own.
+        self.leads = leads
+        self.panes: SharedPanes | None = None
+        self.others: list[CarriedSocket] = []
+        # What carried connections when that was seen last.
+        self.carrier: Streams[Any] | None = None
+
+    def open(self) -> None:
+        """Has the sockets be there; where one can't be had that is told."""
+        if self.panes:
+            return
+        try:
+            self.panes = SharedPanes(self.folder, self.loop, self.carries, self.leads)
+            for name in CARRIED:
+                self.others.append(CarriedSocket(self.folder, name, self.loop, self.carries, self.leads))
+        except (Fault, OSError) as fault:
+            say(f"no panes and no bells are told: {reason(fault)}")
+
+    def wake(self) -> None:
+        """Goes on where something else carries connections than before."""
+        before, self.carrier = self.carrier, self.carries()
+        if self.panes and self.carrier and self.carrier is not before:
+            self.panes.wake()
+
+    def close(self) -> None:
+        """Removes the sockets."""
+        for other in self.others:
+            other.close()
+        if self.panes:
+            self.panes.close()
+        self.panes, self.others = None, []

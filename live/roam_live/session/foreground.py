@@ -1,0 +1,193 @@
+"""Which programs run in a session's panes, and where."""
+from __future__ import annotations
+
+import contextlib
+import os
+import pathlib
+from collections import namedtuple
+from collections.abc import Iterable, Iterator
+
+from roam_live.common.text import printable
+
+# What a pane may lose without a question.
+SHELLS = {"sh", "ash", "bash", "dash", "zsh", "fish", "ksh", "mksh", "csh", "tcsh", "nu", "xonsh", "elvish", "rc", "es"}
+
+# What tells a program in a pane which pane that is: the folder of its window, and its number there.
+PANE = "ROAM_PANE"
+
+# Where a process's state, process group, session and foreground process group are in /proc/PID/stat, counted from 0 behind its name.
+STATE, GROUP, SESSION, FOREGROUND = 0, 2, 3, 5
+
+# A question names at most so many jobs of a pane.
+MOST_NAMED = 3
+
+
+def busy_panes(shells: int, folder: str = "") -> dict[int, str] | None:
+    """The panes in which another program than a shell has the terminal, and its name, by the process that keeps the shells: of one
+    window, where its folder is named. None where the system doesn't tell, or tells of such a program and not in which pane it is."""
+    busy = busy_programs(shells)
+    return None if busy is None else {pane: name for (where, pane), name in busy.items() if folder in ("", where)}
+
+
+def busy_programs(shells: int) -> dict[tuple[str, int], str] | None:
+    """The same of all windows, by their folders and the panes there."""
+    try:
+        own = pathlib.Path(f"/proc/{shells}/task/{shells}/children").read_text(encoding="utf-8").split()
+    except OSError:
+        return None
+    jobs = jobs_of(int(process) for process in own)
+    found = {}
+    for process in own:
+        pane, names = pane_of(process), running(process, jobs[int(process)])
+        if names:
+            if pane is None:
+                return None
+            found[pane] = names
+    # What is to become a pane's command isn't that yet, and other processes are none.
+    found.pop(NOWHERE, None)
+    return found
+
+
+def running(process: str, jobs: list[str]) -> str:
+    """Name what closing the pane of this session leader would end: a program other than a shell in front, and the jobs of the session.
+    Return "" if there is nothing, or if the process has ended."""
+    front = foreground(process)
+    names = [front, *jobs] if front and not is_shell(front) and front not in jobs else jobs if front else []
+    more = [f"{len(names) - MOST_NAMED} more"] if len(names) > MOST_NAMED else []
+    return " and ".join(filter(None, (", ".join(names[:MOST_NAMED]), *more)))
+
+
+class Process(namedtuple("Process", "number state group session front")):
+    """A process as /proc/PID/stat describes it. `front` is the foreground process group of its terminal."""
+
+    number: int
+    state: str
+    group: int
+    session: int
+    front: int
+
+
+def processes() -> Iterator[Process]:
+    """Yield the processes that /proc shows to this user, without those that have ended. If /proc is mounted with `hidepid`, the processes
+    of other users are missing."""
+    for number in filter(str.isdigit, os.listdir("/proc")):
+        with contextlib.suppress(OSError, IndexError, ValueError):
+            text = pathlib.Path(f"/proc/{number}/stat").read_text(encoding="utf-8", errors="replace")
+            words = text.rpartition(")")[2].split()
+            if words[STATE] not in "ZXx":
+                yield Process(int(number), words[STATE], *(int(words[place]) for place in (GROUP, SESSION, FOREGROUND)))
+
+
+def jobs_in(leader: int) -> list[str]:
+    """Return the names of the jobs in the session of this session leader: see `jobs_of`."""
+    return jobs_of([leader])[leader]
+
+
+def jobs_of(leaders: Iterable[int]) -> dict[int, list[str]]:
+    """Return for each of these session leaders the names of the jobs in its session: of the process groups other than its own.
+
+    The group in front is first, by its name alone; `(stopped)` or `(background)` follows the names of the others. A process that left the
+    session by setsid(2) isn't ended with the pane, so it is no job.
+    """
+    found: dict[int, dict[int, list[Process]]] = {leader: {} for leader in leaders}
+    for process in processes() if found else ():
+        if process.group != process.session and process.session in found:
+            found[process.session].setdefault(process.group, []).append(process)
+    return {leader: [job_name(group) for group in sorted(groups.values(), key=is_behind)] for leader, groups in found.items()}
+
+
+def is_behind(group: list[Process]) -> bool:
+    """Return True if another process group than this one has the terminal."""
+    return group[0].front != group[0].group
+
+
+def job_name(group: list[Process]) -> str:
+    """Name a process group by its leader, else by another of its processes, and say what it does if it isn't in front."""
+    name = name_of(next((process.number for process in group if process.number == process.group), group[0].number))
+    if not is_behind(group):
+        return name
+    return f"{name} (stopped)" if all(process.state in "Tt" for process in group) else f"{name} (background)"
+
+
+# The pane of a process that is in none.
+NOWHERE = "", 0
+
+
+def pane_of(process: str) -> tuple[str, int] | None:
+    """The pane of a process, and the folder of its window, by its environment: nowhere where that names none, or the process has ended, and
+    None where it can't be read."""
+    try:
+        words = pathlib.Path(f"/proc/{process}/environ").read_bytes().split(b"\0")
+    except PermissionError:
+        return None
+    except OSError:
+        return NOWHERE
+    leads = f"{PANE}=".encode()
+    return next((pane_in(os.fsdecode(word[len(leads) :])) for word in words if word.startswith(leads)), NOWHERE)
+
+
+def pane_in(value: str) -> tuple[str, int]:
+    """The folder and the pane that a value of the environment names; nowhere where it names none."""
+    folder, _, pane = value.rpartition(":")
+    return (folder, int(pane)) if pane.isascii() and pane.isdigit() and len(pane) == 1 and pane != "0" else NOWHERE
+
+
+def own_pane() -> tuple[str, int]:
+    """The pane in which this process runs, and the folder of its window; nowhere where it runs in none."""
+    return pane_in(os.environ.get(PANE, ""))
+
+
+def foreground(process: str) -> str:
+    """The printable name of the program that has the terminal of a process, as far as one is known; none where that process has ended."""
+    try:
+        words = pathlib.Path(f"/proc/{process}/stat").read_text(encoding="utf-8", errors="replace").rpartition(")")[2].split()
+        state, group = words[0], words[FOREGROUND]
+    except (OSError, IndexError):
+        return ""
+    if state in "ZX":
+        return ""
+    return name_of(group)
+
+
+def name_of(group: int | str) -> str:
+    """The printable name of the program that leads a process group."""
+    try:
+        name = pathlib.Path(f"/proc/{group}/comm").read_bytes()[:-1].decode("utf-8", "replace")
+    except OSError:
+        # The first of several programs may have ended.
+        name = ""
+    # A program may have given itself any name, also none.
+    return printable(name) or "a program"
+
+
+def group_in_front(terminal: int) -> int | None:
+    """The process group that has a pseudo-terminal, by its other end; None where none has."""
+    try:
+        return os.tcgetpgrp(terminal) or None
+    except OSError:
+        return None
+
+
+def working_folder(processes: Iterable[int | None]) -> str:
+    """The working folder of the first of these processes of which it can be read and is there still; nothing where there is none."""
+    for process in processes:
+        with contextlib.suppress(OSError):
+            folder = os.readlink(f"/proc/{process}/cwd")
+            if os.path.isdir(folder):
+                return folder
+    return ""
+
+
+def is_shell(name: str) -> bool:
+    """Whether a program of this name is a shell."""
+    return name.lstrip("-") in SHELLS | {os.path.basename(os.environ.get("SHELL", ""))}
+
+
+def told(busy: dict[int, str]) -> str:
+    """Which programs run in which panes, in words."""
+    return " and ".join(f"{name} in pane {pane}" for pane, name in sorted(busy.items()))
+
+
+def told_in_windows(busy: dict[tuple[int, int], str]) -> str:
+    """Which programs run in which panes of which windows, in words."""
+    return " and ".join(f"{name} in pane {pane} of window {window}" for (window, pane), name in sorted(busy.items()))

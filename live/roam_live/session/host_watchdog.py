@@ -1,0 +1,94 @@
+"""Sees the end of what keeps a session's shells, and has it spawned anew; and tells whoever types where it is stopped."""
+from __future__ import annotations
+
+import os
+import time
+from collections.abc import Callable
+
+from roam_live.common.errors import Fault, is_stopped, opened_process, reason
+from roam_live.common.event_loop import Loop
+
+TYPE_CHECKING = False
+if TYPE_CHECKING:
+    from roam_live.protocol.session_interface import Kept
+
+# So many seconds after its end what kept the shells is spawned anew: by the first it is known whether that is the session's end. One that
+# lasted so long had no fault at its start.
+PAUSES = (0.3, 1, 2, 4, 8, 15)
+SOUND = 5.0
+
+# So many seconds after something was typed it is looked whether it is stopped, and again while it is: whoever types is to know why nothing
+# comes of that.
+LOOKS = 4.0
+LOOKED = "shells are stopped"
+STOPPED = "what keeps the shells is stopped; what is typed waits for it"
+
+
+class ShellsWatch:
+    """What keeps the shells of a session, where that is known: a call for each line that a person is to know."""
+
+    def __init__(self, session: Kept, loop: Loop, tells: Callable[[str], object] = lambda line: None) -> None:
+        self.session, self.loop, self.tells = session, loop, tells
+        self.file: int | None = None
+        # How often in a row it ended soon, or couldn't be spawned, and since when it runs.
+        self.faults = 0
+        self.since = 0.0
+        self.follow()
+
+    def follow(self) -> None:
+        """Follows the process that runs now."""
+        process = self.session.process("shells")
+        if process:
+            self.file = opened_process(process)
+            self.loop.add(self.file, self.ended)
+        self.since = time.monotonic()
+
+    def wait(self) -> float:
+        """Has it tried after a pause, which grows with each fault, and tells that pause."""
+        pause = PAUSES[min(self.faults, len(PAUSES) - 1)]
+        self.faults += 1
+        self.loop.later("shells", pause, self.revive)
+        return pause
+
+    def stop(self) -> None:
+        """Spawns nothing any more, and looks at nothing."""
+        self.loop.drop("shells")
+        self.loop.drop(LOOKED)
+
+    def typed(self) -> None:
+        """Takes note that something was typed."""
+        if LOOKED not in self.loop.due:
+            self.loop.later(LOOKED, LOOKS, self.look)
+
+    def look(self) -> None:
+        """Tells that it is stopped, where that is so, for as long as it is."""
+        process = self.session.process("shells")
+        if process and is_stopped(process):
+            self.tells(STOPPED)
+            self.loop.later(LOOKED, LOOKS, self.look)
+
+    def revive(self) -> None:
+        """Has the shells spawned anew."""
+        try:
+            if self.session.revive_shells():
+                self.follow()
+                self.tells("the shells had ended: new ones are there, and what was typed meanwhile is dropped")
+                return
+        except (Fault, OSError) as fault:
+            why = reason(fault).removeprefix(f"session {self.session.name}: ")
+            self.tells(f"the shells have ended: {why}; tried again in {self.wait()} s")
+            return
+        # Another spawns them just now, or the session has ended.
+        self.loop.later("shells", PAUSES[1], self.revive)
+
+    def ended(self) -> None:
+        """Takes note of an end, and tells of one that came soon after the start."""
+        if self.file is not None:
+            self.loop.remove(self.file)
+            os.close(self.file)
+            self.file = None
+        if time.monotonic() > self.since + SOUND:
+            self.faults = 0
+        pause = self.wait()
+        if self.faults > 1:
+            self.tells(f"what keeps the shells ended again; it is spawned anew in {pause} s")
