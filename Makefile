@@ -43,10 +43,10 @@ bench: all
 	bench/latency.sh
 
 try: all
-	tries/two_processes
-	tries/run -j "$$(nproc)"
-	tries/try_faults
-	tries/try_windows
+	tests/e2e/two_processes
+	tests/e2e/run -j "$$(nproc)"
+	tests/stress/try_faults
+	tests/stress/try_windows
 
 PREFIX ?= /usr/local
 installed = $(DESTDIR)$(PREFIX)

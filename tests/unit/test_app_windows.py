@@ -1,0 +1,774 @@
+"""A person's front end of a session with windows, whose starts and keeper are played: where what is typed goes, and what is asked for."""
+import os
+import pathlib
+import pty
+from unittest import mock
+
+from aids import Case, StillLoop, closed, read_now, record
+from emulated import Emulated
+from roam_live.common import tty
+from roam_live.common.errors import Fault
+from roam_live.common.event_loop import comes
+from roam_live.config.environment import choose_by_file
+from roam_live.config.user_file import OWN, settings_path
+from roam_live.frontend import app, command_line, window_view
+from roam_live.frontend.app import FrontEnd
+from roam_live.frontend.choose_list import WINDOWS_LINE
+from roam_live.frontend.windows import DROPPED, EARLIER, FAR, LATE, LISTS, NOT_AWAITED, NO_ROOM, OPENING, OPENS, SMALL, TAKES_LONG
+from roam_live.input.keys import acts_of_bytes
+from test_display import PlayedPanes, painting, places
+from test_app import AnySession
+
+LONG = "a text that is long enough to be handed to the keeper of the shells"
+
+
+class PlayedWindow(AnySession):
+    """A window of a session that is played, at sockets of its own."""
+
+    def __init__(self, case, all_windows, number):
+        folder = case.folder / "w" / str(number)
+        folder.mkdir(parents=True)
+        super().__init__(folder)
+        self.number, self.all, self.status = number, all_windows, 1
+        all_windows[number] = self
+        self.starts, self.shells = case.listening(self.terminals), case.listening(folder / "shells")
+
+    def windows(self):
+        """Those that run."""
+        return [one for _, one in sorted(self.all.items())]
+
+    def window(self, number):
+        """One of them."""
+        if number not in self.all:
+            raise Fault(f"session main has no window {number}")
+        return self.all[number]
+
+    def ending(self):
+        """What is told at its end: status 0 where it is about to be ended."""
+        return "[the session has ended]", self.status
+
+
+class Windows(Case):
+    """A front end at the first of two windows, on a terminal of 24 by 80."""
+
+    def setUp(self):
+        self.stop_clock()
+        self.folder = self.made_folder()
+        self.windows, self.starts, self.typed, self.keepers = {}, {}, {}, []
+        self.place = self.add(1)
+        self.add(2)
+        self.master, slave = pty.openpty()
+        tty.set_size(slave, 24, 80)
+        kept = os.dup(0), os.dup(1)
+        os.dup2(slave, 0), os.dup2(slave, 1)
+        self.addCleanup(self.give_back, kept, slave)
+        os.set_blocking(self.master, False)
+        self.patch_of(app, "woken", return_value=self.pipe()[0])
+        self.brings = self.patch_of(app, "brings_to", return_value=[])
+        self.patch_of(app, "PanesFollower", lambda folder, loop, changed, tells: self.played(folder))
+        self.loop = StillLoop(lambda: self.now)
+        self.front = self.front_of()
+
+    def front_of(self, **more):
+        """A front end that has connected, and was painted something."""
+        self.emulated = Emulated(24, 80)
+        front = FrontEnd(self.place, more.pop("watches", False), "C-b", "never", lambda places: False, self.loop, **more)
+        self.addCleanup(self.close, front)
+        front.display.outer.enter()
+        self.front = front
+        front.connect()
+        self.turn()
+        return front
+
+    def close(self, front):
+        """Closes what a front end has open."""
+        closed(front.display.outer.end)
+        front.windows.link.end()
+        for visit in (front.visit, *front.parting.visits.values()):
+            visit.bells.close()
+            visit.close(self.loop)
+
+    def add(self, number):
+        """One more window."""
+        self.typed[number] = ""
+        return PlayedWindow(self, self.windows, number)
+
+    def played(self, folder):
+        """What tells where the panes of a window are."""
+        panes = PlayedPanes(self.windows[int(folder.name)])
+        panes.close = lambda: None
+        return panes
+
+    def give_back(self, kept, slave):
+        """Gives this process its own input and output."""
+        for end, number in zip(kept, (0, 1)):
+            os.dup2(end, number)
+            os.close(end)
+        os.close(slave)
+        os.close(self.master)
+
+    # ---- what is played
+
+    def accepted(self, listener):
+        """Who came to a socket since that was looked at."""
+        found = []
+        while True:
+            try:
+                found.append(self.taken(listener))
+            except BlockingIOError:
+                return found
+
+    def turn(self, count=4, paints=True):
+        """So many turns that wait for nothing, with a start for each window that takes all and paints what is asked for."""
+        for _ in range(count):
+            self.front.turn()
+            for number, window in self.windows.items():
+                for start in self.accepted(window.starts):
+                    self.starts[start] = number, 0
+                    self.send(start, b"\ntold\n")
+                self.keepers += [(peer, number) for peer in self.accepted(window.shells)]
+            for start in list(self.starts) if paints else []:
+                self.answer(start)
+        self.emulated.fed(read_now(self.master))
+
+    def answer(self, start):
+        """Has a start take lines: what of them is typed is kept by window, and a part is painted."""
+        number, taken = self.starts[start]
+        try:
+            lines = read_now(start).decode().split("\n")[:-1]
+        except OSError:
+            del self.starts[start]
+            return
+        self.starts[start] = number, taken + len(lines)
+        for line in lines:
+            acts = line.removeprefix("paste ; ").split(" ; ")
+            self.typed[number] += "".join(chr(int(act.split()[1], 16)) for act in acts if act.startswith("char "))
+            self.typed[number] += "".join(f"<{act}>" for act in acts if act.split()[0] in ("focus", "close", "size"))
+            if line.startswith("part "):
+                size = tuple(map(int, line.split()[-2:]))
+                self.send(start, record("size", *size) + record("anew", data=painting(*size, f"window {number}")))
+        self.send(start, record("taken", taken + len(lines)))
+
+    def send(self, peer, data):
+        """Sends to who may have gone."""
+        try:
+            peer.send(data)
+        except OSError:
+            # It is gone.
+            self.starts.pop(peer, None)
+
+    def said(self):
+        """The lines that were said to the keeper since they were looked at, in the order of who connected."""
+        found = []
+        for peer, _ in self.keepers:
+            found += read_now(peer).decode().split("\n")[:-1]
+        return found
+
+    def tell(self, *lines):
+        """Has the keeper tell lines about windows."""
+        peer = self.keepers[1][0]
+        peer.send("".join(f"{line}\n" for line in lines).encode())
+        self.turn()
+
+    def tell_list(self):
+        """Has the keeper tell which windows there are."""
+        self.tell(*(f"window {number} -" for number in sorted(self.windows)), f"windows {len(self.windows)}")
+
+    def type(self, text, **more):
+        """Types, in one piece."""
+        os.write(self.master, text)
+        # The system hands it to the other end a moment later.
+        comes(0, 1)
+        self.turn(**more)
+
+    def rows(self):
+        """The first row and the last that are shown."""
+        lines = self.emulated.lines()
+        return lines[0].rstrip(), lines[23].rstrip()
+
+
+class Switches(Windows):
+    """From one window to another."""
+
+    def test_round(self):
+        """Keys behind a switch in one read go to the window where the person went, and those before it to the other, in order. Nothing is
+        left of a window that was left."""
+        self.type(b"\x022\x021")
+        self.turn()
+        has = len(self.loop.sources), len(self.loop.before), sorted(self.loop.due)
+        self.type(b"ab\x022cd\x021ef\x02lgh\x02pij\x02nkl\x022mn")
+        self.turn()
+        self.assertEqual((len(self.loop.sources), len(self.loop.before), sorted(self.loop.due)), has)
+        self.assertEqual(self.typed, {1: "abefij", 2: "cdghklmn"})
+        self.assertEqual((self.front.number, self.rows()), (2, ("window 2", "[1] 1- 2*")))
+
+    def test_cut(self):
+        """So do they wherever what is typed is cut, in characters and keys too."""
+        text = "ä\x022é\x1b[A\x021中\x02nü".encode()
+        for cut in range(len(text) + 1):
+            self.typed = {1: "", 2: ""}
+            self.type(b"\x021")
+            for piece in (text[:cut], text[cut:]):
+                self.type(piece)
+            self.assertEqual(self.typed, {1: "ä中", 2: "éü"}, cut)
+        self.assertEqual(acts_of_bytes(b"\x1b[A"), ["key up"])
+
+    def test_not_taken(self):
+        """What was typed in a window whose start takes nothing waits for it, while the other is typed in; nothing of it is lost."""
+        self.type(b"\x022\x021")
+        self.type(b"ab\x022cd", paints=False)
+        self.type(b"\x021ef\x022gh", paints=False)
+        self.assertEqual((self.typed, list(self.front.parting.visits)), ({1: "", 2: ""}, [1]))
+        self.turn()
+        self.assertEqual((self.typed, list(self.front.parting.visits)), ({1: "abef", 2: "cdgh"}, []))
+
+    def test_old_closed(self):
+        """The connections to a window that was left are closed once what was typed there is taken, and the other is painted."""
+        self.type(b"a\x022")
+        self.turn()
+        read_now(self.keepers[0][0])
+        there = [number for number, _ in self.starts.values()]
+        self.assertEqual((there, self.keepers[0][0].recv(99), self.front.parting.visits), ([2], b"", {}))
+
+    def test_lost(self):
+        """Where the start of a window that was left ends, another has what was typed there and hasn't gone; else nothing is waited for."""
+        self.type(b"\x022\x021")
+        self.type(b"ab\x022", paints=False)
+        visit = self.front.parting.visits[1]
+        self.front.parting.lost(visit)
+        self.assertEqual((visit.link.peer, "connect 1" in self.loop.due), (None, False))
+        self.turn()
+        self.assertEqual(list(self.front.parting.visits), [])
+        self.type(b"\x021")
+        self.type(b"d\x022", paints=False)
+        visit = self.front.parting.visits[1]
+        visit.link.waiting += b"char 63\n"
+        self.front.parting.lost(visit)
+        self.assertIn("connect 1", self.loop.due)
+        self.front.parting.settle()
+        self.assertEqual(list(self.front.parting.visits), [1])
+        with mock.patch.object(visit.keeper, "connect", return_value=(0.5, "no start")) as fails:
+            self.now += 0.5
+            self.turn()
+            self.assertEqual((fails.call_count, visit.link.peer), (1, None))
+        self.now += 0.5
+        self.turn(8)
+        self.assertEqual((self.typed[1], list(self.front.parting.visits), self.loop.due.get("connect 1")), ("abdc", [], None))
+
+    def test_there_is_none(self):
+        """A window that isn't there is told of, and what stands behind that is typed where the person is."""
+        self.type(b"\x025ab")
+        self.assertEqual((self.typed[1], self.rows()[1]), ("ab", "there is no window 5"))
+        self.type(b"\x02lcd")
+        self.assertEqual((self.typed[1], self.rows()[1]), ("abcd", "there is no last window"))
+
+    def test_order(self):
+        """C-b n and C-b p go round the windows in the order of their numbers."""
+        for number in (3, 5):
+            self.add(number)
+        for keys in (b"\x02na", b"\x02nb", b"\x02nc", b"\x02nd", b"\x02pe", b"\x02pf", b"\x02pg", b"\x02ph"):
+            self.type(keys)
+        self.assertEqual(self.typed, {1: "dh", 2: "ag", 3: "bf", 5: "ce"})
+
+    def test_not_had(self):
+        """A window of which the system refuses what is needed isn't gone to: all stays as it is, and says why."""
+        self.windows[2].processes["server"] = 1
+        with mock.patch.object(window_view, "opened_process", side_effect=Fault("no descriptor is left")):
+            self.type(b"a\x022b")
+        self.assertEqual((self.front.number, self.typed, self.rows()[1]), (1, {1: "ab", 2: ""}, "no descriptor is left"))
+        self.assertEqual(self.front.parting.visits, {})
+
+    def test_not_painted(self):
+        """Until a window is painted nothing of it is shown, and a moment later nothing of the one before."""
+        self.type(b"\x022", paints=False)
+        self.assertEqual(self.rows(), ("window 1", "[1] 1* 2"))
+        self.now += 0.15
+        self.turn(paints=False)
+        self.assertEqual(self.rows(), ("", "[1] 1- 2*"))
+        self.turn()
+        self.assertEqual(self.rows(), ("window 2", "[1] 1- 2*"))
+
+    def test_paste(self):
+        """A paste that is handed over goes where it was pasted, and what is typed behind a switch doesn't wait for it."""
+        self.keepers[0][0].send(b"keeper 00112233445566aa\nothers 0\n")
+        self.turn()
+        self.type(b"a\x1b[200~" + LONG.encode() + b"\x1b[201~b\x022c")
+        self.assertEqual(self.typed, {1: "a", 2: "c"})
+        name = next(line.split()[1] for line in self.said() if line.startswith("give"))
+        self.keepers[0][0].send(f"held {name}\n".encode())
+        self.turn(6)
+        self.assertEqual((self.typed[1], self.typed[2]), (f"a\x9f{name}\x9cb", "c"))
+
+    def test_sizes(self):
+        """A window that was left while all of it was shown follows the terminal once the person is there again and alone; one whose size
+        another changed stays."""
+        for window in self.windows.values():
+            window.told = places(24, 80)
+        self.add(3).told = places(24, 80)
+        self.type(b"\x022\x023\x021")
+        self.windows[3].told = places(24, 90)
+        tty.set_size(0, 20, 70)
+        self.front.resized()
+        self.now += 1
+        self.turn()
+        for number, wanted in ((2, "<size 20 70>"), (3, "")):
+            self.type(b"\x02%d" % number)
+            for peer, _ in self.keepers:
+                self.send(peer, b"keeper 00112233445566aa\nothers 0\n")
+            self.now += 1
+            self.turn(8)
+            self.assertEqual(self.typed[number], wanted)
+
+
+class Opened(Windows):
+    """One window more."""
+
+    def test_opened(self):
+        """What is typed behind the key that opens a window is for that."""
+        self.tell_list()
+        self.said()
+        self.type(b"a\x02cbc\x021d\x02le")
+        self.assertEqual((self.said(), self.typed[1]), (["open 24 80"], "a"))
+        self.add(3)
+        self.tell("window 3 -", "opened 3")
+        self.turn()
+        self.assertEqual((self.typed, self.rows()), ({1: "ad", 2: "", 3: "bce"}, ("window 3", "[1] 1- 2 3*")))
+
+    def test_refused(self):
+        """Where none is opened what was typed for it is dropped, which is told with the reason, harmless."""
+        self.tell_list()
+        self.type(b"a\x02crm x\r")
+        self.tell("opened none a session has \x1b[2J99 windows at most")
+        self.assertEqual(self.front.display.told, "no window is opened: a session has ?[2J99 windows at most" + DROPPED)
+        self.type(b"b")
+        self.assertEqual(self.typed, {1: "ab", 2: ""})
+
+    def test_late(self):
+        """A keeper that is stopped doesn't stop who types for longer than a moment, and not from going elsewhere; a window that comes later
+        is told of."""
+        self.tell_list()
+        self.type(b"\x02cab")
+        self.now += OPENS
+        self.turn()
+        self.assertEqual((self.front.display.told, self.typed[1]), (LATE + DROPPED, ""))
+        self.type(b"c\x022d")
+        self.assertEqual(self.typed, {1: "c", 2: "d"})
+        self.add(3)
+        self.tell("window 3 -", "opened 3")
+        self.assertEqual((self.front.number, self.front.display.told), (2, "window 3 is there now"))
+
+    def test_given_up(self):
+        """Once it was told that it takes long C-c waits for it no longer, and what follows that is typed; before that C-c is for it too."""
+        self.tell_list()
+        self.type(b"\x02cab\x03c")
+        self.now += TAKES_LONG
+        self.turn()
+        self.assertEqual((self.front.display.told, self.typed[1]), (OPENING, ""))
+        self.type(b"\x03d")
+        self.assertEqual((self.typed[1], self.front.windows.is_opening, self.front.display.told), ("d", False, NOT_AWAITED + DROPPED))
+        self.type(b"\x02c\x03e")
+        self.add(3)
+        self.tell("window 3 -", "opened 3")
+        self.assertEqual(self.typed, {1: "d", 2: "", 3: "\x03e"})
+
+    def test_half_pasted(self):
+        """Of a paste that was begun for it nothing is typed elsewhere, however late the rest of it comes."""
+        self.tell_list()
+        self.type(b"\x02ca\x1b[200~rm")
+        self.now += OPENS
+        self.turn()
+        self.type(b" -rf x\r")
+        self.type(b"y\r\x1b[201~b")
+        self.assertEqual((self.typed[1], self.front.display.told), ("b", LATE + DROPPED))
+        self.type(b"\x02ca\x1b[200~on")
+        self.add(3)
+        self.tell("window 3 -", "opened 3")
+        self.type(b"e\x1b[201~b")
+        self.assertEqual(self.typed, {1: "b", 2: "", 3: "aoneb"})
+
+    def test_keeper_comes(self):
+        """A keeper that isn't connected yet is asked once it is, and nothing that was typed for the window goes elsewhere."""
+        self.front.windows.link.lost("not there")
+        self.turn()
+        self.type(b"\x02cab")
+        self.assertEqual(self.typed[1], "")
+        self.now += 0.2
+        self.turn()
+        peer = self.keepers[-1][0]
+        self.assertEqual(read_now(peer), b"windows\n")
+        self.send(peer, b"window 1 -\nwindow 2 -\nwindows 2\n")
+        self.turn()
+        self.assertEqual(read_now(peer), b"open 24 80\n")
+        self.add(3)
+        self.send(peer, b"window 3 -\nopened 3\n")
+        self.turn()
+        self.assertEqual(self.typed, {1: "", 2: "", 3: "ab"})
+
+    def test_no_room(self):
+        """Where one can't be asked for either what stands behind in the same read is dropped, and what is typed later isn't."""
+        tty.set_size(0, 3, 80)
+        self.front.resized()
+        self.type(b"\x02cab")
+        self.turn()
+        self.assertEqual((self.typed[1], self.front.display.told), ("", SMALL + DROPPED))
+        self.type(b"c")
+        self.assertEqual(self.typed[1], "c")
+
+    def test_keeper_ends(self):
+        """So does the end of the keeper."""
+        self.tell_list()
+        self.type(b"\x02cab")
+        self.keepers[1][0].close()
+        self.turn()
+        self.assertEqual((self.front.windows.is_opening, self.front.display.told.endswith(DROPPED)), (False, True))
+
+    def test_relay_turns(self):
+        """Of another machine's session the connection is cut where its relay goes another way: the window is asked for again, until it is
+        known that it is there, and has what was typed for it."""
+        self.place.served = "relay"
+        self.tell_list()
+        self.said()
+        self.type(b"\x02cab")
+        for wanted in (["open 24 80"], ["windows", "open 24 80"]):
+            self.assertEqual([line for line in self.said() if line.split()[0] in ("windows", "open")], wanted)
+            self.front.windows.link.lost("cut")
+            self.now += 1
+            self.turn()
+            self.send(self.keepers[-1][0], b"window 1 -\nwindow 2 -\nwindows 2\n")
+            self.turn()
+        self.said()
+        self.send(self.keepers[-1][0], b"opened 3\n")
+        self.turn()
+        self.front.windows.link.lost("cut")
+        self.now += 0.02
+        self.add(3)
+        self.turn()
+        self.assertEqual((self.typed, self.front.number, self.front.windows.unsaid), ({1: "", 2: "", 3: "ab"}, 3, ""))
+
+    def test_bounded(self):
+        """No more is read than is kept for a window that is being opened."""
+        self.tell_list()
+        self.type(b"\x02c" + b"x" * 3000)
+        self.assertFalse(self.front.commands.is_full())
+        self.type(b"x" * 2000)
+        self.assertTrue(self.front.commands.is_full())
+
+    def test_earlier(self):
+        """A keeper that doesn't know of windows, and a session without a window's number, can have one alone, which is said."""
+        self.tell("bad line")
+        self.type(b"\x02ca")
+        self.assertEqual((self.front.display.told, self.typed[1]), (EARLIER, "a"))
+
+    def test_far(self):
+        """A session that is no window of several has one alone, and which of another machine is said so; nothing is asked of its keeper."""
+        for served, words in (("server", EARLIER), ("relay", FAR)):
+            self.starts.clear()
+            self.keepers.clear()
+            self.place.number, self.place.served = 0, served
+            self.front_of()
+            self.type(b"\x02ca\x022b\x02n\x02&")
+            self.assertEqual((self.front.display.told, self.rows()[1], self.typed), (words, words, {1: "ab", 2: ""}))
+            self.assertNotIn("windows", self.said())
+            self.typed[1] = ""
+
+    def test_watches(self):
+        """Who only watches goes from one to another, and changes none."""
+        self.starts.clear()
+        self.keepers.clear()
+        self.front_of(watches=True)
+        self.tell_list()
+        self.said()
+        self.type(b"\x02c\x02,\x02&\x022")
+        self.assertEqual(([line for line in self.said() if line.split()[0] in ("open", "name", "shut")], self.front.number), ([], 2))
+
+
+class Told(Windows):
+    """What happens in windows."""
+
+    def test_flags(self):
+        """What rang, and what was written, is shown until the person is there."""
+        self.tell_list()
+        rings = self.patch_of(self.front.display, "ring")
+        self.tell("bell 2 1", "activity 2", "runs 1 vim", "runs 2 sh", "bell 1 1", "bell 2 1", "bell 0 1")
+        # The one where the person is rings by its own socket.
+        self.assertEqual(rings.call_count, 2)
+        self.assertEqual(self.rows()[1], "[1] 1:vim* 2:sh#!")
+        self.type(b"\x022")
+        self.assertEqual(self.rows()[1], "[1] 1:vim- 2:sh*")
+
+    def test_gone(self):
+        """A window that is gone gives way to the one before it, and what is typed goes there; the last one's end is the session's."""
+        self.add(5)
+        self.tell_list()
+        self.type(b"\x025\x022a")
+        del self.windows[2]
+        self.tell("gone 2")
+        self.type(b"b")
+        self.assertEqual((self.front.number, self.typed, self.front.display.told), (5, {1: "", 2: "a", 5: "b"}, "window 2 is gone"))
+        del self.windows[5]
+        self.tell("gone 5")
+        self.assertEqual(self.front.number, 1)
+        del self.windows[1]
+        self.tell("gone 1")
+        self.assertIsNone(self.front.left)
+        self.front.server_ended(self.front.visit)
+        self.assertEqual((self.front.left, self.front.status), ("[the session has ended]", 1))
+
+    def test_server(self):
+        """So does one whose server ends before that is told, but not to one that is about to end too."""
+        self.front.server_ended(self.front.visit)
+        self.assertEqual((self.front.number, self.front.left), (2, None))
+        self.windows[1].status = self.windows[2].status = 0
+        self.front.server_ended(self.front.visit)
+        self.assertEqual((self.front.left, self.front.status), ("[the session has ended]", 0))
+
+    def test_pasting(self):
+        """What is pasted while its window goes isn't typed elsewhere."""
+        self.tell_list()
+        self.type(b"\x022\x1b[200~rm -rf")
+        del self.windows[2]
+        self.tell("gone 2")
+        self.type(b" x\r\x1b[201~y")
+        self.assertEqual((self.typed, self.front.display.told), ({1: "y", 2: ""}, "nothing is pasted: its window is gone"))
+        # So is one that was pasted into a line that copy mode asked for.
+        self.add(3)
+        self.tell("window 3 -")
+        self.type(b"\x023")
+        self.front.commands.copying.is_pasting = self.front.commands.keys.is_pasting = True
+        del self.windows[3]
+        self.tell("gone 3")
+        self.type(b"rm\r\x1b[201~z")
+        self.assertEqual(self.typed, {1: "yz", 2: "", 3: ""})
+
+    def test_question(self):
+        """A question stands until it is answered, also where its window goes, and means nothing for another then."""
+        self.tell_list()
+        self.type(b"\x022")
+        self.windows[2].runs_busy = {1: "vi"}
+        for keys in (b"\x02x", b"n\x02&"):
+            self.type(keys)
+            self.assertEqual(self.rows()[1], "shut window 2, with vi in pane 1? y shuts it")
+        del self.windows[2]
+        self.tell("gone 2")
+        self.said()
+        self.type(b"yz")
+        self.assertEqual((self.typed[1], self.said()), ("z", ["shut 2"]))
+
+    def test_detached(self):
+        """Another has this terminal leave; and it the others."""
+        self.said()
+        self.type(b"\x02D")
+        self.assertEqual(self.said(), ["leave others"])
+        self.keepers[0][0].send(b"left 2\n")
+        self.turn()
+        self.assertEqual(self.front.display.told, "2 other terminals detached")
+        self.keepers[0][0].send(b"leave\n")
+        self.turn()
+        self.assertEqual(self.front.left, "[detached from elsewhere]")
+
+
+class Named(Windows):
+    """Names, ends, and the list."""
+
+    def test_name(self):
+        """A line is asked for in the last row, above all that is told; what is typed there goes nowhere else."""
+        self.tell_list()
+        self.said()
+        self.type("\x02,hé中\x7f\x1b[A文".encode())
+        self.tell("bell 2 1")
+        self.front.display.tell("something")
+        self.turn()
+        self.assertEqual(self.rows()[1], "(name of window 1) hé文")
+        self.type(b"\rz")
+        self.assertEqual((self.said(), self.typed[1]), ([f"name 1 {'hé文'.encode().hex()}"], "z"))
+        self.tell(f"window 1 {'hé文'.encode().hex()}")
+        self.type(b"\x02,\x15\r")
+        self.assertEqual(self.said(), ["name 1 -"])
+        for leaves in (b"\x1b", b"\x03", b"\x07"):
+            self.type(b"\x02,abc")
+            self.type(leaves)
+            self.now += 0.1
+            self.turn()
+            self.assertEqual((self.said(), self.front.display.prompt), ([], ""))
+
+    def test_pasted_name(self):
+        """Of a paste the first line is a name; one with escapes is none, and no name is longer than a line may be."""
+        self.tell_list()
+        self.said()
+        for pasted, name in ((b"two\nlines", "two"), (b"a\x1b]0;x\x07b", ""), ("é".encode() * 99, "é" * 59)):
+            self.type(b"\x02,\x15\x1b[200~" + pasted + b"\x1b[201~\r")
+            self.assertEqual(self.said(), [f"name 1 {name.encode().hex() or '-'}"])
+
+    def test_shut(self):
+        """A window where a shell alone runs is shut at once; the last one never without a question."""
+        self.tell_list()
+        self.said()
+        self.type(b"\x02&")
+        self.assertEqual(self.said(), ["shut 1"])
+        self.windows[1].runs_busy = None
+        self.type(b"\x02&")
+        self.assertEqual(self.rows()[1], "shut window 1, with whatever runs there? y shuts it")
+        self.type(b"n")
+        self.assertEqual((self.said(), self.rows()[1]), ([], "[1] 1* 2"))
+        self.windows[1].runs_busy = {}
+        self.tell("gone 2")
+        self.type(b"\x02&")
+        self.assertEqual(self.rows()[1], "shut window 1 and end the session, whose last it is? y shuts it")
+        self.type(b"y")
+        self.assertEqual(self.said(), ["shut 1"])
+
+    def test_asked(self):
+        """A number may be asked for, also by one who only watches."""
+        self.add(12)
+        for watches in (False, True):
+            self.starts.clear()
+            self.keepers.clear()
+            self.front_of(watches=watches)
+            self.tell_list()
+            for typed, number in ((b"12\r", 12), (b"7\r", 12), (b"x\r", 12), (b"\r", 12), (b"1\x03", 12), (b"02\r", 2)):
+                self.type(b"\x02'" + typed)
+                self.assertEqual(self.front.number, number, typed)
+
+    def test_list(self):
+        """The list shows what runs there, and goes where Return or a digit says."""
+        self.tell_list()
+        self.tell("window 2 6465", "runs 1 sh", "runs 2 vim")
+        self.type(b"\x02w")
+        self.turn()
+        lines = [line.rstrip() for line in self.emulated.lines()]
+        self.assertEqual((lines[:3], lines[23]), (["1:sh*", "2:de  vim", ""], WINDOWS_LINE.format(1, 2)))
+        self.type(b"jabc")
+        self.assertEqual(self.typed[1], "")
+        self.type(b"\rx")
+        self.assertEqual((self.front.number, self.typed), (2, {1: "", 2: "x"}))
+        self.type(b"\x02w1y")
+        self.assertEqual((self.front.number, self.typed[1]), (1, "y"))
+        self.type(b"\x02wG")
+        self.tell("gone 2")
+        self.assertEqual([line.rstrip() for line in self.emulated.lines()][:2], ["1:sh*", ""])
+        self.type(b"qz")
+        self.assertEqual(self.typed[1], "yz")
+
+
+    def test_list_awaited(self):
+        """Just behind a switch the list waits until it is told where the panes are, and keys for it do; no longer than a moment, and then
+        they are typed."""
+        self.tell_list()
+        told = self.windows[2].told
+        for is_told in (True, False):
+            self.windows[2].told = None
+            with mock.patch.object(PlayedPanes, "awaited", True):
+                self.type(b"\x022\x02wk\r")
+                self.type(b"x")
+                self.assertEqual((self.front.number, self.typed[2], self.front.display.told), (2, "", ""))
+                self.windows[2].told = told if is_told else None
+                self.now += 0 if is_told else LISTS
+                self.front.commands.told()
+                self.turn()
+            self.assertEqual((self.front.number, self.typed), (1, {1: "x", 2: ""}) if is_told else (2, {1: "x", 2: "kx"}))
+            self.assertEqual((self.front.display.told, self.front.windows.held), ("" if is_told else NO_ROOM, []))
+
+
+class Pointed(Windows):
+    """Where roam has the mouse a label goes to its window."""
+
+    def test_labels(self):
+        """What is told there has no labels, and nothing is pointed at."""
+        self.tell_list()
+        for is_on, wanted in ((False, 1), (True, 2)):
+            self.front.commands.pointing.is_on = is_on
+            self.type(b"\x1b[<0;8;24M\x1b[<0;8;24mx")
+            self.assertEqual(self.front.number, wanted)
+        self.assertEqual(self.typed, {1: "x", 2: "x"})
+        self.front.display.tell("[1] 1- 2*")
+        self.type(b"\x1b[<0;5;24My")
+        self.front.display.end_told()
+        self.type(b"\x1b[<0;5;23M\x1b[<0;5;23m")
+        self.assertEqual((self.front.number, self.typed[2]), (2, "xy"))
+
+
+class Brought(Windows):
+    """What an attach brings."""
+
+    def test_asked(self):
+        """It goes by the session, and by whether a person watches alone."""
+        self.brings.assert_called_once_with(self.place, False)
+        self.front_of(watches=True)
+        self.brings.assert_called_with(self.place, True)
+
+
+class Settings(Windows):
+    """A settings file that is read while a person is there."""
+
+    def setUp(self):
+        self.environment(XDG_CONFIG_HOME=str(self.made_folder()), ROAM_PREFIX=None, ROAM_GUESS=None, ROAM_MOUSE=None)
+        self.addCleanup(choose_by_file, {})
+        self.patch_of(OWN, "found", None)
+        super().setUp()
+        self.file = pathlib.Path(settings_path())
+        self.file.parent.mkdir()
+
+    def read(self, text):
+        """Has the file say this, and be read."""
+        self.file.write_text(text, encoding="utf-8")
+        self.front.read_settings()
+        self.turn()
+
+    def test_read(self):
+        """What it says holds at once, and it is told that it was read, or what of it isn't done."""
+        self.read("set -g prefix C-a\nbind y select-window -t 2\nset -g mouse on\n")
+        self.assertEqual((self.front.display.told, self.front.commands.pointing.is_on), ("roam.conf was read", True))
+        self.type(b"\x02a\x01yb")
+        self.assertEqual((self.front.number, self.typed), (2, {1: "\x02a", 2: "b"}))
+        other = self.made_folder() / "other.conf"
+        other.write_text("set -g mouse off\nfoo\n", encoding="utf-8")
+        self.front.runner.typed(f"source-file {other}")
+        self.assertEqual((self.front.display.told, self.front.commands.pointing.is_on, self.front.prefix),
+                         ("other.conf:2: foo isn't there in roam", False, "C-a"))
+        self.read("")
+        self.assertEqual((self.front.prefix, self.front.commands.typing.own), ("C-b", {}))
+
+    def test_refused(self):
+        """Where a variable can't be gone by that is told, and the prefix stays."""
+        with mock.patch.dict(os.environ, ROAM_PREFIX="nosuch"):
+            self.read("set -g mouse on\n")
+        self.assertEqual((self.front.prefix, self.front.commands.pointing.is_on), ("C-b", False))
+        self.assertIn("nosuch", self.front.display.told)
+
+    def test_row(self):
+        """The last row goes and comes by it."""
+        for text, is_hidden in (("set -g status off", True), ("set -g status off", True), ("set -g status on", False)):
+            self.read(f"{text}\n")
+            self.assertEqual(self.front.display.is_row_hidden, is_hidden)
+
+    def test_runs(self):
+        """What it has the shell run is run as it is read, and keys that it binds do all that they are bound to."""
+        with mock.patch.object(command_line, "ShellRun") as runs:
+            runs.return_value.has_ended.return_value = True
+            self.read("run-shell 'echo one'\nbind y { run-shell two ; select-window -t 2 }\n")
+            self.assertEqual([one.args[1] for one in runs.call_args_list], ["echo one"])
+            self.type(b"\x02yx")
+            self.assertEqual(([one.args[1] for one in runs.call_args_list], self.typed[2]), (["echo one", "two"], "x"))
+
+
+class Hidden(Windows):
+    """The last row may be hidden."""
+
+    def test_hidden(self):
+        """The session has the row then, and a line that is told stands over it."""
+        self.place.told = places(24, 80)
+        self.keepers[0][0].send(b"keeper 00112233445566aa\nothers 0\n")
+        self.turn()
+        self.type(b"\x02t")
+        self.assertIn("<size 25 80>", self.typed[1])
+        self.place.told = places(25, 80)
+        self.front.commands.told()
+        self.turn()
+        self.assertEqual(self.rows(), ("window 1", "window 1"))
+        self.type(b"\x025")
+        self.assertEqual(self.rows()[1], "there is no window 5")
+        self.now += 3
+        self.turn()
+        self.assertEqual(self.front.display.line(), "")
+        self.type(b"\x02t")
+        self.assertTrue(self.typed[1].endswith("<size 24 80>"))

@@ -1,0 +1,882 @@
+"""Copy mode at a person's terminal, with a keeper that is played: how it is opened, drawn, fed and closed, what becomes of what is copied,
+and which buffer is pasted."""
+import base64
+from unittest import mock
+
+from aids import Case
+from scrollback_played import PlayedKept
+from roam_live.frontend import choose_list
+from roam_live.frontend.copymode import selection
+from roam_live.frontend.copymode.clipboard import MOST_COPIED
+from roam_live.frontend.copymode.controller import LENDS, MOST_WAITING, NO_ROOM
+from roam_live.frontend.copymode.row_requests import GONE, MOST_ASKED, WAITING, WAITS
+from roam_live.protocol.display_records import ToldRecord
+from roam_live.protocol.panes import Places, Rect
+from roam_live.protocol.paste_text import mark_acts
+from roam_live.protocol.scrollback_client import Snapshot
+from test_display import Person, PlayedShells
+from test_mouse import PANES, report
+
+TEXT = "\n".join(f"row {number} of many, the {number}th" for number in range(1, 101))
+ONE = Places({1: Rect(1, 1, 23, 80)}, 1, 1)
+
+
+class CopyShells(PlayedShells):
+    """A keeper that lends rows, and takes texts and buffers to be pasted."""
+
+    def __init__(self, kept):
+        super().__init__()
+        self.kept, self.gave, self.answers, self.cancelled = kept, [], None, []
+        self.connects = False
+
+    def takes_texts(self):
+        """Whether it takes texts."""
+        return True
+
+    def is_connecting(self):
+        """Whether it may be connected soon."""
+        return self.connects
+
+    def has_room(self, length):
+        """Whether so many bytes more may wait."""
+        return True
+
+    def give(self, name, data):
+        """Keeps what is given: bytes, or the number of a buffer."""
+        self.gave.append((name, data))
+
+    def cancel(self, name):
+        """Keeps what isn't given any more."""
+        self.cancelled.append(name)
+
+
+class Copied(Case):
+    """A person at a terminal of 24 by 80."""
+
+    def setUp(self):
+        self.stop_clock()
+        self.environment(VISUAL="vi", EDITOR=None, ROAM_CLIPBOARD=None)
+
+    def person(self, text=TEXT, told=ONE, size=(24, 80), opens=True, **more):
+        """A person, who has opened copy mode in the pane in focus."""
+        rect = told.rects[told.focus]
+        self.kept = PlayedKept(text, (rect.rows, rect.cols), first=1000)
+        self.shells = CopyShells(self.kept)
+        person = Person(*size, told=told, shells=self.shells, **more)
+        person.commands.told()
+        self.settle(person)
+        if opens:
+            person.types(b"\x02[")
+            self.settle(person)
+        return person
+
+    def settle(self, person, text="x"):
+        """Has the session paint what was asked for; tells the lines that were said."""
+        said = person.said()
+        if said:
+            person.paints(*(person.display.asked or person.session()), text)
+        return said
+
+    def passes(self, person, seconds):
+        """Lets so many seconds pass."""
+        self.now += seconds
+        person.loop.do_due()
+
+    def mode(self, person):
+        """The copy mode that is open."""
+        return person.commands.copying.mode
+
+    def spot(self, person):
+        """The place of its cursor."""
+        return self.mode(person).view.spot
+
+
+class Opened(Copied):
+    """How it is opened and closed."""
+
+    def test_opened(self):
+        """C-b [ asks for a snapshot and masks the pane; once all is painted anew its rows stand there, and not what the session shows."""
+        person = self.person(opens=False)
+        person.display.outer.waiting.clear()
+        self.assertEqual(person.types(b"\x02["), [])
+        self.assertEqual(self.kept.asked, [("snapshot", 1, 1)])
+        self.assertEqual(person.said(), ["part 0 0 23 80", "mask 0 0 23 80"])
+        self.assertNotIn(b"row 100", person.display.outer.waiting)
+        person.paints(23, 80, "session")
+        shown = person.shown()
+        self.assertEqual(shown[22], "row 100 of many, the 100th")
+        self.assertEqual(shown[23], "[0/77] copy mode")
+
+    def test_cursor(self):
+        """After a painting the cursor stands where copy mode has it, and before the next where the last one left it."""
+        person = self.person()
+        person.types(b"gllll")
+        outer = person.display.outer
+        self.assertTrue(bytes(outer.waiting).endswith(b"\x1b[1;5H\x1b[?25h"))
+        before = len(outer.waiting)
+        person.display.take(ToldRecord("paint", (3,), b"abc"))
+        self.assertEqual(bytes(outer.waiting[before:]), b"\x1b8abc\x1b7\x1b[1;5H\x1b[?25h")
+        before = len(outer.waiting)
+        person.display.tell("a bell")
+        self.assertTrue(bytes(outer.waiting[before:]).startswith(b"\x1b[?7l\x1b[24;1H\x1b[0;7ma bell"))
+        self.assertTrue(bytes(outer.waiting[before:]).endswith(b"\x1b[1;5H\x1b[?25h"))
+
+    def test_stale(self):
+        """What is painted before the mask holds doesn't reach the terminal, and a drawing that isn't there yet isn't drawn over it."""
+        person = self.person(opens=False)
+        person.types(b"\x02[")
+        person.said()
+        before = len(person.display.outer.waiting)
+        person.display.take(ToldRecord("paint", (3,), b"abc"))
+        person.types(b"k")
+        self.assertNotIn(b"abc", person.display.outer.waiting[before:])
+        self.assertNotIn(b"row 99", person.display.outer.waiting[before:])
+        person.paints(23, 80)
+        self.assertIn("row 99 of many, the 99th", person.shown())
+
+    def test_closed(self):
+        """q lets the snapshot go and has all painted again, the part with the cursor; what is typed goes to the pane then."""
+        person = self.person()
+        self.assertEqual(person.types(b"q"), [])
+        self.assertEqual((person.said(), self.kept.released), (["unmask", "part 23 80"], [(1, 1)]))
+        person.paints(23, 80, "session")
+        self.assertEqual(person.shown()[22:], ["session", "[1]"])
+        self.assertEqual(person.types(b"q"), ["char 71"])
+
+    def test_ahead(self):
+        """What is typed before the snapshot is lent is done behind that, in order."""
+        person = self.person(opens=False)
+        self.kept.is_quick = False
+        self.assertEqual(person.types(b"\x02[g3j"), [])
+        self.kept.answers()
+        self.kept.is_quick = True
+        self.kept.answers()
+        self.assertEqual(self.spot(person), (1003, 0))
+
+    def test_page_and_search(self):
+        """C-b PgUp opens it a page up, and C-b / in its search; where it is open these do the same there."""
+        person = self.person(opens=False)
+        person.types(b"\x02\x1b[5~")
+        self.settle(person)
+        self.assertEqual(person.display.line(), "[21/77] copy mode")
+        person.types(b"\x02/")
+        self.assertEqual(person.display.line(), "(search up) ")
+        person.types(b"The 5th")
+        self.assertEqual(person.shown()[23], "(search up) The 5th")
+        self.assertTrue(bytes(person.display.outer.waiting).endswith(b"\x1b[24;20H\x1b[?25h"))
+        person.types(b"\r")
+        self.assertIn("'The 5th' isn't found", person.display.line())
+        person.types(b"\x02/the 5th\r")
+        self.assertEqual(self.spot(person), (1004, 15))
+        person.types(b"\x02[k")
+        self.assertEqual(self.spot(person), (1003, 15))
+        for keys, spot in (("vi", (1008, 15)), ("emacs", (1008, 15))):
+            self.environment(VISUAL=keys)
+            other = self.person(opens=False)
+            other.types(b"\x02/the 9th")
+            self.assertEqual(self.spot(other) == spot, keys == "emacs")
+            other.types(b"\r")
+            self.assertEqual(self.spot(other), spot)
+
+    def test_searched(self):
+        """What was searched for last is searched on for once it is opened again."""
+        person = self.person()
+        person.types(b"?the 7th\rq")
+        self.settle(person)
+        person.types(b"\x02[n")
+        self.assertEqual(self.spot(person), (1006, 15))
+
+    def test_not_lent(self):
+        """Where nothing lends rows, or not in two seconds, the view that all share scrolls, by what was typed meanwhile too."""
+        for change in ("none", "no keeper", "late", "no making"):
+            person = self.person(opens=False)
+            self.kept.lends = change != "none"
+            self.kept.is_quick = change != "late"
+            if change == "no keeper":
+                person.commands.shells = None
+            if change == "no making":
+                person.panes.making = lambda pane: ""
+            acts = person.types(b"\x02[kk")
+            before = len(person.link.acts)
+            if change == "late":
+                self.assertEqual(acts, [])
+                self.passes(person, WAITS)
+                self.assertEqual(person.display.told, WAITING)
+                self.passes(person, LENDS - WAITS)
+                acts = person.link.acts[before:]
+            self.assertEqual(acts, ["view 1", "view 1"], change)
+            self.assertEqual(person.display.told, "2 rows back: PgUp PgDn up down g G scroll, q ends it")
+            self.kept.answers()
+            self.assertFalse(person.commands.copying.is_on())
+            self.assertEqual(person.types(b"q"), ["view -500"])
+            self.assertEqual(person.types(b"\x02\x1b[5~"), ["view 12"] if change != "late" else [])
+        person = self.person(opens=False)
+        self.kept.lends = False
+        self.assertEqual(person.types(b"\x02/ab"), ["char 61", "char 62"])
+        self.assertEqual(person.display.told, "no rows are kept that could be shown")
+
+    def test_not_lent_late(self):
+        """What was typed for a search that can't be is typed nowhere, and neither is what waited for a snapshot anew."""
+        person = self.person(opens=False)
+        self.kept.is_quick = self.kept.lends = False
+        person.types(b"\x02/secret\r")
+        self.kept.answers()
+        self.assertEqual((person.link.acts, person.commands.copying.is_on()), ([], False))
+        person = self.person()
+        self.kept.is_quick = self.kept.lends = False
+        person.types(b"rjjj")
+        self.kept.answers()
+        self.assertEqual((person.link.acts, person.commands.copying.is_on(), person.display.told), ([], False, GONE))
+
+    def test_connecting(self):
+        """A keeper that may be connected soon, as one that was launched just before, is waited for; not longer than for a snapshot."""
+        person = self.person(opens=False)
+        self.shells.connects = True
+        self.assertEqual((person.types(b"\x02[gj"), self.kept.asked), ([], []))
+        self.passes(person, 0.1)
+        self.assertEqual(self.kept.asked, [])
+        self.shells.connects = False
+        self.passes(person, 0.1)
+        self.assertEqual(self.spot(person), (1001, 0))
+        person = self.person(opens=False)
+        self.shells.connects = True
+        person.types(b"\x02[k")
+        before = len(person.link.acts)
+        self.passes(person, LENDS)
+        self.assertEqual((person.link.acts[before:], person.commands.copying.is_on()), (["view 1"], False))
+        self.passes(person, 1)
+        self.assertEqual(self.kept.asked, [])
+
+    def test_focus_awaited(self):
+        """Where it isn't told yet where the panes are that is waited for; not longer than for a snapshot."""
+        for is_late in (False, True):
+            person = self.person(opens=False)
+            told, person.panes.place.told, person.panes.awaited = person.panes.place.told, None, True
+            self.assertEqual(person.types(b"\x02[gj"), [])
+            before = len(person.link.acts)
+            self.passes(person, LENDS if is_late else 0.3)
+            self.assertEqual(person.commands.copying.is_on(), not is_late)
+            person.panes.place.told = told
+            person.commands.told()
+            self.passes(person, 0.3)
+            if is_late:
+                self.assertEqual((person.link.acts[before:], person.commands.copying.is_on()), (["view 500", "view -1"], False))
+            else:
+                self.assertEqual((self.spot(person), person.link.acts[before:]), ((1001, 0), []))
+
+    def test_connection_cut(self):
+        """Where the connection is lost before a snapshot is lent it is asked for again once there is another; not longer than for one."""
+        for is_late in (False, True):
+            person = self.person(opens=False)
+            self.kept.is_quick = self.kept.lends = False
+            person.types(b"\x02[gj")
+            before = len(person.link.acts)
+            self.shells.connects = True
+            self.kept.answers()
+            self.passes(person, LENDS if is_late else 0.3)
+            self.assertEqual(person.commands.copying.is_on(), not is_late)
+            self.kept.is_quick = self.kept.lends = True
+            self.shells.connects = False
+            self.passes(person, 0.3)
+            if is_late:
+                self.assertEqual((person.link.acts[before:], person.commands.copying.is_on()), (["view 500", "view -1"], False))
+            else:
+                self.assertEqual(self.spot(person), (1001, 0))
+
+    def test_odd_snapshot(self):
+        """A snapshot without a screen, or with one that no pane can have, is none."""
+        for screen in ([], [b" x"] * 201):
+            person = self.person(opens=False)
+            self.kept.snapshot = lambda pane, life, told, screen=screen: told(Snapshot(pane, life, 0, 5, screen))
+            self.assertEqual(person.types(b"\x02[k"), ["view 1"])
+            self.assertFalse(person.commands.copying.is_on())
+
+    def test_late_answer(self):
+        """An answer that comes after that, or for what was closed meanwhile, opens nothing."""
+        person = self.person(opens=False)
+        self.kept.is_quick = False
+        person.types(b"\x02[")
+        person.types(b"\x03")
+        self.assertFalse(person.commands.copying.is_on())
+        self.kept.answers()
+        self.assertFalse(person.commands.copying.is_on())
+        self.assertEqual(person.types(b"x"), ["char 78"])
+
+    def test_watches(self):
+        """Who only watches has it too: nothing of it is an act, and what is copied is no buffer."""
+        person = self.person(watches=True)
+        self.assertEqual(person.types(b"g ey"), [])
+        self.assertEqual((self.kept.texts, person.display.outer.clips), ([], [base64.b64encode(b"row").decode()]))
+        self.assertEqual(person.display.told, "3 characters copied for the clipboard")
+
+    def test_refreshed(self):
+        """r has a new snapshot."""
+        person = self.person()
+        self.kept.lines.append(b" the newest")
+        person.types(b"r")
+        self.settle(person)
+        self.assertIn("the newest", person.shown())
+        self.assertEqual(self.kept.asked, [("snapshot", 1, 1), ("snapshot", 1, 1)])
+
+    def test_more(self):
+        """How many rows came since is told in the last row; of another pane nothing is."""
+        person = self.person()
+        self.kept.on_more(1, 1, 1)
+        self.assertEqual(person.shown()[23], "[0/77] copy mode; 1 row came since")
+        self.kept.on_more(1, 1, 2000)
+        self.kept.on_more(2, 1, 5)
+        self.assertEqual(person.shown()[23], "[0/77] copy mode; 2000 rows came since")
+        person.types(b"12")
+        self.assertEqual(person.shown()[23], "[0/77] copy mode; 2000 rows came since; (repeat) 12")
+
+
+class Fed(Copied):
+    """Rows that have to be asked for, and keys that wait for them."""
+
+    def test_asks(self):
+        """Rows are asked for once they are needed, with a page ahead, and no row twice."""
+        person = self.person("\n".join(f"row {number}" for number in range(1, 1001)))
+        person.types(b"\x1b[5~")
+        self.assertEqual(self.kept.asked[1:], [("rows", 1931, 46)])
+        person.types(b"\x1b[5~")
+        self.assertEqual(len(self.kept.asked), 2)
+        person.types(b"\x1b[5~")
+        self.assertEqual(self.kept.asked[2:], [("rows", 1885, 46)])
+        person.types(b"g")
+        self.assertEqual(self.kept.asked[3:], [("rows", 1000, 46)])
+        self.assertEqual(person.shown()[0], "row 1")
+
+    def test_ever_more(self):
+        """One key that needs many rows asks for ever more of them at once, 2,000 at most."""
+        person = self.person("x\n" * 9000 + "x")
+        person.types(b"{")
+        counts = [count for word, _, count in self.kept.asked[1:]]
+        self.assertEqual(counts, [46, 92, 184, 368, 736, 1472, MOST_ASKED, MOST_ASKED, MOST_ASKED, 80])
+        self.assertEqual(self.spot(person), (1000, 0))
+
+    def test_cut_answer(self):
+        """Where fewer rows come than were asked for the rest is asked for."""
+        person = self.person("\n".join(f"row {number}" for number in range(1, 1001)))
+        self.kept.most = 10
+        person.types(b"\x1b[5~")
+        self.assertEqual(self.kept.asked[1:], [("rows", 1931, 46), *(("rows", 1931 + 10 * cut, 46 - 10 * cut) for cut in range(1, 5))])
+        self.assertIn("row 957", person.shown())
+
+    def test_waits(self):
+        """Keys wait behind what waits for rows, in order; after half a second that is told."""
+        person = self.person("\n".join(f"row {number}" for number in range(1, 1001)))
+        self.kept.is_quick = False
+        person.types(b"\x1b[5~\x1b[5~jj0 $y")
+        self.assertEqual((self.kept.texts, len(self.kept.waiting)), ([], 1))
+        self.passes(person, WAITS)
+        self.assertEqual(person.display.told, WAITING)
+        while self.kept.waiting:
+            self.kept.answers(1)
+        self.assertEqual(self.kept.texts, [b"row 960\n"])
+        self.assertNotEqual(person.display.told, WAITING)
+
+    def test_leaves(self):
+        """C-c leaves at once while rows are awaited, whatever waits before it, and what comes then is nothing."""
+        person = self.person("\n".join(f"row {number}" for number in range(1, 1001)))
+        self.kept.is_quick = False
+        person.types(b"\x1b[5~kkk\x03")
+        self.assertFalse(person.commands.copying.is_on())
+        self.kept.answers()
+        self.assertEqual(person.types(b"x"), ["char 78"])
+        self.assertNotIn("copy waits", person.loop.due)
+
+    def test_gone(self):
+        """Where the rows aren't there any more, as where the keeper has ended, it is closed with a line."""
+        person = self.person("\n".join(f"row {number}" for number in range(1, 1001)))
+        self.kept.lends = False
+        person.types(b"\x1b[5~k")
+        self.assertEqual((person.commands.copying.is_on(), person.display.told), (False, GONE))
+
+    def test_connection_lost(self):
+        """Where the connection to the keeper is lost rows are asked for again once there is another."""
+        person = self.person("\n".join(f"row {number}" for number in range(1, 1001)))
+        self.kept.lends, self.shells.connects = False, True
+        person.types(b"gj")
+        self.passes(person, 0.3)
+        self.assertTrue(person.commands.copying.is_on())
+        self.kept.lends, self.shells.connects = True, False
+        self.passes(person, 0.3)
+        self.assertEqual((self.spot(person), person.shown()[0]), ((1001, 0), "row 1"))
+        find, self.kept.find = self.kept.find, lambda pane, life, first, back, text, told: told(None)
+        self.shells.connects = True
+        person.types(b"/row 7\r")
+        self.passes(person, 0.3)
+        self.kept.find, self.shells.connects = find, False
+        self.passes(person, 0.3)
+        self.assertEqual(self.spot(person), (1006, 0))
+        self.kept.lends, self.shells.connects = False, True
+        person.types(b"500j")
+        self.shells.connects = False
+        self.passes(person, 0.3)
+        self.assertEqual((person.commands.copying.is_on(), person.display.told), (False, GONE))
+
+    def test_full(self):
+        """No more is read while too much waits."""
+        person = self.person(opens=False)
+        self.kept.is_quick = False
+        person.types(b"\x02[" + b"k" * (MOST_WAITING - 1))
+        self.assertFalse(person.commands.is_full())
+        person.types(b"k")
+        self.assertTrue(person.commands.is_full())
+        self.kept.is_quick = True
+        self.kept.answers()
+        self.assertFalse(person.commands.is_full())
+        self.assertEqual(self.spot(person)[0], 1000)
+
+    def test_finds(self):
+        """A search asks where its text is next, behind what waits, and is done once that is told."""
+        person = self.person()
+        self.kept.is_quick = False
+        person.types(b"?row 7 of\rk")
+        self.assertEqual(self.kept.asked[-1], ("find", 1099, True, "row 7 of"))
+        while self.kept.waiting:
+            self.kept.answers(1)
+        self.assertEqual(self.spot(person), (1005, 0))
+
+
+class Keeps(Copied):
+    """What becomes of a text that is copied."""
+
+    def test_copied(self):
+        """A text is a buffer, and on the clipboard; that is told."""
+        person = self.person()
+        person.types(b"gw e\r")
+        self.assertEqual((self.kept.texts, person.display.outer.clips), ([b"1 of"], [base64.b64encode(b"1 of").decode()]))
+        self.assertEqual((person.display.told, person.commands.copying.is_on()), ("4 characters copied; C-b ] pastes", False))
+
+    def test_clipboard(self):
+        """Where ROAM_CLIPBOARD is off the clipboard isn't set."""
+        for word, count in (("off", 0), ("external", 1), ("on", 1)):
+            self.environment(ROAM_CLIPBOARD=word)
+            person = self.person()
+            person.types(b"gVj\r")
+            self.assertEqual(self.kept.texts, [b"row 1 of many, the 1th\nrow 2 of many, the 2th\n"])
+            self.assertEqual(len(person.display.outer.clips), count, word)
+            self.assertEqual(person.display.told, "2 lines copied; C-b ] pastes")
+
+    def test_not_kept(self):
+        """Where no buffer is kept the clipboard is set all the same, and that is told."""
+        person = self.person()
+        self.kept.keeps = False
+        person.types(b"g e\r")
+        self.assertEqual(person.display.told, "3 characters copied for the clipboard alone: no buffer is kept")
+        self.assertEqual(len(person.display.outer.clips), 1)
+
+    def test_all(self):
+        """All rows are copied, which are asked for as they are needed; with more than 1 MB nothing is, which is told."""
+        person = self.person("\n".join(["yes"] * 3000))
+        person.types(b"g G$\r")
+        self.assertEqual(self.kept.texts[0], b"yes\n" * 3000)
+        self.patch_of(selection, "MOST_COPIED", 4 * 3000 - 1)
+        person = self.person("\n".join(["yes"] * 3000))
+        person.types(b"g G$\r")
+        self.assertEqual((self.kept.texts, person.display.told), ([], "nothing is copied: it has more than 1 MB"))
+
+    def test_appended(self):
+        """A puts a text behind the newest buffer, which stays as it was; where there is none it is one."""
+        person = self.person()
+        person.types(b"g eA")
+        person.types(b"\x02[gw eA")
+        self.assertEqual(self.kept.texts, [b"row", b"row1 of"])
+        self.kept.texts.append(b"z" * (MOST_COPIED - 1))
+        person.types(b"\x02[g eA")
+        self.assertEqual((len(self.kept.texts), person.display.told), (3, "nothing is copied: it has more than 1 MB"))
+
+    def test_nothing(self):
+        """Where nothing is selected nothing is copied."""
+        person = self.person()
+        person.types(b"\r")
+        self.assertEqual((self.kept.texts, person.display.outer.clips, person.commands.copying.is_on()), ([], [], False))
+
+
+class Meanwhile(Copied):
+    """What happens while it is open."""
+
+    def test_paste(self):
+        """A paste ends it and is pasted; into a line that is asked for it is typed."""
+        person = self.person()
+        self.assertEqual(person.types(b"\x1b[200~ab\x1b[201~"), ["char 61", "char 62"])
+        self.assertFalse(person.commands.copying.is_on())
+        person = self.person()
+        self.assertEqual(person.types(b"?\x1b[200~the 7th\nmore\x1b[201~"), [])
+        self.assertEqual(person.display.line(), "(search up) the 7th")
+        person.types(b"\r")
+        self.assertEqual(self.spot(person), (1006, 15))
+        person.types(b"?\x1b[200~half")
+        person.tell(Places({2: Rect(1, 1, 23, 80)}, 2, 1))
+        self.assertEqual((person.types(b" of it\x1b[201~x"), person.commands.copying.is_on()), (["char 78"], False))
+
+    def test_prefix(self):
+        """Keys behind the prefix mean what they always do; the prefix twice is a key of copy mode."""
+        person = self.person()
+        self.assertEqual(person.types(b"\x02\x02"), [])
+        self.assertEqual(person.display.line(), "[21/77] copy mode")
+        for keys in (b"\x02\x1b[1;5C", b"\x1b[1;5C"):
+            person.types(keys)
+            self.assertEqual(person.display.told, "pane 1 has no border at its left or right")
+            person.display.end_told()
+        self.now += 1
+        self.assertEqual(person.types(b"\x1b[1;5A"), [])
+        self.assertTrue(person.commands.copying.is_on())
+        person.types(b"\x02d")
+        self.assertEqual(person.left, "[detached]")
+
+    def test_escapes(self):
+        """Behind an escape that came with it the prefix is a key with Meta; an escape alone is the key."""
+        self.environment(VISUAL="emacs")
+        person = self.person("a (b c) d\n" * 30)
+        person.types(b"\x1b<\x05")
+        self.assertEqual(person.types(b"\x1b\x02"), [])
+        self.assertEqual(self.spot(person), (1000, 8))
+        self.assertEqual(person.types(b"\x02\x02\x1b\x02"), [])
+        self.assertEqual(self.spot(person), (1000, 2))
+        person.types(b"\x1b")
+        self.assertTrue(person.commands.copying.is_on())
+        self.passes(person, 0.03)
+        self.assertFalse(person.commands.copying.is_on())
+
+    def test_help(self):
+        """The help stands in its place until the next key, which means nothing else; then all is drawn again."""
+        person = self.person()
+        person.types(b"g\x02?")
+        self.assertIn("copy mode", "\n".join(person.shown()))
+        self.assertEqual(person.types(b"j"), [])
+        self.settle(person)
+        self.assertEqual((self.spot(person), person.shown()[0]), ((1000, 0), "row 1 of many, the 1th"))
+
+    def test_focus(self):
+        """It goes on where somebody else puts another pane in focus, and ends where this person does."""
+        person = self.person(told=PANES)
+        person.tell(PANES._replace(focus=2))
+        self.settle(person)
+        self.assertEqual((person.types(b"gj"), self.spot(person)), ([], (1001, 0)))
+        self.assertEqual(person.types(b"\x02q3"), ["focus 3"])
+        self.assertFalse(person.commands.copying.is_on())
+        for keys in (b"\x02o", b"\x02\x1b[C", b"\x02%"):
+            person = self.person(told=PANES)
+            person.types(keys)
+            self.assertFalse(person.commands.copying.is_on(), keys)
+
+    def test_pane_ends(self):
+        """The pane's end ends it, and so does another life of its number."""
+        person = self.person(told=PANES)
+        person.tell(Places({2: Rect(1, 1, 11, 80), 3: Rect(13, 1, 11, 80)}, 2, 1))
+        self.assertFalse(person.commands.copying.is_on())
+        person = self.person(told=PANES)
+        person.panes.making = lambda pane: f"{pane} 2"
+        person.commands.told()
+        self.assertFalse(person.commands.copying.is_on())
+
+    def test_pane_resized(self):
+        """Where the pane has another size its rows are laid out for that, under another mask."""
+        person = self.person("\n".join(f"{number} {'x' * 34} {'y' * 20}" for number in range(1, 51)), PANES)
+        person.types(b"gjj")
+        self.settle(person)
+        person.tell(Places({1: Rect(1, 1, 10, 20), 2: Rect(1, 22, 23, 59)}, 1, 1))
+        self.assertEqual(self.settle(person), ["unmask", "mask 0 0 10 20"])
+        self.assertEqual(self.mode(person).view.height, 10)
+        self.assertEqual([row[:20].rstrip() for row in person.shown()[:4]], ["1 " + "x" * 18, "x" * 16 + " yy", "y" * 18, "2 " + "x" * 18])
+        self.assertEqual(person.types(b" $y"), [])
+        self.assertEqual(self.kept.texts[0].count(b"x"), 34)
+
+    def test_terminal_resized(self):
+        """A terminal of another size shows it in what is shown of the pane then; where nothing is it ends."""
+        person = self.person()
+        person.resize(10, 30)
+        said = self.settle(person)
+        self.assertEqual([line for line in said if line.startswith(("part", "mask"))][-2:], ["part 0 0 9 30", "mask 0 0 9 30"])
+        person.types(b"G")
+        self.assertEqual(person.shown()[8:], ["row 100 of many, the 100th", "[0/91] copy mode"])
+
+    def test_part(self):
+        """On a small terminal it is drawn on what is shown of the pane, and the part stays where it was."""
+        person = self.person(told=PANES._replace(focus=2), size=(12, 50), opens=False)
+        person.display.take(ToldRecord("part", (4, 30)))
+        person.types(b"\x02[")
+        self.assertEqual(person.said(), ["part 4 30 11 50", "mask 0 10 7 40"])
+        person.paints(11, 50, "z" * 50)
+        shown = person.shown()
+        self.assertEqual(shown[6], "z" * 10 + "row 100 of many, the 100th")
+        self.assertEqual(shown[7], "z" * 50)
+        person.display.take(ToldRecord("part", (20, 0)))
+        self.assertEqual((person.commands.copying.is_on(), person.display.told), (False, NO_ROOM))
+
+    def test_start_lost(self):
+        """Another connection to a start is told of the mask, and the part is the same."""
+        person = self.person(told=PANES._replace(focus=2), size=(12, 50), opens=False)
+        person.display.take(ToldRecord("part", (4, 30)))
+        person.types(b"\x02[")
+        person.paints(11, 50)
+        person.said()
+        person.display.begin()
+        person.commands.show_known()
+        self.assertEqual(sorted(set(person.said())), ["mask 0 10 7 40", "part 4 30 11 50"])
+        person.paints(11, 50)
+        self.assertIn("row 100 of many, the 100th", person.shown()[6])
+
+    def test_paused(self):
+        """While there is no connection C-c and q leave, as without it."""
+        person = self.person()
+        person.commands.paused = True
+        person.types(b"q")
+        self.assertEqual(person.left, "[left]")
+
+    def test_whole(self):
+        """Where the session is shown whole, with its own status row, the line stands over that."""
+        person = self.person(is_whole=True, opens=False)
+        person.paints(24, 80)
+        person.types(b"\x02[")
+        self.assertEqual(person.said(), ["mask 0 0 23 80"])
+        person.paints(24, 80, "session")
+        self.assertEqual(person.shown()[22:], ["row 100 of many, the 100th", "[0/77] copy mode"])
+        person.types(b"q")
+        self.assertEqual(person.said()[0], "unmask")
+        person.paints(24, 80, "session")
+        self.assertEqual(person.shown()[22:], ["session", "session"])
+
+
+class Pointed(Copied):
+    """The mouse, where roam has it."""
+
+    def person(self, *words, **more):
+        """A person who has switched the mouse on."""
+        person = super().person(*words, **more)
+        person.commands.pointing.is_on = True
+        return person
+
+    def points(self, person, *reports):
+        """Points; tells the acts."""
+        before = len(person.link.lines)
+        for one in reports:
+            person.commands.fed(report(*one))
+        return [line for line in person.link.lines[before:] if line.startswith("focus")]
+
+    def test_wheel(self):
+        """The first notch of the wheel opens it three rows up, each further one scrolls, and going past the last row closes it."""
+        person = self.person(opens=False)
+        self.assertEqual(self.points(person, (64, 5, 5)), [])
+        self.settle(person)
+        self.assertEqual(person.display.line(), "[3/77] copy mode")
+        self.points(person, (64, 5, 5), (64, 5, 5), (65, 5, 5))
+        self.assertEqual(person.display.line(), "[6/77] copy mode")
+        self.points(person, (65, 5, 5), (65, 5, 5))
+        self.assertFalse(person.commands.copying.is_on())
+        person.types(b"\x02[")
+        self.points(person, (64, 5, 5), (65, 5, 5))
+        self.assertTrue(person.commands.copying.is_on())
+        self.points(person, (65, 5, 5))
+        self.assertFalse(person.commands.copying.is_on())
+
+    def test_wheel_selected(self):
+        """While something is selected the wheel doesn't close it."""
+        person = self.person(opens=False)
+        self.points(person, (64, 5, 5))
+        self.settle(person)
+        person.types(b" ")
+        self.points(person, *[(65, 5, 5)] * 5)
+        self.assertTrue(person.commands.copying.is_on())
+
+    def test_wheel_elsewhere(self):
+        """Over another pane it opens there, and puts that in focus."""
+        person = self.person(told=PANES, opens=False)
+        self.assertEqual(self.points(person, (64, 5, 50)), ["focus 2"])
+        self.assertEqual((person.commands.copying.pane, person.said()), (2, ["part 0 0 23 80", "mask 0 40 11 40", "focus 2"]))
+
+    def test_wheel_not_lent(self):
+        """Where no rows are lent the wheel scrolls the view that all share, each notch that came meanwhile too."""
+        person = self.person(opens=False)
+        self.kept.is_quick, self.kept.lends = False, False
+        self.points(person, (64, 5, 5), (64, 5, 5))
+        self.kept.answers()
+        self.assertEqual(person.display.told.split(":")[0], "6 rows back")
+
+    def test_drag(self):
+        """What is dragged over is selected, copied as the button is let go, and that leaves."""
+        person = self.person(opens=False)
+        self.assertEqual(self.points(person, (0, 23, 5), (32, 23, 6)), [])
+        self.settle(person)
+        self.points(person, (32, 23, 8), (0, 23, 11, True))
+        self.assertEqual((self.kept.texts, person.commands.copying.is_on()), ([b"100 of "], False))
+
+    def test_drag_out(self):
+        """What is dragged above the pane has rows shown, one more each twentieth of a second, until it is let go."""
+        person = self.person(told=PANES._replace(focus=3), opens=False)
+        self.points(person, (0, 15, 45), (32, 15, 46))
+        self.settle(person)
+        self.points(person, (32, 5, 45))
+        for _ in range(5):
+            self.passes(person, 0.05)
+        self.assertEqual(self.mode(person).view.back()[0], 6)
+        self.points(person, (32, 14, 45))
+        self.passes(person, 1.0)
+        self.assertEqual(self.mode(person).view.back()[0], 6)
+        self.points(person, (32, 1, 45), (0, 1, 45, True))
+        self.assertEqual(self.kept.texts[0].count(b"\n"), 9)
+        self.assertNotIn("copy drag", person.loop.due)
+
+    def test_clicks(self):
+        """A double click copies a word a moment later, and a triple one a line."""
+        for count, text in ((2, b"many"), (3, b"row 100 of many, the 100th\n")):
+            person = self.person(opens=False)
+            for _ in range(count):
+                self.points(person, (0, 23, 14), (0, 23, 14, True))
+                self.settle(person)
+                self.passes(person, 0.1)
+            self.assertEqual(self.kept.texts, [])
+            self.passes(person, 0.3)
+            self.assertEqual((self.kept.texts, person.commands.copying.is_on()), ([text], False))
+        person = self.person(opens=False)
+        for _ in range(3):
+            self.points(person, (0, 23, 14), (0, 23, 14, True))
+            self.passes(person, 0.4)
+        self.assertEqual((self.kept.texts, person.commands.copying.is_on()), ([], False))
+
+    def test_click(self):
+        """A click puts the cursor there; one in another pane puts that in focus, which ends it."""
+        person = self.person(told=PANES)
+        self.points(person, (0, 3, 6), (0, 3, 6, True))
+        self.assertEqual(self.spot(person), (1079, 5))
+        self.assertEqual(self.points(person, (0, 3, 50)), ["focus 2"])
+        self.assertFalse(person.commands.copying.is_on())
+
+    def test_program(self):
+        """A program that has the mouse is sent reports, but not while copy mode is over its pane."""
+        person = self.person(told=PANES, opens=False)
+        person.panes.modes_of = {1: "motion sgr", 2: "motion sgr"}
+        self.assertEqual(len(self.points(person, (64, 3, 6), (0, 3, 6), (32, 3, 7), (0, 3, 7, True))), 4)
+        person.types(b"\x02[")
+        self.settle(person)
+        self.assertEqual(self.points(person, (64, 3, 6)), [])
+        self.assertEqual(person.display.line(), "[3/77] copy mode")
+
+
+class Chosen(Copied):
+    """Buffers that are pasted."""
+
+    def test_newest(self):
+        """C-b ] pastes the newest buffer, by a mark; where none is that is told."""
+        person = self.person(opens=False)
+        person.types(b"\x02]")
+        self.assertEqual((self.shells.gave, person.display.told), ([], "no buffer is kept"))
+        self.kept.texts = [b"one", b"two"]
+        person.types(b"\x02]x")
+        (name, number), = self.shells.gave
+        self.assertEqual(number, 1)
+        person.said()
+        person.commands.pastes.answered(name, "held", "")
+        self.assertEqual((person.said(), person.link.acts[-1]), ([" ; ".join(["paste", *mark_acts(name)])], "char 78"))
+
+    def test_cut(self):
+        """Where the connection is cut as it is asked for it is asked for again, while that may be there soon; else it says so."""
+        person = self.person(opens=False)
+        self.kept.texts = [b"one"]
+        self.shells.connects = True
+        with mock.patch.object(self.kept, "buffers", lambda told: told(None)):
+            person.types(b"\x02]")
+            self.pass_time(0.1)
+            person.loop.do_due()
+        self.assertEqual((self.shells.gave, person.display.told), ([], ""))
+        self.pass_time(0.1)
+        person.loop.do_due()
+        self.assertEqual([number for _, number in self.shells.gave], [0])
+        with mock.patch.object(self.kept, "buffers", lambda told: told(None)):
+            person.types(b"\x02]")
+            self.shells.connects = False
+            self.pass_time(0.1)
+            person.loop.do_due()
+        self.assertEqual((len(self.shells.gave), person.display.told), (1, choose_list.UNTOLD))
+
+    def test_refused(self):
+        """What is refused, or not taken, is told, and what waits behind it is dropped."""
+        for word, more, told in (("refused", "it isn't kept", "nothing is pasted: it isn't kept"),
+                                 ("untold", "", "nothing is pasted: what keeps the shells takes nothing")):
+            person = self.person(opens=False)
+            self.kept.texts = [b"one"]
+            person.types(b"\x02]x")
+            person.commands.pastes.answered(self.shells.gave[0][0], word, more)
+            self.assertEqual((person.display.told, person.link.acts), (f"{told}; what was typed behind it is dropped", []))
+
+    def test_ends_copy_mode(self):
+        """A paste of a buffer ends copy mode."""
+        person = self.person()
+        self.kept.texts = [b"one"]
+        person.types(b"\x02]")
+        self.assertEqual((person.commands.copying.is_on(), len(self.shells.gave)), (False, 1))
+
+    def test_watches(self):
+        """Who only watches pastes nothing."""
+        person = self.person(watches=True, opens=False)
+        self.kept.texts = [b"one"]
+        person.types(b"\x02]\x02=")
+        self.assertEqual((self.shells.gave, person.commands.choosing.is_on()), ([], False))
+
+    def test_read(self):
+        """Lines that are only read scroll, until q, Return or the prefix; in the midst of something else they aren't shown."""
+        person, lines = self.person(opens=False), [f"row {number}" for number in range(60)]
+        for ends, acts in ((b"q", []), (b"\r", []), (b"\x1b", []), (b"\x02o", ["next"])):
+            self.assertTrue(person.commands.listing.begin(lines))
+            self.settle(person)
+            self.assertEqual((person.shown()[:2], person.shown()[23]),
+                             (["row 0", "row 1"], "line 1 of 60: up, down, PgUp and PgDn scroll, q leaves"))
+            self.assertEqual(person.types(b"G"), [])
+            self.assertEqual((person.shown()[22], person.shown()[23][:13]), ("row 59", "line 60 of 60"))
+            self.assertEqual(person.types(b"\x1b[5~"), [])
+            self.assertEqual(person.shown()[23][:13], "line 50 of 60")
+            self.assertEqual((person.types(ends), person.commands.typed(person.commands.keys.ended())), (acts, None))
+            self.settle(person)
+            self.assertFalse(person.commands.listing.is_on())
+        person.types(b"\x02")
+        self.assertFalse(person.commands.listing.begin(lines))
+
+    def test_list(self):
+        """C-b = lists the buffers over the pane, the newest first; the one that is chosen is pasted."""
+        person = self.person(opens=False)
+        self.kept.texts = [b"first", "\u6f22 \x1b[31m".encode(), b"third"]
+        person.types(b"\x02=")
+        self.settle(person)
+        self.assertEqual(person.shown()[:4], ["2: 5 bytes: third", "1: 9 bytes: \u6f22 ?[31m", "0: 5 bytes: first", ""])
+        self.assertEqual(person.shown()[23], "buffer 2 of 3: Return pastes it, up and down choose, q leaves")
+        for keys, number in ((b"j", 1), (b"k", 2), (b"k", 2), (b"\x1b[B", 1), (b"\x1b[A", 2), (b"G", 0), (b"j", 0), (b"g", 2), (b"j", 1)):
+            self.assertEqual(person.types(keys), [])
+            self.assertTrue(person.display.line().startswith(f"buffer {number} of 3"), keys)
+        self.assertEqual(person.types(b"\r"), [])
+        self.assertEqual((self.shells.gave[0][1], person.commands.choosing.is_on()), (1, False))
+        self.assertEqual(self.settle(person), ["unmask", "part 23 80"])
+        person.commands.pastes.answered(self.shells.gave[0][0], "held", "")
+        person.types(b"\x02=")
+        self.settle(person)
+        self.assertEqual(person.types(b"Gkkkq"), [])
+        self.assertFalse(person.commands.choosing.is_on())
+        self.assertEqual(person.types(b"x"), ["char 78"])
+
+    def test_list_ends(self):
+        """The list ends with its pane, another focus of this person, a paste, and where copy mode is opened; with another size it stays."""
+        for ends in (lambda person: person.tell(Places({2: Rect(1, 1, 23, 80)}, 2, 1)), lambda person: person.types(b"\x02q2"),
+                     lambda person: person.types(b"\x1b[200~x\x1b[201~"), lambda person: person.types(b"\x02[")):
+            person = self.person(told=PANES, opens=False)
+            self.kept.texts = [b"one"]
+            person.types(b"\x02=")
+            self.settle(person)
+            self.assertTrue(person.commands.choosing.is_on())
+            ends(person)
+            self.assertFalse(person.commands.choosing.is_on())
+        person = self.person(told=PANES, opens=False)
+        self.kept.texts = [b"one"]
+        person.types(b"\x02=")
+        self.settle(person)
+        person.tell(Places({1: Rect(1, 1, 10, 20), 2: Rect(1, 22, 23, 59)}, 1, 1))
+        self.assertEqual((self.settle(person), person.shown()[0][:20].rstrip()), (["unmask", "mask 0 0 10 20"], "0: 3 bytes: one"))
+
+    def test_late_list(self):
+        """A list that comes after the person went on isn't opened."""
+        person = self.person(opens=False)
+        self.kept.texts, self.kept.is_quick = [b"one"], False
+        person.types(b"\x02=")
+        person.types(b"\x02]")
+        self.kept.answers()
+        self.assertEqual((person.commands.choosing.is_on(), len(self.shells.gave)), (False, 1))

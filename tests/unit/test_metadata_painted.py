@@ -1,0 +1,115 @@
+"""Whatever is told of what stands beside panes' terminals, a person's terminal is written nothing of it but a title that is printable, a
+shape of the cursor, a text for the clipboard, the modes that it is asked for, a bell, how the keypad is, and the last row."""
+import base64
+import itertools
+import random
+import re
+
+from roam_live.frontend import app
+from roam_live.frontend.app import FrontEnd
+from roam_live.protocol.panes_client import PanesFollower
+from aids import StillLoop, closed, read_now, record
+from control_strings import controls, pieces
+from test_app import Fronts
+
+# What may be written, by name. In each the text of a group has to be printable.
+FORMS = {
+    "last row": r"\x1b7\x1b\[\?7l\x1b\[2[34];1H\x1b\[0;7m([^\x1b]{1,80})\x1b\[0m\x1b\[\?7h\x1b8", "title kept": r"\x1b\[22;2t",
+    "title back": r"\x1b\[23;2t", "title": r"\x1b\]2;([^\x07\x1b]{0,200})\x07", "shape": r"\x1b\[[0-6] q",
+    "clip": r"\x1b\]52;c;((?:[A-Za-z0-9+/]{4})*(?:[A-Za-z0-9+/]{2}==|[A-Za-z0-9+/]{3}=)?)\x07",
+    "reports": r"\x1b\[\?1003l\x1b\[\?1002l\x1b\[\?1000l\x1b\[\?1006l(?:\x1b\[\?100[23]h\x1b\[\?1006h)?",
+    "bell": r"\x07", "keypad": r"\x1b[=>]",
+}
+ANY = re.compile("|".join(f"(?P<n{number}>{form})" for number, form in enumerate(FORMS.values())))
+
+# What is told in a run is made by chance from its number; one that ever failed is kept.
+SEEDS = range(30)
+
+
+def pane_lines(chance):
+    """Lines by which panes 1 and 2, or one of them, are where they may be, in one life or another."""
+    life = chance.randint(1, 2)
+    lines = (f"1 1 1 23 39 {life}\n2 1 41 23 40 1\n", f"1 1 1 23 80 {life}\n2 gone\nfocus 1\n", f"focus {chance.randint(1, 3)}\n",
+             f"starts {chance.randint(1, 70)} of 64\n", f"3 1 1 {chance.randint(1, 9999)} 9 1\n", "3 gone\n")
+    return chance.choice(lines).encode()
+
+
+def beside_line(chance):
+    """A line of what stands beside a pane's terminal, as it has to be or not."""
+    hostile, place = controls(chance), f"{chance.randint(1, 2)} {chance.randint(1, 2)} ".encode()
+    modes = chance.sample(("buttons", "drags", "motion", "sgr", "paste", "other", "focus", "keys1"), chance.randint(0, 4))
+    encoded = base64.b64encode(hostile)
+    return chance.choice((
+        b"title " + place + hostile.hex().encode(), b"title " + place + hostile.hex().encode(), b"title " + place + hostile,
+        b"shape " + place + str(chance.randint(0, 9)).encode(), b"shape " + place + hostile,
+        (b"modes " + place + " ".join(modes).encode()).rstrip(), b"modes " + place + hostile, b"clip " + place + encoded,
+        b"clip " + place + encoded, b"clip " + place + hostile, b"clip " + place + encoded[:-1], b"bell " + place.rstrip(),
+        b"bell " + hostile, hostile, b"bad line", b"bad line" + hostile)) + b"\n"
+
+
+def bell_line(chance):
+    """A line of the socket `bells`, as it has to be or not."""
+    hostile, pane = controls(chance), str(chance.randint(1, 2)).encode()
+    return chance.choice((b"bell " + pane, b"keypad " + pane + b" application", b"keypad " + pane + b" numeric", b"say it is well",
+                          b"say " + hostile, b"bell " + hostile, b"keypad " + pane + hostile, hostile)) + b"\n"
+
+
+class Written(Fronts):
+    """A front end that is told all of that."""
+
+    def setUp(self):
+        self.environment(TERM="xterm")
+        super().setUp()
+        self.patch_of(app, "PanesFollower", PanesFollower)
+        self.tells = {name: self.listening(self.place.folder / name) for name in ("panes", "bells")}
+
+    def begin(self):
+        """A front end that sets the clipboard, at sockets at which panes and bells are told."""
+        self.front = FrontEnd(self.place, False, "C-b", "adaptive", lambda places: False, StillLoop(), has_clips=True)
+        self.addCleanup(lambda outer=self.front.display.outer: closed(outer.end))
+        self.addCleanup(self.front.link.close)
+        self.connect()
+        ends = [self.taken(self.tells[name]) for name in ("panes", "bells")]
+        ends[0].send(b"1 1 1 23 39 1\n2 1 41 23 40 1\nfocus 1\nstarts 1 of 64\nwatchers 0 of 16\n")
+        self.paints()
+        return ends
+
+    def forms(self, text):
+        """The names of the forms of which a text is made; what is none, or has a text that isn't printable, fails."""
+        found, place = set(), 0
+        while place < len(text):
+            form = ANY.match(text, place)
+            self.assertIsNotNone(form, text[max(0, place - 20) : place + 60])
+            inner = next((group for group in form.groups()[1:] if group is not None and group != form[0]), "")
+            self.assertTrue(inner.isprintable(), form[0])
+            found.add(list(FORMS)[int(form.lastgroup[1:])])
+            place = form.end()
+        return found
+
+    def run_one(self, seed):
+        """A run by chance, and the names of the forms that were written in it."""
+        chance = random.Random(seed)
+        panes, bells = self.begin()
+        self.turn(4)
+        self.assertTrue(self.shown().endswith(b"\x1b8"))
+        shown = bytearray()
+        for _ in range(40):
+            panes.send(pane_lines(chance) if chance.random() < 0.2 else b"")
+            for end, line in ((panes, beside_line(chance)), (bells, bell_line(chance))):
+                for piece in pieces(chance, line):
+                    end.send(piece)
+                    self.front.turn()
+                    shown += read_now(self.master)
+            if chance.random() < 0.3:
+                self.start.send(record("silent", chance.randint(10, 99)) + record("heard"))
+                self.type(chance.choice((b"x", b"\x02q1", b"\x02q2", b"\x1b[<0;3;3M")))
+            self.now += 0.5
+            self.turn(1)
+        shown += self.shown()
+        self.front.leave("[left]")
+        return self.forms(shown.decode("utf-8"))
+
+    def test_forms(self):
+        """Nothing but these forms comes to the terminal, and each of them does."""
+        found = set(itertools.chain.from_iterable(self.run_one(seed) for seed in SEEDS))
+        self.assertEqual(set(FORMS) - found, set())

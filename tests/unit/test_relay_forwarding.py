@@ -1,0 +1,225 @@
+"""Both ends of a relay, one beside the other, and what they carry of the sockets of a session's folder: over a command, and over a path."""
+import os
+import socket
+import unittest
+
+from aids import StillLoop, ended, read_now
+from roam_live.relay import far, near, path_setup
+from roam_live.relay.frames import RelayStream
+from test_relay import FakeLink
+from test_transport_switch import KEY, Both
+
+LINES = b"1 1 1 23 80 1\nfocus 1\nstarts 1 of 64\nwatchers 0 of 16\n"
+
+
+class Joined(Both):
+    """A near and a far end, joined by pipes that stand for a command, and where UDP is wanted by ports of loopback."""
+
+    udp = "never"
+
+    def setUp(self):
+        super().setUp()
+        self.environment(ROAM_UDP=self.udp)
+        self.printed()
+        self.family = self.end().family
+        self.here, self.there = self.folder, self.made_folder()
+        self.listeners = {name: self.listening(self.there / name) for name in ("panes", "bells", "clients")}
+        self.served = {"panes": [], "bells": []}
+        self.patch_of(near, "RunningCommand", side_effect=self.new_link)
+        self.patch_of(path_setup, "random_key", return_value=KEY)
+        self.patch_of(path_setup.Finder, "look", lambda _, path: setattr(path, "places", [self.place(path.port)]))
+        self.patch_of(far.os, "set_blocking")
+        self.patch_of(far, "close_standard")
+        self.patch_of(far, "part_from_command", side_effect=self.part)
+        self.links, self.fars, self.stuck = [], [], set()
+        self.near = near.Near(self.asked(), self.wakeup, StillLoop())
+        self.addCleanup(self.leave)
+
+    def leave(self):
+        """Ends both."""
+        self.patch_of(near, "finish")
+        self.near.close()
+        for one in self.fars:
+            one.close()
+
+    def part(self, signals):
+        """What would let the command go, in this very process."""
+        letting_go, held = os.pipe()
+        self.addCleanup(os.close, letting_go)
+        return held
+
+    def new_link(self, command, session, may_ask):
+        """A command that is spawned, with a far end."""
+        link = FakeLink(self, session)
+        self.patch_of(far, "RelayStream", side_effect=lambda _, __, own: RelayStream(link.other.end, link.said, own))
+        one = far.Far(self.asked(far=True, command=[], dir=str(self.there), session="5e55"), self.wakeup, StillLoop())
+        for number, end in ((0, link.other.end), (1, link.said)):
+            known = one.loop.sources[number]
+            one.loop.remove(number)
+            one.loop.add(end, known.reads, known.writes, hears=known.hears, has_more=known.has_more)
+        self.links.append(link)
+        self.fars.append(one)
+        return link
+
+    def run_for(self, seconds=0.3):
+        """Lets so many seconds pass, in small steps; the servers take who comes."""
+        end = self.now + seconds
+        while self.now < end:
+            self.now += 0.05
+            for _ in range(2):
+                self.near.turn()
+                for one in self.fars:
+                    if one not in self.stuck:
+                        one.turn()
+            for name, held in self.served.items():
+                while True:
+                    try:
+                        held.append(self.taken(self.listeners[name]))
+                    except BlockingIOError:
+                        break
+                    if name == "panes":
+                        held[-1].send(LINES)
+
+    def connect(self, name="panes"):
+        """One who connects in the near folder; None where nothing is there."""
+        one = socket.socket(socket.AF_UNIX, socket.SOCK_STREAM)
+        self.addCleanup(one.close)
+        try:
+            one.connect(str(self.here / name))
+        except FileNotFoundError:
+            return None
+        one.setblocking(False)
+        return one
+
+
+class ByCommand(Joined):
+    """Over the command alone."""
+
+    def test_told(self):
+        """The panes are told here as there, and so are bells; many who follow here are one there."""
+        self.run_for(0.5)
+        held = [self.connect() for _ in range(3)]
+        self.run_for()
+        self.assertEqual(([read_now(one) for one in held], len(self.served["panes"])), ([LINES] * 3, 1))
+        bells = self.connect("bells")
+        self.run_for()
+        self.served["bells"][0].send(b"bell 3\nsay words\n")
+        self.served["panes"][0].send(b"2 1 41 23 39 1\nfocus 2\n")
+        self.run_for()
+        self.assertEqual((read_now(bells), read_now(held[2])), (b"bell 3\nsay words\n", b"2 1 41 23 39 1\nfocus 2\n"))
+        self.assertIsNotNone(self.connect("shells"))
+
+    def test_cut(self):
+        """Where the command ends all of it ends, and is told anew once another is there."""
+        self.run_for(0.5)
+        panes, bells = self.connect(), self.connect("bells")
+        self.run_for()
+        self.assertEqual(read_now(panes), LINES)
+        self.fars.pop().close()
+        ended(self.links[0].said)
+        self.run_for()
+        self.assertEqual((panes.recv(1), bells.recv(1)), (b"", b""))
+        self.run_for(2)
+        self.assertEqual(len(self.links), 2)
+        again = self.connect()
+        self.run_for(1)
+        self.assertEqual((read_now(again), len(self.served["panes"])), (LINES, 2))
+
+    def test_server_gone(self):
+        """Where the server there lets go they are let go here, and where it tells again it is told here."""
+        self.run_for(0.5)
+        panes = self.connect()
+        self.run_for()
+        self.served["panes"][0].close()
+        self.run_for(0.1)
+        self.assertEqual((read_now(panes), panes.recv(1)), (LINES, b""))
+        again = self.connect()
+        self.run_for(0.5)
+        self.assertEqual(read_now(again), LINES)
+
+    def test_much(self):
+        """What is large comes whole beside datagrams, and 65,536 bytes wait at most."""
+        self.run_for(0.5)
+        bells = self.connect("bells")
+        self.run_for()
+        wanted, sent, got = os.urandom(300_000), 0, b""
+        while len(got) < len(wanted):
+            try:
+                sent += self.served["bells"][0].send(wanted[sent : sent + 20000]) if sent < len(wanted) else 0
+            except BlockingIOError:
+                pass
+            self.run_for(0.05)
+            got += read_now(bells)
+        self.assertEqual(got, wanted)
+        self.assertIs(self.near.link, self.links[0])
+
+
+class ByPath(Joined):
+    """Over a path, where that is sound."""
+
+    udp = None
+
+    def sound(self):
+        """Has the path be sound."""
+        self.run_for(4)
+        self.assertTrue(self.near.ways.is_sound() and self.fars[0].ways.is_sound())
+
+    def test_changes(self):
+        """Once the path is sound they end and begin anew over it; once it is silent they do so over the command."""
+        self.run_for(0.1)
+        self.sound()
+        self.assertEqual(len(self.served["panes"]), 2)
+        panes, bells = self.connect(), self.connect("bells")
+        self.run_for()
+        self.assertEqual((read_now(panes), len(self.served["panes"])), (LINES, 2))
+        self.assertIs(self.near.carrying(), self.near.ways.path.streams)
+        self.assertEqual((self.links[0].stream.streams.all, self.fars[0].stream.streams.all), ({}, {}))
+        self.served["bells"][0].send(b"bell 1\n")
+        self.served["panes"][1].send(b"focus 1\n" * 3)
+        self.run_for()
+        self.assertEqual((read_now(bells), read_now(panes)), (b"bell 1\n", b"focus 1\n" * 3))
+        # Nothing goes by UDP any more; the command is there still.
+        blocked = self.patch_of(self.near.ways.path.seal, "counter_of", lambda packet: 0)
+        self.patch_of(self.fars[0].ways.path.seal, "counter_of", lambda packet: 0)
+        self.run_for(12)
+        self.assertEqual((panes.recv(1), bells.recv(1)), (b"", b""))
+        again = self.connect()
+        self.run_for(2)
+        self.assertIs(self.near.carrying(), self.links[0].stream.streams)
+        self.assertEqual(read_now(again), LINES)
+        self.assertTrue(blocked)
+
+    def test_alone(self):
+        """Where the command has ended they go on over the path, as if nothing were."""
+        self.sound()
+        panes = self.connect()
+        self.run_for()
+        self.assertEqual(read_now(panes), LINES)
+        ended(self.links[0].said)
+        self.links[0].hang_up()
+        ended(self.links[0].target)
+        self.run_for(5)
+        self.served["panes"][-1].send(b"2 1 41 23 39 1\n")
+        self.run_for()
+        self.assertEqual((read_now(panes), self.near.link), (b"2 1 41 23 39 1\n", None))
+
+    def test_much(self):
+        """What is large comes whole over a path, both ways."""
+        self.sound()
+        one = self.connect("bells")
+        self.run_for()
+        server = self.served["bells"][0]
+        for writer, reader in ((server, one), (one, server)):
+            wanted, sent, got = os.urandom(200_000), 0, b""
+            while len(got) < len(wanted):
+                try:
+                    sent += writer.send(wanted[sent : sent + 20000]) if sent < len(wanted) else 0
+                except BlockingIOError:
+                    pass
+                self.run_for(0.05)
+                got += read_now(reader)
+            self.assertEqual(got, wanted)
+
+
+if __name__ == "__main__":
+    unittest.main()

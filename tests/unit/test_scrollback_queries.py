@@ -1,0 +1,339 @@
+"""What the keeper's socket `shells` answers of kept rows, and of buffers."""
+import socket
+from unittest import mock
+
+from aids import read_now
+from filtered import played
+from roam_live.host import scrollback, socket_server
+from roam_live.host.paste_buffers import (EMPTY, MOST_BUFFER, MOST_BUFFERS, MOST_COMING, TOO_LONG, TOO_MUCH, UNKNOWN, WATCHES, Buffers,
+                                          sample)
+from roam_live.host.scrollback import SCREEN_WAIT, RowKeeper
+from roam_live.host.socket_server import MOST_WAITING, UNREAD, CommonShells, ShellsSocket
+from test_socket_server import NAMED, Sockets
+
+NAME = "00112233445566aa"
+
+
+class Rows(Sockets):
+    """The socket, with the rows of a pane whose filter is played by hand."""
+
+    def setUp(self):
+        super().setUp()
+        self.socket.close()
+        self.fake = played(self)[0]
+        with mock.patch.object(scrollback, "program", lambda: "/roam"):
+            self.keeper = RowKeeper(self.loop, self.fail, 100)
+        self.addCleanup(self.keeper.close)
+        self.socket = ShellsSocket(self.folder, self.loop, lambda: None, CommonShells(self.loop, self.keeper))
+        self.socket.common.name = NAMED
+        self.addCleanup(self.socket.close)
+        self.keeper.begin(1, 5, (23, 80))
+        self.keeper.feed(1, b"a")
+        self.prints(b"rows 0 3 15\n Alpha\n+be\n ta\n")
+
+    def prints(self, data):
+        """Has the filter print."""
+        self.fake.prints(data)
+        self.loop.turns(3)
+        return self.fake.taken()
+
+    def asked(self, one, *lines):
+        """What one is told who says these lines."""
+        self.say(one, "".join(f"{line}\n" for line in lines).encode())
+        return read_now(one)
+
+
+class Asked(Rows):
+    """Rows."""
+
+    def test_live(self):
+        """What is kept now."""
+        one = self.connect()
+        self.assertEqual(self.asked(one, "count 1 5", "rows 1 5 0 2", "rows 1 5 2 9", "rows 1 5 7 1", "find 1 5 2 back al",
+                                    "find 1 5 0 on bet"),
+                         b"count 1 5 0 3\nrows 1 5 0 2 11\n Alpha\n+be\nrows 1 5 2 1 4\n ta\nrows 1 5 3 0 0\nfound 1 5 0\nfound 1 5 1\n")
+        self.assertEqual(self.asked(one, "count 1 4", "rows 2 5 0 1", "find 9 5 0 on a", "find 1 5 0 on x  y", "snapshot 1 6"),
+                         b"count 1 4 none\nrows 2 5 none\nfound 9 5 none\nfound 1 5 none\nsnapshot 1 6 none\n")
+        self.prints(b"cleared 0\nrows 0 1 3\n c\n")
+        self.assertEqual(self.asked(one, "count 1 5", "rows 1 5 0 9"), b"count 1 5 3 4\nrows 1 5 3 1 3\n c\n")
+
+    def test_bad(self):
+        """Other lines are told to be bad."""
+        one = self.connect()
+        lines = ("count", "count 1", "count 1 5 6", "count 0 5", "count 10 5", "count x 5", "rows 1 5 0", "rows 1 5 -1 2", "rows 1 5 0 x",
+                 "find 1 5 0 up a", "find 1 5 0 on", "find 1 5 0 on ", "find 1 5 a on b", "snapshot 1", "release", "log 1 5",
+                 "count 1 " + "9" * 16, "count  1 5", "buffer", "buffer add", "buffer add x", "buffer add 9999999999", "buffer show",
+                 f"give {NAME} buffer", f"give {NAME} buffer x", "rows 1 5 \u0661 1", "counts 1 5")
+        for line in lines:
+            self.assertEqual(self.asked(one, line), b"bad line\n", line)
+
+    def test_cut(self):
+        """Questions come in any pieces."""
+        text = b"count 1 5\nrows 1 5 0 2\nbuffer add 3\na\nbfind 1 5 0 on be\nbuffer list\n"
+        for cut in range(len(text)):
+            self.socket.buffers = Buffers()
+            one = self.connect(text[:cut])
+            self.say(one, text[cut:])
+            self.loop.turns(2)
+            self.assertEqual(read_now(one), b"count 1 5 0 3\nrows 1 5 0 2 11\n Alpha\n+be\nbuffer add 1 3\nfound 1 5 1\n"
+                             b"buffers 1\n1 3 a\\nb\n")
+            one.close()
+            self.loop.turns(2)
+
+    def test_snapshot(self):
+        """A moment's rows and screen, from which all is answered while it is held; what was asked behind it waits for it."""
+        one, other = self.connect(), self.connect()
+        self.assertEqual(self.asked(one, "snapshot 1 5", "count 1 5", "rows 1 5 2 9"), b"")
+        self.assertEqual(self.asked(other, "count 1 5"), b"count 1 5 0 3\n")
+        self.assertEqual(self.prints(b"rows 0 1 3\n c\nscreen 0 2 6\n s\n t\n"), b"screen 0\n")
+        self.assertEqual(read_now(one), b"snapshot 1 5 0 4 2 6\n s\n t\ncount 1 5 0 6\nrows 1 5 2 4 13\n ta\n c\n s\n t\n")
+        self.prints(b"cleared 0\nrows 0 2 6\n d\n e\n")
+        self.assertEqual(read_now(one), b"more 1 5 2\n")
+        self.assertEqual(self.asked(one, "count 1 5", "find 1 5 9 back t", "find 1 5 0 on e"), b"count 1 5 0 6\nfound 1 5 5\nfound 1 5 1\n")
+        self.assertEqual(self.asked(other, "count 1 5"), b"count 1 5 4 6\n")
+        self.assertEqual(self.asked(one, "release 2 5", "count 1 5", "release 1 5", "count 1 5"), b"count 1 5 0 6\ncount 1 5 4 6\n")
+        self.assertEqual(self.keeper.room.held, 0)
+        self.say(one, b"snapshot 1 5\n")
+        self.prints(b"screen 0 1 3\n u\n")
+        self.assertEqual(len(self.keeper.room.snapshots), 1)
+        self.say(one, b"snapshot 1 5\n")
+        self.assertEqual(len(self.keeper.room.snapshots), 0)
+        one.close()
+        self.loop.turns(2)
+        self.prints(b"screen 0 1 3\n u\n")
+        self.assertEqual((len(self.keeper.room.snapshots), self.keeper.room.held), (0, 0))
+        one = self.connect(b"snapshot 1 5\n")
+        self.socket.drop(self.socket.peers[-1])
+        self.prints(b"screen 0 1 3\n u\n")
+        self.assertEqual((len(self.keeper.room.snapshots), self.keeper.room.held), (0, 0))
+
+    def test_silent(self):
+        """A filter that tells no screen is waited for a while; so is what was asked behind that."""
+        one = self.connect(b"snapshot 1 5\ncount 1 5\n")
+        self.assertEqual(read_now(one), b"")
+        self.now += SCREEN_WAIT
+        self.loop.turns(3)
+        self.assertEqual(read_now(one), b"snapshot 1 5 none\ncount 1 5 0 3\n")
+
+    def test_many(self):
+        """Many lines at once, which can't be answered but by none."""
+        one = self.connect(b"snapshot 2 9\n" * 2000)
+        self.loop.turns(5)
+        self.assertEqual(read_now(one).count(b"snapshot 2 9 none\n"), 2000)
+
+    def test_more(self):
+        """How many rows came is told twice a second at most, and where it is another number."""
+        one = self.connect(b"snapshot 1 5\n")
+        self.prints(b"screen 0 1 3\n u\n")
+        read_now(one)
+        told = []
+        for _ in range(8):
+            self.now += 0.125
+            self.prints(b"rows 0 1 3\n c\n")
+            told.append(read_now(one))
+        self.assertEqual([line for line in told if line], [b"more 1 5 1\n", b"more 1 5 5\n"])
+        self.assertEqual(self.loop.waited, 0.125)
+        self.now += 1
+        self.loop.turns(3)
+        self.assertEqual(read_now(one), b"more 1 5 8\n")
+        self.now += 1
+        self.loop.turns(3)
+        self.assertEqual(read_now(one), b"")
+        self.keeper.drop(1)
+        self.loop.turns(3)
+        self.assertEqual(self.asked(one, "count 1 5"), b"count 1 5 0 4\n")
+
+    def test_lost(self):
+        """A snapshot that is dropped for want of room isn't answered from what is kept now."""
+        one = self.connect(b"snapshot 1 5\n")
+        self.prints(b"screen 0 1 3\n u\n")
+        read_now(one)
+        self.keeper.room.most_held = 0
+        self.prints(b"cleared 0\n")
+        self.assertEqual(self.asked(one, "count 1 5", "rows 1 5 0 1", "find 1 5 0 on a", "release 1 5", "count 1 5"),
+                         b"count 1 5 none\nrows 1 5 none\nfound 1 5 none\ncount 1 5 3 3\n")
+
+    def test_log(self):
+        """Rows are told as they come, and a gone pane's last screen; then that it has ended."""
+        one = self.connect(b"log 1 5 3\n")
+        self.assertEqual(read_now(one), b"")
+        self.prints(b"rows 0 2 6\n c\n d\n")
+        self.assertEqual(read_now(one), b"rows 1 5 3 2 6\n c\n d\n")
+        self.keeper.drop(1)
+        self.loop.turns(3)
+        self.prints(b"rows 0 1 3\n e\nscreen 0 3 8\n s\n t\n \n")
+        self.loop.turns(3)
+        self.assertEqual(read_now(one), b"rows 1 5 5 1 3\n e\nrows 1 5 6 2 6\n s\n t\nlog 1 5 end\n")
+        self.assertEqual((self.keeper.leaving, self.keeper.room.panes), ([], []))
+        self.assertEqual(self.asked(one, "log 1 5 0"), b"log 1 5 none\n")
+
+    def test_log_lost(self):
+        """Who writes rows down and doesn't take them misses those that are kept no longer."""
+        one = self.connect(b"log 1 5 3\n")
+        rows = [f" {number}".encode() for number in range(3000)]
+        for at in range(0, 3000, 100):
+            data = b"".join(row + b"\n" for row in rows[at : at + 100])
+            self.keeper.panes[1].rows.add(100, data)
+        self.keeper.came()
+        self.loop.turns(3)
+        self.assertEqual(read_now(one).split(b"\n")[:2], [b"rows 1 5 2903 100 600", b" 2900"])
+
+
+    def test_log_waits(self):
+        """Who writes rows down and doesn't take them is waited for, for a second: the filter's rows aren't read meanwhile. Once he takes
+        them nothing was lost; who takes none misses some, and isn't waited for again until he has all."""
+        one = self.connect(b"log 1 5 3\n")
+        one.setsockopt(socket.SOL_SOCKET, socket.SO_RCVBUF, 4096)
+        rows, printed, found = b"".join(b" %04d\n" % number for number in range(100)), 0, b""
+        for _ in range(2000):
+            if self.socket.common.has_full_log():
+                break
+            self.prints(b"rows 0 100 600\n" + rows)
+            printed += 1
+        self.assertFalse(self.keeper.reads())
+        self.prints(b"rows 0 100 600\n" + rows)
+        self.assertEqual(self.keeper.panes[1].rows.end, 3 + 100 * printed)
+        for _ in range(1000):
+            found += read_now(one)
+            self.loop.turns()
+        self.assertTrue(self.keeper.reads())
+        self.assertEqual(found.count(rows), printed + 1)
+        while not self.socket.common.has_full_log():
+            self.prints(b"rows 0 100 600\n" + rows)
+        self.now += socket_server.LOG_WAIT
+        self.loop.turns(2)
+        self.assertTrue(self.keeper.reads())
+        for _ in range(300):
+            self.prints(b"rows 0 100 600\n" + rows)
+        self.assertTrue(self.keeper.reads())
+        self.assertLess(len(self.socket.peers[0].waiting), MOST_WAITING + 2000)
+        self.now += UNREAD + 1
+        self.loop.turns(2)
+        self.assertEqual(len(self.socket.peers), 1)
+        for _ in range(1000):
+            read_now(one)
+            self.loop.turns()
+        self.assertFalse(self.socket.peers[0].asker.is_late)
+        self.assertEqual(self.asked(one, "count 1 5"), b"count 1 5 %d %d\n" % (self.socket.peers[0].asker.next_row - 100,
+                                                                             self.socket.peers[0].asker.next_row))
+
+
+class Taken(Rows):
+    """Answers that aren't taken."""
+
+    def wide(self):
+        """A pane with rows of 2 kB."""
+        self.keeper.panes[1].rows.add(100, b"".join(b" " + b"x" * 2000 + b"\n" for _ in range(100)))
+
+    def test_back_pressure(self):
+        """Who takes nothing isn't heard while much waits for him, and is answered in order once he takes it."""
+        self.wide()
+        one = self.connect()
+        one.setsockopt(socket.SOL_SOCKET, socket.SO_RCVBUF, 4096)
+        for _ in range(50):
+            one.send(b"rows 1 5 0 2000\n")
+        self.loop.turns(200)
+        peer = self.socket.peers[0]
+        self.assertGreater(len(peer.waiting), MOST_WAITING)
+        self.assertLess(len(peer.waiting), MOST_WAITING + (1 << 19))
+        found = b""
+        for _ in range(3000):
+            found += read_now(one)
+            self.loop.turns()
+            if len(found) >= 50 * 200_000 and not peer.waiting:
+                break
+        self.assertEqual(found.count(b"rows 1 5 3 100"), 50)
+        self.assertEqual(peer.answers, 0)
+
+    def test_let_go(self):
+        """Who takes nothing for a while is let go; who takes something isn't."""
+        self.wide()
+        one, other = (self.connect(b"rows 1 5 0 2000\n" * 3) for _ in range(2))
+        self.loop.turns(20)
+        for _ in range(3):
+            self.now += UNREAD - 1
+            other.recv(65536)
+            self.loop.turns(3)
+        self.assertEqual([peer.number for peer in self.socket.peers], [2])
+        one.close()
+
+    def test_unasked(self):
+        """What is told unasked of a snapshot doesn't keep one who takes nothing, nor wait without end."""
+        self.wide()
+        one = self.connect(b"snapshot 1 5\nrows 1 5 0 2000\n" + b"rows 1 5 0 2000\n" * 2)
+        self.prints(b"screen 0 1 3\n u\n")
+        peer = self.socket.peers[0]
+        for _ in range(int(UNREAD) - 1):
+            self.now += 1
+            self.prints(b"rows 0 1 3\n c\n")
+        self.assertEqual(self.socket.peers, [peer])
+        self.now += 1
+        self.loop.turns(2)
+        self.assertEqual(self.socket.peers, [])
+        one.close()
+
+    def test_all(self):
+        """Of answers to all no more waits than may."""
+        self.wide()
+        with mock.patch.object(socket_server, "MOST_ANSWERS", 1_000_000):
+            ends = [self.connect(b"rows 1 5 0 2000\n" * 2) for _ in range(10)]
+            self.loop.turns(20)
+        self.assertLess(sum(peer.answers for peer in self.socket.peers), 1_000_001)
+        self.assertLess(len(self.socket.peers), 10)
+        for one in ends:
+            one.close()
+
+
+class Buffered(Rows):
+    """Buffers."""
+
+    def test_kept(self):
+        """The last twenty, by numbers that grow, whole."""
+        one = self.connect()
+        for number in range(1, MOST_BUFFERS + 3):
+            self.assertEqual(self.asked(one, f"buffer add {number}\n" + "x" * (number - 1)), f"buffer add {number} {number}\n".encode())
+        self.assertEqual(self.asked(one, "buffer show 2", "buffer show 3"), b"buffer show 2 none\nbuffer show 3 3\nxx\n")
+        told = self.asked(one, "buffer list").decode().split("\n")
+        self.assertEqual((told[0], told[1], told[-2]), ("buffers 20", f"22 22 {'x' * 21}\\n", "3 3 xx\\n"))
+
+    def test_refused(self):
+        """One that is too long, one of those that come at once, one of who watches, and an empty one; the bytes are passed over."""
+        one, other, watching = self.connect(), self.connect(), self.connect(b"here x 1 1 watches\n")
+        self.say(one, f"buffer add {MOST_BUFFER + 1}\n".encode())
+        left = MOST_BUFFER + 1
+        while left:
+            left -= one.send(b"x" * min(left, 65536))
+            self.loop.turns(2)
+        self.loop.turns(20)
+        self.assertEqual(read_now(one), f"buffer add none {TOO_LONG}\n".encode())
+        self.assertEqual(self.asked(one, "buffer add 0"), f"buffer add none {EMPTY}\n".encode())
+        self.assertEqual(self.asked(watching, "buffer add 2\na"), f"buffer add none {WATCHES}\n".encode())
+        self.assertEqual(self.socket.buffers.coming, 0)
+        self.socket.buffers.coming = MOST_COMING - 1
+        self.assertEqual(self.asked(one, "buffer add 2\na"), f"buffer add none {TOO_MUCH}\n".encode())
+        self.socket.buffers.coming -= 1
+        self.assertEqual(self.asked(other, "buffer add 2\na"), b"buffer add 1 2\n")
+        self.assertEqual(self.socket.buffers.coming, MOST_COMING - 2)
+        self.socket.buffers = Buffers()
+        self.say(other, b"buffer add 2\na")
+        self.assertEqual(self.socket.buffers.coming, 2)
+        other.close()
+        self.loop.turns(2)
+        self.assertEqual((self.socket.buffers.coming, self.asked(one, "buffer list")), (0, b"buffers 0\n"))
+
+    def test_given(self):
+        """A buffer is given as a text: what of it is pasted, once; an unknown one is refused."""
+        one = self.connect()
+        self.asked(one, "buffer add 12\na\nb\t\x1b[201~c")
+        self.assertEqual(self.asked(one, f"give {NAME} buffer 1"), f"held {NAME}\n".encode())
+        self.assertEqual(self.socket.texts.texts[NAME].data, b"a\rb\t[201~c\r")
+        self.assertEqual(self.asked(one, f"give {NAME} buffer 9"), f"held {NAME}\n".encode())
+        self.assertEqual(self.asked(one, f"give {NAME[::-1]} buffer 9"), f"refused {NAME[::-1]} {UNKNOWN}\n".encode())
+        self.assertEqual((self.socket.texts.coming, len(self.socket.texts.texts)), (0, 1))
+        self.assertEqual(self.asked(one, f"ask {NAME}", f"ask {NAME[::-1]}"), f"held {NAME}\nlost {NAME[::-1]}\n".encode())
+
+    def test_sample(self):
+        """The first printable characters, and what stands for a line's end."""
+        self.assertEqual((sample(b"a\nb\x1b[2J\xff" + b"c" * 50), sample("\u4e00".encode() * 50), sample(b"\n")),
+                         ("a\\nb[2J\ufffd" + "c" * 32, "\u4e00" * 40, "\\n"))
+        self.assertEqual((sample(b"a\r\nb\rc"), sample(b"\n" * 50)), ("a\\nb\\nc", "\\n" * 20))

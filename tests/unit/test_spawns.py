@@ -1,0 +1,245 @@
+"""Commands that are handed over for new panes and windows: at the keeper's socket, at a front end, and from outside."""
+import os
+import unittest
+from unittest import mock
+
+from aids import Case, StillLoop
+from roam_live.cli import cmd, send, targets, windows
+from roam_live.cli.windows import WindowsAsked
+from roam_live.common.errors import Fault
+from roam_live.frontend import spawn_commands
+from roam_live.frontend.command_line import CommandRunner
+from roam_live.frontend.spawn_commands import Handing
+from roam_live.host.pending_spawns import Begins, unpacked
+from roam_live.protocol.panes import Places, Rect
+from test_socket_server import Sockets, read_now
+
+NAME, OTHER = "0123456789abcdef", "fedcba9876543210"
+FIRST = Rect(1, 1, 23, 80)
+RIGHT, BELOW, ELSEWHERE = Rect(1, 42, 23, 39), Rect(13, 1, 11, 80), Rect(1, 90, 23, 10)
+
+
+class Packed(unittest.TestCase):
+    """The bytes of one."""
+
+    def test_packed(self):
+        for begins in (Begins(["htop"]), Begins([], "/tmp", "name"), Begins(["a b", "", "\udcff"], "~", "")):
+            self.assertEqual(unpacked(begins.packed()), begins)
+        self.assertEqual([unpacked(data) for data in (b"", b"a", b"a\0b\x1b", b"\0\0")], [None] * 4)
+
+    def test_command(self):
+        """A single word is one of the shell."""
+        with mock.patch.dict(os.environ, {"SHELL": "/bin/zsh"}):
+            self.assertEqual(Begins(["htop -d 5"]).command(), ["/bin/zsh", "-c", "htop -d 5"])
+        self.assertEqual((Begins(["htop", "-d"]).command(), Begins([]).command()), (["htop", "-d"], []))
+
+
+class AtKeeper(Sockets):
+    """The socket at which they are handed over."""
+
+    def setUp(self):
+        super().setUp()
+        self.socket.handed.rect_of = lambda pane, life: FIRST if (pane, life) == (1, 7) else None
+        self.socket.handed.folder_beside = lambda pane: str(self.folder)
+
+    def hand(self, beside, begins, name=NAME, one=None):
+        """Hands one over, and tells who did and what he is told."""
+        data = begins.packed()
+        text = f"run {name} {beside} {len(data)}\n".encode() + data
+        if one:
+            self.say(one, text)
+        else:
+            one = self.connect(text)
+        return one, read_now(one).decode()
+
+    def test_pane(self):
+        """The next pane beside the one that is named has it, once."""
+        for rect in (RIGHT, BELOW):
+            one, told = self.hand("1 7", Begins(["htop"], "src"))
+            self.assertEqual(told, f"run {NAME} refused the folder isn't there\n")
+            os.makedirs(self.folder / "src", exist_ok=True)
+            self.assertEqual(self.hand("1 7", Begins(["htop"], "src"), one=one)[1], f"run {NAME} ready\n")
+            self.assertIsNone(self.socket.handed.for_pane(ELSEWHERE))
+            self.assertEqual(self.socket.handed.for_pane(rect), Begins(["htop"], str(self.folder / "src")))
+            self.loop.turns(2)
+            self.assertEqual(read_now(one).decode(), f"run {NAME} done\n")
+            self.assertIsNone(self.socket.handed.for_pane(rect))
+            os.rmdir(self.folder / "src")
+
+    def test_scroll_paint(self):
+        """So has one along a side that the pane has got since, as where a zoom ended."""
+        self.hand("1 7", Begins(["htop"]))
+        beside = Rect(1, 101, 40, 50)
+        self.assertIsNone(self.socket.handed.for_pane(beside))
+        self.socket.handed.moved(1, Rect(1, 50, 40, 50))
+        self.assertTrue(self.socket.handed.for_pane(beside))
+
+    def test_late(self):
+        """Where none comes in two seconds that is told, and a later one hasn't it."""
+        one, _ = self.hand("1 7", Begins(["htop"]))
+        self.now += 2.1
+        self.loop.turns(3)
+        self.assertEqual(read_now(one).decode(), f"run {NAME} late\n")
+        self.assertIsNone(self.socket.handed.for_pane(RIGHT))
+
+    def test_window(self):
+        """One for a window is that of its name, and of no pane."""
+        one, told = self.hand("window", Begins(["htop"], "", "logs"))
+        self.assertEqual(told, f"run {NAME} ready\n")
+        self.assertIsNone(self.socket.handed.for_pane(RIGHT))
+        self.assertIsNone(self.socket.handed.for_window(OTHER))
+        self.assertEqual(self.socket.handed.for_window(NAME), Begins(["htop"], "", "logs"))
+        self.hand("1 7", Begins(["htop"]), one=one)
+        self.assertIsNone(self.socket.handed.for_window(NAME))
+
+    def test_refused(self):
+        """A pane that isn't there, too many, too long ones, and those of who only watches; one who has left has none any more."""
+        self.assertEqual(self.hand("1 8", Begins(["htop"]))[1], f"run {NAME} refused the pane isn't there\n")
+        data = b"x" * 70000
+        one = self.connect(f"run {NAME} 1 7 {len(data)}\n".encode() + data[:60000])
+        self.say(one, data[60000:] + b"who\n")
+        told = read_now(one).decode()
+        self.assertIn(f"run {NAME} refused a command has 65536 bytes at most\n", told)
+        self.assertIn("keeper", told)
+        one = self.connect(f"run {NAME} 1 7 2\n\0\x1b".encode())
+        self.assertEqual(read_now(one).decode(), f"run {NAME} refused its words can't be read\n")
+        one = self.connect(b"here test:/dev/pts/1 24 80 watches\n")
+        self.assertEqual(self.hand("1 7", Begins(["a"]), one=one)[1].split("\n")[0], "bad line")
+        one, _ = self.hand("1 7", Begins(["htop"]))
+        for number in range(8):
+            _, told = self.hand("1 7", Begins(["htop"]), f"{number:016x}", one)
+        self.assertEqual(told, f"run {7:016x} refused 8 commands wait for their panes\n")
+        one.close()
+        self.loop.turns(3)
+        self.assertFalse(self.socket.handed.waiting)
+
+
+class AtFrontEnd(Case):
+    """A person's front end."""
+
+    def setUp(self):
+        self.loop, self.commands = StillLoop(lambda: self.now), mock.Mock()
+        self.commands.loop, self.commands.link.watches = self.loop, False
+        self.commands.awaits_focus.return_value = self.commands.shells.is_connecting.return_value = False
+        self.commands.places.return_value = self.commands.zooming.unzoomed.return_value = Places({1: FIRST}, 1)
+        self.commands.panes.making.return_value = "1 7"
+        self.commands.windows.why_one.return_value = ""
+        self.patch_of(spawn_commands, "random_name", return_value=NAME)
+        self.commands.handing = Handing(self.commands)
+        self.runner = CommandRunner(mock.Mock(commands=self.commands, number=1), self.loop)
+
+    def told(self):
+        """What the person is told."""
+        return [one.args[0] for one in self.commands.display.tell.call_args_list]
+
+    def test_split(self):
+        """The pane is split once the command waits; what stands behind in the line is done then."""
+        self.runner.typed("split-window -h htop -d 5; send-keys x")
+        data = Begins(["htop", "-d", "5"]).packed()
+        self.commands.shells.ask_with.assert_called_once_with(f"run {NAME} 1 7 {len(data)}", data)
+        self.assertFalse(self.commands.act_together.called or self.commands.type_key.called)
+        self.commands.shells.ran(f"{NAME} ready")
+        self.commands.act_together.assert_called_once_with("split right")
+        self.commands.type_key.assert_called_once_with(["char 78"])
+        self.commands.shells.ran(f"{NAME} done")
+        self.now += 3
+        self.loop.turns(2)
+        self.assertEqual(self.told(), [])
+        self.commands.shells.ran(f"{NAME} late")
+        self.assertEqual(self.told(), ["not run: no pane came in its place"])
+
+    def test_scroll_paint(self):
+        """It is split where the person asked for that, and with -d the focus is there again."""
+        self.runner.typed("splitw -d htop")
+        self.commands.places.return_value = Places({1: FIRST, 2: RIGHT}, 2)
+        self.commands.shells.ran(f"{NAME} ready")
+        self.commands.act_together.assert_called_once_with("focus 1", "split down", "focus 1")
+
+    def test_window(self):
+        for line, stays in (("neww -n logs htop", False), ("neww -d", True)):
+            self.commands.windows.open.reset_mock()
+            self.runner.typed(line)
+            self.commands.shells.ran(f"{NAME} ready")
+            self.commands.windows.open.assert_called_once_with(NAME, stays)
+
+    def test_awaited(self):
+        """Where it isn't known yet which pane is in focus, or no connection is there, that is waited for, no longer than two seconds."""
+        self.commands.awaits_focus.return_value = True
+        self.runner.typed("splitw htop")
+        self.now += 0.1
+        self.loop.turns(2)
+        self.assertFalse(self.commands.shells.ask_with.called)
+        self.commands.awaits_focus.return_value = False
+        self.now += 0.1
+        self.loop.turns(2)
+        self.assertTrue(self.commands.shells.ask_with.called)
+        self.commands.shells.ask_with.return_value, self.commands.shells.is_connecting.return_value = False, True
+        self.runner.typed("splitw htop")
+        for _ in range(3):
+            self.now += 0.9
+            self.loop.turns(2)
+        self.assertEqual(self.told()[-1], "not run: what keeps the shells isn't there just now")
+
+    def test_refused(self):
+        """Why nothing is run is told, and nothing is split then."""
+        self.runner.typed("splitw htop; send-keys x")
+        self.commands.shells.ran(f"{NAME} refused the folder \x1b isn't there")
+        self.runner.typed("splitw htop; send-keys x")
+        self.now += 2.1
+        self.loop.turns(2)
+        self.commands.shells.ran(f"{NAME} ready")
+        self.commands.shells.ask_with.return_value = False
+        self.runner.typed("splitw htop")
+        self.commands.link.watches = True
+        self.runner.typed("splitw htop")
+        self.assertEqual(self.told(), ["not run: the folder ? isn't there", "not run: what keeps the shells is silent, or an earlier roam's",
+                                       "not run: what keeps the shells isn't there just now",
+                                       "a terminal that only watches runs nothing"])
+        self.assertFalse(self.commands.act_together.called or self.commands.type_key.called)
+
+
+class Outside(Case):
+    """`mux cmd`."""
+
+    def asked(self, *told):
+        """A connection that is told this."""
+        asked = WindowsAsked.__new__(WindowsAsked)
+        asked.session, asked.told, asked.said = mock.Mock(), list(told), []
+        asked.session.name = "main"
+        asked.say = lambda line, data=b"": asked.said.append((line, data))
+        self.patch_of(windows, "random_name", return_value=NAME)
+        self.patch_of(windows, "WindowsAsked", lambda session: asked)
+        return asked
+
+    def test_split(self):
+        self.patch_of(targets, "making_of", return_value=(2, 9))
+        self.patch_of(targets, "pane_places", return_value=Places({1: FIRST, 2: RIGHT}, 1))
+        sends = self.patch_of(send, "send", return_value=0)
+        window = mock.Mock()
+        window.name = "main"
+        for words, acts, folder in (("splitw -h htop", ["split right"], ""), ("splitw -d -c src htop", ["split down", "focus 1"], "src")):
+            asked = self.asked(f"run {NAME} ready", f"run {NAME} done")
+            self.assertEqual(cmd.run(window, 2, words.split(" ")), 0)
+            data = Begins(["htop"], os.path.abspath(folder) if folder else "").packed()
+            self.assertEqual(asked.said, [(f"run {NAME} 2 9 {len(data)}", data)])
+            sends.assert_called_with(window, acts, 2)
+        for told, why in (((f"run {NAME} refused no \x1b",), "session main: not run: no ?"),
+                          ((f"run {NAME} ready", f"run {NAME} late"),
+                           "session main: no pane came in its place, and the command wasn't run")):
+            self.asked(*told)
+            with self.assertRaises(Fault) as fault:
+                cmd.run(window, 2, ["splitw", "htop"])
+            self.assertEqual(str(fault.exception), why)
+
+    def test_window(self):
+        asked = self.asked(f"run {NAME} ready", "opened 3")
+        session = mock.Mock()
+        session.places.return_value = None
+        self.patch_of(windows, "print", create=True)
+        cmd.run(session, 0, ["neww", "-n", "logs", "htop"])
+        self.assertEqual([line for line, _ in asked.said], [f"run {NAME} window {len(Begins(['htop'], '', 'logs').packed())}",
+                                                           f"open 24 80 {NAME}"])
+
+
+if __name__ == "__main__":
+    unittest.main()

@@ -1,0 +1,151 @@
+"""What a person is told where lines that were typed aren't taken, though the server is heard."""
+import unittest
+
+from aids import Case, StillLoop, record
+from roam_live.frontend.stalled_input import LOOKS, MOMENT, NOT_TAKEN, NO_KEYS, UNTAKEN, UNTAKEN_SILENTLY, UntakenLines
+from test_app import Fronts
+
+
+class Link:
+    """A link of which so many lines were given and taken."""
+
+    def __init__(self):
+        self.lines, self.taken, self.peer = 5, 4, object()
+
+    def is_done(self):
+        """Whether all are taken."""
+        return self.taken >= self.lines
+
+
+class Display:
+    """What is told."""
+
+    told, silent = "", 0
+
+    def tell(self, text, seconds):
+        """Keeps a line, which stands until it is ended."""
+        assert seconds is None
+        self.told = text
+
+    def end_told(self):
+        """Ends it."""
+        self.told = ""
+
+
+class Lines(Case):
+    """Lines that were given, and what is told of them."""
+
+    def setUp(self):
+        self.loop, self.one, self.display = StillLoop(lambda: self.now), Link(), Display()
+        self.lines = UntakenLines(lambda: self.one, self.display, self.loop)
+
+    def wait(self, seconds, paints=False):
+        """Lets seconds pass, in each of which something may be painted."""
+        for _ in range(int(seconds)):
+            self.now += LOOKS
+            if paints:
+                self.lines.heard()
+            self.loop.do_due()
+
+    def test_painted(self):
+        """After two seconds in which something was painted a person is told, until a line is taken."""
+        self.lines.given()
+        self.wait(1, True)
+        self.assertEqual(self.display.told, "")
+        self.lines.given()
+        self.wait(1, True)
+        self.assertEqual((self.display.told, UNTAKEN), (NO_KEYS, 2.0))
+        self.wait(30)
+        self.one.lines, self.one.taken = 9, 5
+        self.wait(1)
+        self.assertEqual((self.display.told, MOMENT in self.loop.due), ("", True))
+        self.wait(2, True)
+        self.assertEqual(self.display.told, NO_KEYS)
+        self.one.taken = 9
+        self.wait(1)
+        self.assertEqual((self.display.told, self.loop.due), ("", {}))
+
+    def test_unpainted(self):
+        """Where nothing is painted that isn't known before a silence would have been told; what was painted just before isn't that."""
+        self.lines.given()
+        self.lines.heard()
+        self.wait(UNTAKEN_SILENTLY - 1)
+        self.assertEqual(self.display.told, "")
+        self.wait(1)
+        self.assertEqual((self.display.told, UNTAKEN_SILENTLY), (NOT_TAKEN, 12.0))
+
+    def test_answered(self):
+        """A server that answers while no line is taken shows that soon; each look asks it again."""
+        asked = []
+        self.lines.asks = lambda: asked.append(self.now)
+        self.lines.given()
+        for _ in range(2):
+            self.assertEqual(self.display.told, "")
+            self.wait(1)
+            self.lines.answered()
+        self.wait(1)
+        self.assertEqual((self.display.told, len(asked)), (NOT_TAKEN, 3))
+
+    def test_silent(self):
+        """A silence of the server is told instead, and so is anything else."""
+        self.lines.given()
+        self.display.silent = 10
+        self.wait(30, True)
+        self.assertEqual(self.display.told, "")
+        self.display.silent, self.display.told = 0, "bell in pane 2"
+        self.wait(30, True)
+        self.assertEqual(self.display.told, "bell in pane 2")
+        self.display.told = ""
+        self.wait(1, True)
+        self.assertEqual(self.display.told, NO_KEYS)
+        self.display.silent = 10
+        self.wait(1, True)
+        self.assertEqual(self.display.told, "")
+
+    def test_elsewhere(self):
+        """In another window, or without the connection, it is counted anew, or isn't."""
+        self.lines.given()
+        self.wait(2, True)
+        self.one = Link()
+        self.wait(1, True)
+        self.assertEqual(self.display.told, "")
+        self.wait(2, True)
+        self.assertEqual(self.display.told, NO_KEYS)
+        self.one.peer = None
+        self.wait(1)
+        self.assertEqual((self.display.told, self.loop.due), ("", {}))
+
+    def test_progress(self):
+        """While lines are taken, however slowly, nothing is told."""
+        self.one.lines = 99
+        self.lines.given()
+        for _ in range(20):
+            self.wait(1, True)
+            self.one.taken += 1
+        self.assertEqual(self.display.told, "")
+
+
+class Keys(Fronts):
+    """A front end whose keys aren't taken."""
+
+    def test_told(self):
+        """It is told of keys that aren't taken while the session is painted."""
+        start = self.connect()
+        self.paints()
+        start.send(record("taken", self.front.link.lines))
+        self.turn()
+        self.type(b"x")
+        for _ in range(3):
+            self.now += 1
+            start.send(record("paint", data=b"y"))
+            self.turn()
+        self.assertIn(NO_KEYS.encode(), self.shown())
+        start.send(record("taken", self.front.link.lines))
+        self.turn()
+        self.now += 1
+        self.turn()
+        self.assertEqual(self.front.display.told, "")
+
+
+if __name__ == "__main__":
+    unittest.main()

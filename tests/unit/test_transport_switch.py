@@ -1,0 +1,594 @@
+"""Both ends of a relay with a sealed path beside the command: real sockets of loopback, a clock that stands, and commands made by hand."""
+import argparse
+import contextlib
+import os
+import unittest
+from unittest import mock
+
+from aids import Case, StillLoop, ended, read_now
+from roam_live.common.errors import Fault, count_front_ends
+from roam_live.relay import far, near, path_setup, transport_switch
+from roam_live.relay.aead_packets import Seal, udp_end
+from roam_live.relay.batches import MOST_BUNDLES
+from roam_live.relay.common import Ended
+from roam_live.relay.forwarding import CARRIES
+from roam_live.relay.frames import ENDED, HAD, KILLED, LEAVES, WINDOWS, RelayStream, Waiting, greeting
+from roam_live.relay.path_setup import SEALED_HEAD, wish
+from roam_live.relay.udp_path import Path
+from test_batches import shown, typed
+from test_relay import FakeLink, Other, packed
+from test_aead_packets import Foolish
+
+KEY = b"k" * 32
+
+
+def drained(path):
+    """What came over a path."""
+    return list(path.received())
+
+
+class Both(Case):
+    """What tests of both ends share."""
+
+    def setUp(self):
+        self.stop_clock()
+        self.environment(ROAM_UDP=None, SSH_CONNECTION="127.0.0.1 1 127.0.0.1 22")
+        self.patch_of(path_setup, "hide_memory")
+        self.patch_of(path_setup, "cipher", return_value=Foolish)
+        self.folder = self.made_folder()
+        self.wakeup, self.wakes = self.pipe()
+        self.said = self.heard()
+
+    def asked(self, **more):
+        """The words of a command line."""
+        known = {"far": False, "greeted": False, "owner": None, "alone": None, "log": None, "host": "", "dir": str(self.folder),
+                 "session": None, "server": None, "port": None, "command": ["ssh", "there"]}
+        return argparse.Namespace(**{**known, **more})
+
+    def place(self, port):
+        """A port of this machine, as a socket of both families has it."""
+        return path_setup.places_of("127.0.0.1", port, self.family)[0]
+
+    @contextlib.contextmanager
+    def ends(self):
+        """What is done here ends the relay, with status 0."""
+        with self.assertRaises(Ended) as way:
+            yield
+        self.assertEqual(way.exception.status, 0)
+
+    def end(self):
+        """A UDP socket of this test's own."""
+        one = udp_end()
+        self.family = one.family
+        self.addCleanup(one.close)
+        return one
+
+
+class Near(Both):
+    """The end beside the clients, with a far end of the test's own."""
+
+    def setUp(self):
+        super().setUp()
+        self.links = []
+        self.patch_of(near, "RunningCommand", side_effect=self.new_link)
+        self.printed()
+        self.far = Path(Seal(Foolish(KEY), False), self.end())
+        self.port = self.far.end.getsockname()[1]
+        self.patch_of(path_setup, "PORTS", range(1, 65536))
+        self.patch_of(path_setup.Finder, "look", lambda _, path: setattr(path, "places", [self.place(path.port)]))
+        self.near = near.Near(self.asked(), self.wakeup, StillLoop())
+        self.is_closed = False
+        self.addCleanup(self.close)
+        self.waiting, self.is_open, self.came = Waiting(), True, []
+
+    def close(self):
+        """Ends it."""
+        if not self.is_closed:
+            self.is_closed = True
+            self.patch_of(near, "finish")
+            self.near.close()
+
+    def new_link(self, command, session, may_ask):
+        """A command that is started."""
+        self.links.append(FakeLink(self, session))
+        return self.links[-1]
+
+    def run_for(self, seconds):
+        """Lets so many seconds pass at both ends, in small steps."""
+        end = self.now + seconds
+        while self.now < end:
+            self.now += 0.05
+            self.near.turn()
+            if self.is_open:
+                self.came += drained(self.far)
+                self.far.fill(self.waiting)
+            elif self.far.fileno() >= 0:
+                read_now(self.far.end)
+                read_now(self.near.ways.path) if self.near.ways.path else None
+            self.near.turn()
+
+    def answer(self, tells=True):
+        """Has the newest command's other end answer, and tell of the path."""
+        self.near.turn()
+        self.links[-1].say(greeting("abc"))
+        self.near.turn()
+        if tells:
+            self.links[-1].tell((0, CARRIES), (0, SEALED_HEAD.pack(b"s", 1, self.port, KEY) + b"127.0.0.1"))
+        self.near.turn()
+
+    def sound(self):
+        """Has the path be sound."""
+        self.answer()
+        self.run_for(2)
+        self.assertTrue(self.near.ways.is_sound() and self.far.is_sound())
+
+    def frames(self, number=-1):
+        """What a command was told, without the counts."""
+        return [frame for frame in self.links[number].other.frames() if frame[1][:1] != HAD or frame[0]]
+
+    def test_asks(self):
+        """Once the other end has answered it asks for a path, by the name that its folder keeps; and by none where UDP isn't wanted."""
+        self.answer(False)
+        name = bytes.fromhex((self.folder / "name").read_text(encoding="ascii"))
+        self.assertEqual(self.frames(), [(0, wish(name))])
+        self.near.ways.drop_path()
+        with mock.patch.dict(os.environ, ROAM_UDP="never"):
+            self.near.ask_for_path()
+            self.near.take(0, SEALED_HEAD.pack(b"s", 1, self.port, KEY))
+        self.near.turn()
+        self.assertEqual((len(self.frames()), self.near.ways.path), (1, None))
+
+    def test_carries(self):
+        """Before the path is sound the command carries all, and then the path; both ways."""
+        self.answer()
+        self.near.waiting.add(3, typed(1)[0])
+        self.near.turn()
+        self.assertEqual(self.frames()[-1], (3, typed(1)[0]))
+        self.assertIs(self.near.way(), self.links[0].stream)
+        self.run_for(2)
+        self.assertIs(self.near.way(), self.near.ways.path)
+        self.near.waiting.add(3, typed(2)[0])
+        self.run_for(0.1)
+        came = [frame for frame in self.came if frame != (0, WINDOWS)]
+        self.assertEqual(([frame for frame in self.frames() if frame[0]][-1], came), ((3, typed(1)[0]), [(3, typed(2)[0])]))
+        delivered = self.patch_of(self.near, "deliver")
+        self.waiting.add(3, shown(1)[0])
+        self.run_for(0.1)
+        delivered.assert_called_once_with(3, shown(1)[0])
+
+    def test_told(self):
+        """The end that the far end tells over the path ends this one, which says that it heard."""
+        self.sound()
+        self.far.tell(0, KILLED)
+        with self.ends():
+            self.run_for(1)
+        self.close()
+        drained(self.far)
+        self.assertTrue(self.far.is_said())
+        self.assertEqual((self.folder / "ended").read_text(encoding="utf-8"), "killed")
+
+    def test_rests(self):
+        """Once the path has been sound for 5 s nothing goes over the command, which stays, and nothing else is started."""
+        self.sound()
+        self.run_for(6)
+        count = len(self.links[0].other.text)
+        self.frames()
+        count = len(self.links[0].other.text)
+        self.run_for(60)
+        self.frames()
+        self.assertEqual((len(self.links[0].other.text), len(self.links), self.links[0].has_ended), (count, 1, False))
+        self.assertTrue(self.near.ways.rests)
+        self.assertEqual(self.said.getvalue(), "")
+
+    def test_rests_and_acknowledges(self):
+        """What comes over a command that rests is acknowledged all the same."""
+        self.sound()
+        self.run_for(6)
+        self.frames()
+        count = len(self.links[0].other.text)
+        self.links[0].tell((3, shown(1)[0]))
+        self.run_for(4)
+        self.frames()
+        self.assertGreater(len(self.links[0].other.text), count)
+
+    def test_command_ends(self):
+        """A command that ends while the path is sound isn't started again."""
+        self.sound()
+        self.links[0].hang_up()
+        self.run_for(60)
+        self.assertEqual((len(self.links), self.near.link, self.near.is_silent()), (1, None, False))
+        self.assertEqual(self.said.getvalue(), "")
+
+    def test_falls_silent_beside_a_command(self):
+        """Where the path falls silent the command that is there carries what waits, at once; one that is silent too is followed."""
+        self.sound()
+        self.run_for(60)
+        self.is_open = False
+        self.near.waiting.add(3, typed(1)[0])
+        self.run_for(3)
+        self.assertNotIn((3, typed(2)[0]), self.frames())
+        self.run_for(2)
+        self.assertFalse(self.near.ways.is_sound() or self.near.ways.rests)
+        self.near.waiting.add(3, typed(2)[0])
+        self.near.turn()
+        self.assertEqual((self.frames()[-1], len(self.links)), ((3, typed(2)[0]), 1))
+        self.run_for(6)
+        self.assertEqual(len(self.links), 1)
+        self.run_for(3)
+        self.assertGreater(len(self.links), 1)
+        self.assertIn("the other end is silent\n", self.said.getvalue())
+
+    def test_comes_back(self):
+        """A path that is heard again carries all, and what was started meanwhile is ended."""
+        self.sound()
+        self.links[0].hang_up()
+        self.run_for(20)
+        self.is_open = False
+        self.near.waiting.add(3, typed(1)[0])
+        self.run_for(6)
+        self.assertGreater(len(self.links), 2)
+        self.is_open = True
+        self.run_for(2)
+        self.assertTrue(self.near.ways.is_sound())
+        self.assertEqual((self.near.tries, [link.has_ended for link in self.links[1:]]), ([], [True] * (len(self.links) - 1)))
+        self.assertEqual(self.came[-1], (3, typed(1)[0]))
+        self.assertIn("the other end answers again\n", self.said.getvalue())
+
+    def test_another_command(self):
+        """Another command that answers is asked for another path, and the old one is dropped."""
+        self.sound()
+        self.links[0].hang_up()
+        self.is_open = False
+        self.near.waiting.add(3, typed(1)[0])
+        self.run_for(6)
+        path = self.near.ways.path
+        self.answer(False)
+        self.assertEqual((self.near.ways.path, path.fileno(), self.frames()[0][1][:1]), (None, -1, b"w"))
+
+    def test_spent(self):
+        """A path without numbers is dropped, and another asked for over the command that is there; else one is started."""
+        self.sound()
+        self.near.ways.path.bundles.last = MOST_BUNDLES
+        self.near.turn()
+        self.assertEqual((self.near.ways.path, [text[:1] for _, text in self.frames()].count(b"w")), (None, 2))
+        self.near.turn()
+        self.assertEqual([text[:1] for _, text in self.frames()].count(b"w"), 2)
+
+    def test_leaves(self):
+        """Where it ends it tells the far end so, as long as that hears, and a second at most."""
+        self.sound()
+        begun = self.now
+        self.is_closed = True
+        self.patch_of(transport_switch, "comes", lambda end, seconds: self.pass_time(seconds) or self.came.extend(drained(self.far))
+                      or self.far.fill(self.waiting))
+        self.near.close()
+        self.assertIn((0, LEAVES), self.came)
+        self.assertLess(self.now - begun, 0.5)
+
+    def test_leaves_nobody(self):
+        """Where nobody hears it ends after a second; without an answer over the path at once."""
+        self.sound()
+        self.is_closed, begun = True, self.now
+        self.patch_of(transport_switch, "comes", lambda end, seconds: self.pass_time(seconds))
+        self.near.close()
+        self.assertAlmostEqual(self.now - begun, near.END_WAIT, delta=0.1)
+
+    def test_hostile(self):
+        """Whatever the far end tells of paths, one is kept at most, and descriptors don't become more."""
+        self.answer()
+        self.near.turn()
+        before = len(os.listdir("/proc/self/fd"))
+        for number in range(50):
+            self.near.take(0, SEALED_HEAD.pack(b"s", 1, self.port, bytes([number]) * 32) + b"evil.example")
+            self.near.take(0, b"s" + bytes(number))
+        self.assertEqual(len(os.listdir("/proc/self/fd")), before)
+        with mock.patch.object(path_setup, "udp_end", return_value=None):
+            self.near.take(0, SEALED_HEAD.pack(b"s", 1, self.port, KEY))
+        self.assertEqual(self.near.ways.path.seal.cipher.key, bytes([49]) * 32)
+
+    def test_update_paint(self):
+        """A path that goes on from another port is heard there."""
+        self.sound()
+        self.near.ways.path.hop(self.now)
+        self.waiting.add(3, shown(1)[0])
+        delivered = self.patch_of(self.near, "deliver")
+        self.near.waiting.add(3, typed(1)[0])
+        self.run_for(1)
+        self.waiting.add(3, shown(2)[0])
+        self.run_for(0.2)
+        self.assertEqual(delivered.call_args[0], (3, shown(2)[0]))
+
+
+class Far(Both):
+    """The end beside the server, with a near end of the test's own."""
+
+    def setUp(self):
+        super().setUp()
+        (self.source, self.said_end), (heard, self.target) = self.pipe(), self.pipe()
+        self.other = Other(heard)
+        self.patch_of(far, "RelayStream", side_effect=lambda _, __, session: RelayStream(self.source, self.target, session))
+        self.patch_of(far.os, "set_blocking")
+        self.closes = self.patch_of(far, "close_standard")
+        self.parts = self.patch_of(far, "part_from_command", side_effect=self.part)
+        self.letting_go = None
+        self.near = Path(Seal(Foolish(KEY), True), self.end())
+        self.patch_of(path_setup, "random_key", return_value=KEY)
+        self.waiting, self.came, self.is_open = Waiting(), [], True
+        self.far = far.Far(self.asked(far=True, command=[]), self.wakeup, StillLoop())
+        self.addCleanup(self.far.close)
+        for number, end in ((0, self.source), (1, self.target)):
+            known = self.far.loop.sources[number]
+            self.far.loop.remove(number)
+            self.far.loop.add(end, known.reads, known.writes, hears=known.hears, has_more=known.has_more)
+
+    def part(self, signals):
+        """What would let the command go, in this very process."""
+        self.letting_go, held = os.pipe()
+        self.addCleanup(os.close, self.letting_go)
+        return held
+
+    def run_for(self, seconds):
+        """Lets so many seconds pass at both ends, in small steps."""
+        end = self.now + seconds
+        while self.now < end:
+            self.now += 0.05
+            self.far.turn()
+            if self.is_open:
+                self.came += drained(self.near)
+                self.near.fill(self.waiting)
+            else:
+                read_now(self.near.end)
+            self.far.turn()
+
+    def ask(self, *more):
+        """Has the other end greet, and ask for a path."""
+        os.write(self.said_end, greeting("-") + packed((0, wish(b"12345678")), *more))
+        for _ in range(3):
+            self.far.turn()
+
+    def sound(self, asks=True):
+        """Has the path be sound."""
+        if asks:
+            self.ask()
+        told = next(text for peer, text in self.other.frames() if text[:1] == b"s")
+        self.near.places = [self.place(SEALED_HEAD.unpack_from(told)[2])]
+        self.run_for(2)
+        self.assertTrue(self.near.is_sound() and self.far.ways.is_sound())
+
+    def frames(self):
+        """What the other end was told over the command, without the counts."""
+        return [frame for frame in self.other.frames() if frame[1][:1] != HAD or frame[0]]
+
+    def test_makes(self):
+        """It goes on in another process, notes itself, and tells port, key and address."""
+        self.ask()
+        kind, version, port, key = SEALED_HEAD.unpack_from(self.frames()[0][1])
+        self.assertEqual((kind, version, key, self.frames()[0][1][SEALED_HEAD.size :]), (b"s", 1, KEY, b"127.0.0.1"))
+        self.assertIn(port, range(60000, 61001))
+        self.assertEqual(self.parts.call_count, 1)
+        self.assertTrue((self.folder / "relays" / b"12345678".hex()).exists())
+        self.assertEqual(count_front_ends(self.folder), 1)
+        self.far.close()
+        self.assertFalse(list((self.folder / "relays").iterdir()))
+        self.assertEqual(count_front_ends(self.folder), 0)
+
+    def test_makes_none(self):
+        """Without the wish, the library, a port, a process, or a version that it knows, there is none, and the command is all."""
+        self.ask()
+        self.far.ways.drop_path()
+        for patch in (mock.patch.dict(os.environ, ROAM_UDP="never"), mock.patch.object(path_setup, "cipher", return_value=None),
+                      mock.patch.object(far, "udp_end", return_value=None), mock.patch.object(far, "part_from_command", return_value=None)):
+            with patch:
+                self.far.held = None
+                self.far.make_path("ab")
+                self.assertIsNone(self.far.ways.path)
+        self.far.make_path("")
+        self.assertIsNone(self.far.ways.path)
+
+    def test_asked_again(self):
+        """Asked again it makes another key and port in the same process, and drops those before."""
+        self.ask((0, wish(b"12345678")))
+        told = [text for _, text in self.frames() if text[:1] == b"s"]
+        self.assertEqual((len(told), self.parts.call_count), (2, 1))
+        self.assertEqual(self.far.ways.path.end.getsockname()[1], SEALED_HEAD.unpack_from(told[1])[2])
+
+    def test_carries(self):
+        """A sound path carries all, both ways."""
+        self.sound()
+        self.assertEqual(self.came, [])
+        sent = self.patch_of(self.far, "send")
+        self.waiting.add(3, typed(1)[0])
+        self.run_for(0.1)
+        sent.assert_called_once_with(3, typed(1)[0])
+        self.far.waiting.add(3, shown(1)[0])
+        self.run_for(0.1)
+        self.assertEqual(self.came[-1], (3, shown(1)[0]))
+        self.assertNotIn((3, shown(1)[0]), self.frames())
+
+    def test_command_ends(self):
+        """Where the command ends it goes on, and lets the process go that held it; it is still counted."""
+        self.sound()
+        ended(self.said_end)
+        self.run_for(1)
+        self.assertEqual((os.read(self.letting_go, 1), self.closes.call_count, self.far.has_command()), (b"", 1, False))
+        self.run_for(30)
+        self.assertTrue(self.near.is_sound())
+        self.assertEqual(count_front_ends(self.folder), 1)
+
+    def test_command_ends_without_a_path(self):
+        """Without a path the command's end is its own; so it is where what holds it can't be let go."""
+        self.far.turn()
+        ended(self.said_end)
+        with self.ends():
+            self.run_for(1)
+        self.ask_by_hand()
+        self.closes.side_effect = OSError(24, "no")
+        with self.ends():
+            self.far.let_go()
+
+    def ask_by_hand(self):
+        """Makes a path without the other end's wish."""
+        self.far.stream.session = "-"
+        self.far.make_path("ab")
+
+    def test_never_called(self):
+        """A path that was never called is left 30 s after the command."""
+        self.ask()
+        self.run_for(20)
+        ended(self.said_end)
+        self.run_for(29.9)
+        with self.ends():
+            self.run_for(0.5)
+
+    def test_silent_command(self):
+        """A command that is silent for 30 s is let go where the path was called, and is the end where it wasn't."""
+        self.sound()
+        self.is_open = False
+        self.run_for(30)
+        self.assertTrue(self.far.has_command())
+        self.run_for(10)
+        self.assertFalse(self.far.has_command())
+
+    def test_silent_command_alone(self):
+        """The same without a call."""
+        self.ask()
+        with self.assertRaisesRegex(Fault, "the other end has said nothing for 30 s"):
+            self.run_for(32)
+
+    def test_rests(self):
+        """While the path is sound the command's silence is no fault, and nothing is said over it."""
+        self.sound()
+        self.run_for(6)
+        self.frames()
+        count = len(self.other.text)
+        self.run_for(120)
+        self.frames()
+        self.assertEqual((len(self.other.text), self.far.has_command()), (count, True))
+
+    def test_asleep(self):
+        """After a minute without a call it isn't counted and has no timer but its end, after 7 days; called again it is counted."""
+        self.sound()
+        ended(self.said_end)
+        self.run_for(1)
+        heard, self.is_open = self.far.ways.path.heard_at, False
+        self.run_for(70)
+        self.assertEqual((count_front_ends(self.folder), self.far.prepare()), (0, heard + far.FAR_WAIT))
+        self.now = heard + far.FAR_WAIT - 60
+        self.is_open = True
+        self.run_for(6)
+        self.assertEqual((count_front_ends(self.folder), self.near.is_sound()), (1, True))
+        self.now += far.FAR_WAIT + 1
+        with self.ends():
+            self.far.turn()
+
+    def test_asleep_leaves(self):
+        """Who sleeps isn't at the session: its connections to the keeper of the shells end there, and no others."""
+        self.sound()
+        ended(self.said_end)
+        self.run_for(1)
+        streams, ends = self.far.ways.path.streams, {}
+        for number, name in ((5, "shells"), (6, "bells")):
+            ours, ends[name] = self.pair()
+            with mock.patch.object(streams, "opens", return_value=ours):
+                streams.opened(streams.all.setdefault(number, streams.made(number)), name)
+        self.is_open = False
+        self.run_for(50)
+        with self.assertRaises(BlockingIOError):
+            ends["shells"].recv(1)
+        self.run_for(20)
+        self.assertEqual(ends["shells"].recv(1), b"")
+        with self.assertRaises(BlockingIOError):
+            ends["bells"].recv(1)
+
+    def test_session_ends(self):
+        """The session's end is told by the path alone, until it is acknowledged, 30 s at most."""
+        self.sound()
+        self.patch_of(transport_switch, "comes", lambda end, seconds: self.pass_time(seconds) or self.came.extend(drained(self.near))
+                      or self.near.fill(self.waiting))
+        begun = self.now
+        with self.ends():
+            self.far.tell_end()
+        self.assertIn((0, ENDED), self.came)
+        self.assertNotIn((0, ENDED), self.frames())
+        self.assertLess(self.now - begun, 1)
+
+    def test_session_ends_unheard_by_the_path(self):
+        """Where nobody hears by the path it is told by the command."""
+        self.sound()
+        self.patch_of(transport_switch, "comes", lambda end, seconds: self.pass_time(seconds))
+        self.patch_of(far, "is_taken", return_value=True)
+        with self.ends():
+            self.far.tell_end()
+        self.assertIn((0, ENDED), self.frames())
+
+    def test_session_ends_unheard(self):
+        """The same where nobody hears."""
+        self.sound()
+        ended(self.said_end)
+        self.run_for(1)
+        self.patch_of(transport_switch, "comes", lambda end, seconds: self.pass_time(seconds))
+        begun = self.now
+        with self.ends():
+            self.far.tell_end()
+        self.assertAlmostEqual(self.now - begun, far.ALONE, delta=1)
+
+    def test_left(self):
+        """It ends where the near end leaves."""
+        self.sound()
+        self.near.tell(0, LEAVES)
+        with self.ends():
+            self.run_for(1)
+
+    def test_spent(self):
+        """A path without numbers is followed by another, told of over the command; without one it ends."""
+        self.sound()
+        self.far.ways.path.bundles.last = MOST_BUNDLES
+        self.run_for(0.1)
+        told = [text for _, text in self.frames() if text[:1] == b"s"]
+        self.assertEqual((len(told), self.far.ways.path.is_spent()), (2, False))
+        self.far.ways.stream = None
+        self.far.ways.path.bundles.last = MOST_BUNDLES
+        with self.ends():
+            self.far.turn()
+
+    def test_blocked_later(self):
+        """Where the path falls silent all goes by the command that is there, which is said at once."""
+        self.sound()
+        self.run_for(20)
+        self.frames()
+        self.is_open = False
+        self.run_for(8)
+        count = len([text for _, text in self.other.frames() if text[:1] == HAD])
+        self.assertFalse(self.far.ways.rests)
+        self.assertGreater(count, 1)
+        self.far.waiting.add(3, shown(1)[0])
+        self.far.turn()
+        self.far.turn()
+        self.assertEqual(self.frames()[-1], (3, shown(1)[0]))
+
+
+class Choice(Both):
+    """Which way carries what waits."""
+
+    def test_chosen(self):
+        """A sound path, else the stream where it is there, else the path."""
+        both = transport_switch.Ways(StillLoop())
+        self.assertIsNone(both.chosen(False))
+        both.stream = mock.Mock(resume=mock.Mock())
+        self.assertIs(both.chosen(True), both.stream)
+        both.path = mock.Mock(is_sound=mock.Mock(return_value=False), sound_since=self.now)
+        self.assertEqual((both.chosen(True), both.chosen(False)), (both.stream, both.path))
+        both.path.is_sound.return_value = True
+        self.assertIs(both.chosen(True), both.path)
+        both.rest()
+        self.assertFalse(both.rests)
+        self.now += transport_switch.SOUND
+        both.rest()
+        self.assertTrue(both.rests)
+        both.path.is_sound.return_value = False
+        both.rest()
+        self.assertEqual((both.rests, both.stream.resume.call_count), (False, 1))
+
+
+if __name__ == "__main__":
+    unittest.main()
