@@ -15,7 +15,8 @@ import threading
 import time
 
 from tried import Outer, comes  # First: it finds the package of live/.
-from roam_live.common.errors import TOOLS, Fault
+from roam_live.common.errors import Fault
+from roam_live.common.process import TOOLS
 
 # The others take so many seconds each way, drawn evenly, where nothing else is asked for: later ones overtake earlier ones.
 DELAY = (0.040, 0.080)

@@ -18,7 +18,7 @@ sys.path[:0] = [str(LIVE), str(LIVE.parent / "tests/unit")]
 from emulated import Emulated
 from roam_live.cli.capture import asked_screen
 from roam_live.common import tty
-from roam_live.common.errors import TOOLS, program
+from roam_live.common.process import TOOLS, program
 from roam_live.protocol.client_link import StartLink
 from roam_live.protocol.screen_cells import ShownCells, Style, cells_of
 

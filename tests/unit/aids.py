@@ -14,8 +14,8 @@ import types
 import unittest
 from unittest import mock
 
-from roam_live.common.errors import TOOLS
 from roam_live.common.event_loop import Loop
+from roam_live.common.process import TOOLS
 
 
 @functools.lru_cache()

@@ -5,7 +5,7 @@ whatever a pane's program wrote.
 import ast
 import re
 
-from roam_live.common.errors import TOOLS
+from roam_live.common.process import TOOLS
 
 LIVE = TOOLS
 
@@ -34,9 +34,9 @@ KNOWN = {
     ("roam_live/frontend/outer_modes.py", "shaped", "ESC"): WRITES,
     ("roam_live/frontend/outer_modes.py", "titled", "ESC"): WRITES,
     ("roam_live/frontend/line_editor.py", "LEAVES", "ESC"): TYPED,
-    ("roam_live/protocol/bells.py", "Bells.go_on", "ESC"): PROGRAM,
-    ("roam_live/protocol/bells.py", "Bells.rung", "ESC"): PROGRAM,
-    ("roam_live/protocol/bells.py", "ENDS", "re"): PROGRAM,
+    ("roam_live/host/output_scan.py", "Bells.go_on", "ESC"): PROGRAM,
+    ("roam_live/host/output_scan.py", "Bells.rung", "ESC"): PROGRAM,
+    ("roam_live/host/output_scan.py", "ENDS", "re"): PROGRAM,
     ("roam_live/protocol/bells.py", "KEYPAD", "re"): LINES,
     ("roam_live/protocol/bells.py", "SAID", "re"): LINES,
     ("roam_live/protocol/bells.py", "TOLD", "re"): LINES,
@@ -103,8 +103,8 @@ KNOWN = {
     ("roam_live/cli/ssh.py", "host_of", "re"): WORDS,
     ("roam_live/cli/ssh.py", "near_session", "re"): NAMES,
     ("roam_live/cli/send.py", "demand_acts", "re"): WORDS,
-    ("roam_live/session/sessions.py", "NAME", "re"): NAMES,
-    ("roam_live/session/sessions.py", "NEAR_NAME", "re"): NAMES,
+    ("roam_live/session/names.py", "NAME", "re"): NAMES,
+    ("roam_live/session/names.py", "NEAR_NAME", "re"): NAMES,
     **{("roam_live/config/formats.py", name, "re"): SETTINGS for name in ("HEXADECIMAL", "NUMBERED", "PIECE", "restyled")},
     ("roam_live/config/parser.py", "ESCAPES", "ESC"): "is what an escape of a person's settings file stands for, and reads nothing",
     ("roam_live/common/tty.py", "CLEARED", "ESC"): WRITES,
@@ -113,11 +113,12 @@ KNOWN = {
     ("roam_live/common/tty.py", "LEFT", "ESC"): WRITES,
     ("roam_live/common/tty.py", "RESET", "ESC"): BEGIN,
     ("roam_live/common/tty.py", "unwrapped", "ESC"): WRITES,
-    ("roam_live/host/pending_spawns.py", "RUN", "re"): LINES,
+    ("roam_live/protocol/spawn_request.py", "RUN", "re"): LINES,
     ("roam_live/host/socket_server.py", "ASK", "re"): LINES,
     ("roam_live/host/scrollback.py", "SHOWS_OTHER", "ESC"): "is handed to the filter of rows, and reads nothing",
     ("roam_live/host/scrollback_store.py", "characters", "ESC"): ROWS,
-    ("roam_live/cli/row_texts.py", "BEGIN", "ESC"): "reads rows that the keeper handed out, and writes the SGR in them where that is asked for",
+    ("roam_live/cli/scrollback.py", "BEGIN", "ESC"):
+        "reads rows that the keeper handed out, and writes the SGR in them where that is asked for",
     ("roam_live/host/socket_server.py", "BUFFER", "re"): LINES,
     ("roam_live/host/socket_server.py", "GIVE", "re"): LINES,
     ("roam_live/host/socket_server.py", "GIVE_BUFFER", "re"): LINES,
@@ -130,9 +131,9 @@ KNOWN = {
     ("roam_live/protocol/paste_text.py", "DROPPED_BUT_ESCAPE", "re"): "reads a text that is pasted",
     ("roam_live/host/input_queue.py", "BEGUN", "re"): MARKS,
     ("roam_live/host/input_queue.py", "MARK", "re"): MARKS,
-    ("roam_live/host/window_commands.py", "NAME", "re"): LINES,
-    ("roam_live/host/window_commands.py", "OPEN", "re"): LINES,
-    ("roam_live/host/window_commands.py", "SHUT", "re"): LINES,
+    ("roam_live/protocol/window_lines.py", "NAME", "re"): LINES,
+    ("roam_live/protocol/window_lines.py", "OPEN", "re"): LINES,
+    ("roam_live/protocol/window_lines.py", "SHUT", "re"): LINES,
     ("roam_live/session/window_state.py", "NUMBER", "re"): NAMES,
     ("roam_live/host/window.py", "", "ESC"): "is typed where the focus comes and goes, and reads nothing",
     ("roam_live/frontend/windows.py", "OPENED", "re"): LINES,

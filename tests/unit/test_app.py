@@ -9,8 +9,9 @@ from unittest import mock
 
 from aids import Case, StillLoop, closed, read_now, record
 from roam_live.common import tty
-from roam_live.common.errors import Fault, begun
+from roam_live.common.errors import Fault
 from roam_live.common.event_loop import comes
+from roam_live.common.process import begun
 from roam_live.frontend import app, display, paste, window_view
 from roam_live.frontend.app import FrontEnd
 from roam_live.input import mouse_reports

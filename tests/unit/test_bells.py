@@ -9,7 +9,8 @@ import unittest
 from unittest import mock
 
 from aids import StillLoop
-from roam_live.protocol.bells import AGAIN, APART, MOST_FOLLOWERS, BellFollower, BellSource, Bells as Finder
+from roam_live.host.output_scan import Bells as Finder
+from roam_live.protocol.bells import AGAIN, APART, MOST_FOLLOWERS, BellFollower, BellSource
 
 # What a program writes, and whether a bell rings in it.
 BELLS = (

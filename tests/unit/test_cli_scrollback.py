@@ -6,7 +6,7 @@ from unittest import mock
 
 from aids import Case
 from roam_live.cli import paste, scrollback
-from roam_live.cli.row_texts import RowWriter, text_of
+from roam_live.cli.scrollback import RowWriter, text_of
 from roam_live.common.errors import Fault
 from roam_live.common.event_loop import ready
 from roam_live.host.paste_buffers import EMPTY, MOST_BUFFER, TOO_LONG

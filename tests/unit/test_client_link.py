@@ -6,9 +6,10 @@ import socket
 from unittest import mock
 
 from aids import Case, read_now, record
+from roam_live.cli.connection import opened
 from roam_live.common.errors import Fault
 from roam_live.common.event_loop import READ, WRITE
-from roam_live.protocol.client_link import EARLIER, FIRST_WAIT, LET_GO, LOST, MOST_ACTS, NO_MORE, PAUSES, SILENT, Keeper, StartLink, opened
+from roam_live.protocol.client_link import EARLIER, FIRST_WAIT, LET_GO, LOST, MOST_ACTS, NO_MORE, PAUSES, SILENT, Keeper, StartLink
 
 
 class SocketPeer:

@@ -8,13 +8,14 @@ import socket
 from unittest import mock
 
 from aids import Case, read_now
-from roam_live.common import errors, event_loop, files as common_files, text as common_text
-from roam_live.common.errors import Fault, Home
+from roam_live.common import errors, event_loop, files as common_files, io, process as common_process, text as common_text, unix_socket
+from roam_live.common.errors import Fault
 from roam_live.common.event_loop import Loop
 from roam_live.config import environment
-from roam_live.protocol import client_link, datagram_stream, panes_client
+from roam_live.protocol import client_link, datagram_stream, panes_client, server_address
+from roam_live.protocol.server_address import Home
 from roam_live.relay import common, far, frames, near
-from roam_live.session import foreground, host_watchdog, sessions, tmp_keepalive
+from roam_live.session import attached, folder as session_folder, foreground, host_watchdog, remote, tmp_keepalive
 
 
 class Programs(Case):
@@ -28,26 +29,26 @@ class Programs(Case):
             path.touch()
         for path in files[2:]:
             path.chmod(0o755)
-        self.patch_of(errors, "PLACES", tuple(files))
+        self.patch_of(common_process, "PLACES", tuple(files))
         self.environment(ROAM=None)
-        self.assertEqual(errors.program(), str(files[2]))
+        self.assertEqual(common_process.program(), str(files[2]))
         self.environment(ROAM=str(files[3]))
-        self.assertEqual(errors.program(), str(files[3]))
+        self.assertEqual(common_process.program(), str(files[3]))
         for named in (files[0], files[1], folder):
             self.environment(ROAM=str(named))
             with self.assertRaisesRegex(Fault, f"^{named} isn't there; make builds it$"):
-                errors.program()
+                common_process.program()
         self.environment(ROAM=None)
-        self.patch_of(errors, "PLACES", tuple(files[:2]))
+        self.patch_of(common_process, "PLACES", tuple(files[:2]))
         with self.assertRaisesRegex(Fault, f"^{files[0]} isn't there; make builds it$"):
-            errors.program()
+            common_process.program()
 
     def test_ids(self):
         """An id is 1 to 16 hexadecimal digits; a new one has 15, of which the first is none."""
         for word, is_one in (("5e55", True), ("0", True), ("ABCdef0123456789", True), ("ABCdef01234567890", False), ("", False),
                              ("g", False), ("\u0663", False)):
-            self.assertEqual(errors.is_id(word), is_one, word)
-        found = {errors.random_id() for _ in range(200)}
+            self.assertEqual(server_address.is_id(word), is_one, word)
+        found = {server_address.random_id() for _ in range(200)}
         self.assertEqual((len(found), {len(one) for one in found}), (200, {15}))
         self.assertFalse([one for one in found if one[0] in "01234567"])
 
@@ -68,7 +69,7 @@ class Homes(Case):
 
     def test_attach_words(self):
         """No id stands in a process's words where the folder keeps others out."""
-        self.patch_of(errors, "program", return_value="/roam")
+        self.patch_of(server_address, "program", return_value="/roam")
         self.assertEqual(Home(folder="/d").attach_words(["--watch"]), ["/roam", "attach", "--dir", "/d", "--watch"])
         words = Home(port=9, session="5e55").attach_words(["--watch"])
         self.assertEqual((words[:7], len(words[7]), words[8:]),
@@ -92,7 +93,7 @@ class Homes(Case):
             port = one.getsockname()[1]
             self.assertTrue(Home(port=port, session="0").is_served())
             self.assertEqual(one.recv(10), b"\0")
-        self.assertFalse(errors.is_port_served(port))
+        self.assertFalse(server_address.is_port_served(port))
         self.assertEqual(Home(port=port, session="0").why_unserved(), "")
 
 
@@ -107,67 +108,67 @@ class Waits(Case):
         """A socket that isn't there yet is waited for ten seconds, and after half of one that is said, once."""
         path = self.made_folder() / "clients"
         with self.assertRaisesRegex(Fault, f"^{path}: No such file or directory$"):
-            errors.connected(path)
+            unix_socket.connected(path)
         self.assertTrue(110.0 <= self.now < 110.1)
         self.assertEqual(self.said.getvalue().count(f"waiting for {path}\n"), 1)
         self.now = 100.0
         self.said.truncate(0)
         tries = [FileNotFoundError(2, "none")] * 20 + [ConnectionRefusedError(111, "none"), BlockingIOError(11, "full"), mock.sentinel.peer]
-        with mock.patch.object(errors, "connected_now", side_effect=tries):
-            self.assertIs(errors.connected(path), mock.sentinel.peer)
+        with mock.patch.object(unix_socket, "connected_now", side_effect=tries):
+            self.assertIs(unix_socket.connected(path), mock.sentinel.peer)
         self.assertEqual(self.said.getvalue(), "")
 
     def test_refused(self):
         """What won't come isn't waited for."""
-        with mock.patch.object(errors, "connected_now", side_effect=OSError(24, "Too many open files")):
+        with mock.patch.object(unix_socket, "connected_now", side_effect=OSError(24, "Too many open files")):
             with self.assertRaisesRegex(Fault, "^x: Too many open files$"):
-                errors.connected("x")
+                unix_socket.connected("x")
         self.assertEqual(self.now, 100.0)
 
     def test_in(self):
-        with mock.patch.object(errors, "connected_now", side_effect=BlockingIOError(11, "full")) as connects:
+        with mock.patch.object(unix_socket, "connected_now", side_effect=BlockingIOError(11, "full")) as connects:
             with self.assertRaises(BlockingIOError):
-                errors.connected_in("x", 0.5)
+                unix_socket.connected_in("x", 0.5)
         self.assertTrue(0.5 <= self.now - 100 <= 0.52 and connects.call_count >= 50)
-        with mock.patch.object(errors, "connected_now", side_effect=[BlockingIOError(11, "full"), 5]):
-            self.assertEqual(errors.connected_in("x", 0.5), 5)
+        with mock.patch.object(unix_socket, "connected_now", side_effect=[BlockingIOError(11, "full"), 5]):
+            self.assertEqual(unix_socket.connected_in("x", 0.5), 5)
 
 
 class Begun(Case):
     """Processes by their begin."""
 
     def test_own(self):
-        own = errors.begun(os.getpid())
+        own = common_process.begun(os.getpid())
         self.assertEqual(own, int(pathlib.Path("/proc/self/stat").read_text(encoding="utf-8").rpartition(")")[2].split()[19]))
-        self.assertTrue(errors.is_running(os.getpid(), own))
-        self.assertFalse(errors.is_running(os.getpid(), own + 1) or errors.is_running(os.getpid(), None))
-        self.assertIsNone(errors.begun(1 << 30))
+        self.assertTrue(common_process.is_running(os.getpid(), own))
+        self.assertFalse(common_process.is_running(os.getpid(), own + 1) or common_process.is_running(os.getpid(), None))
+        self.assertIsNone(common_process.begun(1 << 30))
 
     def test_ended(self):
         """What is left of one that has ended is none."""
         process = self.process("true")
         os.waitid(os.P_PID, process.pid, os.WEXITED | os.WNOWAIT)
-        self.assertIsNone(errors.begun(process.pid))
-        self.assertFalse(errors.is_running(process.pid, None))
+        self.assertIsNone(common_process.begun(process.pid))
+        self.assertFalse(common_process.is_running(process.pid, None))
 
     def test_opened(self):
         """A process can be read once it has ended."""
         process = self.process("cat", stdin=-1)
-        end = errors.opened_process(process.pid)
+        end = common_process.opened_process(process.pid)
         self.addCleanup(os.close, end)
         self.assertEqual(event_loop.comes(end, 0), False)
         process.stdin.close()
         self.assertEqual(event_loop.comes(end, 10), True)
         process.wait()
         with self.assertRaisesRegex(Fault, "^the session has ended$"):
-            errors.opened_process(process.pid)
+            common_process.opened_process(process.pid)
 
     def test_end(self):
         """An end is noted by the process and its begin; where that can't be written nothing is."""
         folder = self.made_folder()
-        errors.note_end(folder, 17, 99)
+        common_process.note_end(folder, 17, 99)
         self.assertEqual((folder / "ended").read_text(encoding="utf-8"), "17 99\n")
-        errors.note_end(folder / "none", 17, 99)
+        common_process.note_end(folder / "none", 17, 99)
 
 
 class Notes(Case):
@@ -182,44 +183,45 @@ class Notes(Case):
         process = self.process()
         (self.folder / "attached").mkdir(exist_ok=True)
         note = self.folder / "attached" / str(process.pid)
-        note.write_text(f"{errors.begun(process.pid)} {kind}\n", encoding="utf-8")
+        note.write_text(f"{common_process.begun(process.pid)} {kind}\n", encoding="utf-8")
         return note
 
     def test_noted(self):
         """Its file is named by the process, and has its begin and what it does; who was killed isn't counted."""
-        note = errors.noted_front_end(self.folder)
-        self.assertEqual((note.name, note.read_text(encoding="utf-8")), (str(os.getpid()), f"{errors.begun(os.getpid())} edits\n"))
-        self.assertEqual((errors.count_front_ends(self.folder), errors.has_others(self.folder)), (1, False))
+        note = attached.noted_front_end(self.folder)
+        self.assertEqual((note.name, note.read_text(encoding="utf-8")), (str(os.getpid()), f"{common_process.begun(os.getpid())} edits\n"))
+        self.assertEqual((attached.count_front_ends(self.folder), attached.has_others(self.folder)), (1, False))
         watcher = self.other("watches")
-        self.assertEqual((errors.count_front_ends(self.folder), errors.has_others(self.folder)), (2, False))
+        self.assertEqual((attached.count_front_ends(self.folder), attached.has_others(self.folder)), (2, False))
         self.other("edits")
-        self.assertEqual((errors.count_front_ends(self.folder), errors.has_others(self.folder)), (3, True))
+        self.assertEqual((attached.count_front_ends(self.folder), attached.has_others(self.folder)), (3, True))
         watcher.write_text("1 watches\n", encoding="utf-8")
         for name, text in (("1073741824", "5 edits\n"), ("1073741825", ""), ("x", "1 edits\n"), ("1073741826", "x")):
             (self.folder / "attached" / name).write_text(text, encoding="utf-8")
-        self.assertEqual(errors.count_front_ends(self.folder), 2)
+        self.assertEqual(attached.count_front_ends(self.folder), 2)
         self.assertEqual(len(list((self.folder / "attached").iterdir())), 2)
 
     def test_none(self):
-        self.assertEqual((errors.noted_front_end(None), errors.has_others(None), errors.count_front_ends(self.folder)), (None, False, 0))
+        found = attached.noted_front_end(None), attached.has_others(None), attached.count_front_ends(self.folder)
+        self.assertEqual(found, (None, False, 0))
         with self.assertRaisesRegex(Fault, "/none is no folder$"):
-            errors.noted_front_end(self.folder / "none")
+            attached.noted_front_end(self.folder / "none")
         (self.folder / "attached").touch()
-        self.assertIsNone(errors.noted_front_end(self.folder))
+        self.assertIsNone(attached.noted_front_end(self.folder))
         self.assertIn("this front end isn't counted: ", self.said.getvalue())
-        self.assertEqual(errors.kind_of(self.folder / "no"), "")
+        self.assertEqual(attached.kind_of(self.folder / "no"), "")
 
     def test_replaced(self):
         """Who reads a file finds the old or the new text whole; where it can't be written the old one stays, and nothing beside it."""
         path = self.folder / "note"
-        errors.replace_text(path, "one")
-        errors.replace_text(path, "two", f"{path}.new")
+        common_files.replace_text(path, "one")
+        common_files.replace_text(path, "two", f"{path}.new")
         self.assertEqual([one.name for one in self.folder.iterdir()], ["note"])
         with mock.patch("os.replace", side_effect=OSError(28, "full")), self.assertRaises(OSError):
-            errors.replace_text(path, "three")
+            common_files.replace_text(path, "three")
         self.assertEqual((path.read_text(encoding="utf-8"), [one.name for one in self.folder.iterdir()]), ("two", ["note"]))
         with self.assertRaises(OSError):
-            errors.replace_text(self.folder / "none/x", "y")
+            common_files.replace_text(self.folder / "none/x", "y")
 
 
 class Ends(Case):
@@ -228,32 +230,32 @@ class Ends(Case):
     def test_read(self):
         """Nothing now is None, and no more ever is nothing; 65,536 bytes at most come at once."""
         one, other = self.pair()
-        self.assertIsNone(errors.read(one.fileno()))
+        self.assertIsNone(io.read(one.fileno()))
         other.send(b"ab")
-        self.assertEqual(errors.read(one.fileno()), b"ab")
+        self.assertEqual(io.read(one.fileno()), b"ab")
         other.close()
-        self.assertEqual((errors.read(one.fileno()), errors.read(1 << 20)), (b"", b""))
+        self.assertEqual((io.read(one.fileno()), io.read(1 << 20)), (b"", b""))
         with mock.patch("os.read", return_value=b"x") as reads:
-            errors.read(7)
+            io.read(7)
         reads.assert_called_once_with(7, 65536)
 
     def test_write(self):
         one, other = self.pair()
         waiting = bytearray(b"abc")
-        self.assertTrue(errors.write(one.fileno(), waiting))
+        self.assertTrue(io.write(one.fileno(), waiting))
         self.assertEqual((waiting, read_now(other)), (b"", b"abc"))
         waiting += bytes(100_000)
         with mock.patch("os.write", side_effect=[65536, BlockingIOError(11, "full")]) as writes:
-            self.assertTrue(errors.write(7, waiting) and errors.write(7, waiting))
+            self.assertTrue(io.write(7, waiting) and io.write(7, waiting))
             self.assertEqual((len(writes.call_args_list[0][0][1]), len(waiting)), (65536, 34464))
         other.close()
-        self.assertFalse(errors.write(one.fileno(), waiting))
+        self.assertFalse(io.write(one.fileno(), waiting))
         self.assertEqual(waiting, b"")
 
     def test_woken(self):
         """Signals that come are told over a pipe."""
         before = signal.getsignal(signal.SIGUSR2)
-        reader = errors.woken(signal.SIGUSR2)
+        reader = common_process.woken(signal.SIGUSR2)
         try:
             os.kill(os.getpid(), signal.SIGUSR2)
             self.assertEqual(os.read(reader, 9), bytes([signal.SIGUSR2]))
@@ -336,10 +338,10 @@ class Ends(Case):
     def test_lines(self):
         """Lines come whole, wherever they are cut."""
         for cut in range(26):
-            lines = errors.Lines()
+            lines = io.Lines()
             text = b"1 23 80 1\nfocus 1\n\xc3\xa9\xff\n2 "
             self.assertEqual(lines.fed(text[:cut]) + lines.fed(text[cut:]), ["1 23 80 1", "focus 1", "\u00e9\ufffd"], cut)
-        lines = errors.Lines()
+        lines = io.Lines()
         self.assertEqual((lines.fed(b"x" * 65535), lines.fed(b"\n")), ([], ["x" * 65535]))
         self.assertEqual((lines.fed(b"x" * 65536), lines.fed(b"y\nz\n")), ([], ["z"]))
         self.assertEqual((lines.fed(b"x" * 65535), lines.fed(b"y"), lines.fed(b"y" * 70000), lines.fed(b"\n\nz\n")), ([], [], [], ["", "z"]))
@@ -412,7 +414,7 @@ class Steps(Case):
         self.addCleanup(lambda: [signal.signal(number, action) for number, action in before.items()])
         for number in before:
             signal.signal(number, lambda number, frame: None)
-        errors.unwoken(*before)
+        common_process.unwoken(*before)
         self.assertEqual({signal.getsignal(number) for number in before}, {signal.SIG_DFL})
 
 
@@ -494,32 +496,32 @@ class Numbers(Case):
     def test_holder(self):
         """Who holds a folder is known by the system's list of locks."""
         folder = self.made_folder()
-        self.assertEqual((errors.holder_of(folder), errors.holder_of(folder / "none")), (None, None))
+        self.assertEqual((common_process.holder_of(folder), common_process.holder_of(folder / "none")), (None, None))
         holds = "import fcntl, os, sys, time; fcntl.flock(os.open(sys.argv[1], 0), 2); print(flush=True); time.sleep(60)"
         other = self.process(sys.executable, "-c", holds, str(folder), stdout=subprocess.PIPE)
         self.addCleanup(other.stdout.close)
         other.stdout.readline()
-        self.assertEqual((errors.holder_of(folder), errors.is_locked(folder)), (other.pid, True))
+        self.assertEqual((common_process.holder_of(folder), common_files.is_locked(folder)), (other.pid, True))
         other.kill()
         other.wait()
-        self.assertEqual((errors.holder_of(folder), errors.is_locked(folder)), (None, False))
+        self.assertEqual((common_process.holder_of(folder), common_files.is_locked(folder)), (None, False))
 
     def test_age(self):
         """How long a process has been there."""
-        self.assertTrue(0 <= errors.age_of(self.process().pid) < 30)
-        self.assertEqual(errors.age_of(0), 0.0)
+        self.assertTrue(0 <= common_process.age_of(self.process().pid) < 30)
+        self.assertEqual(common_process.age_of(0), 0.0)
 
     def test_full(self):
         """A disk is full where it has no blocks or no files left; one that counts neither never is."""
         for blocks, left, files, free, wanted in ((9, 0, 9, 9, True), (9, 9, 9, 0, True), (9, 1, 9, 1, False), (0, 0, 0, 0, False)):
             found = mock.Mock(f_blocks=blocks, f_bavail=left, f_files=files, f_favail=free)
             with mock.patch("os.statvfs", return_value=found) as asked:
-                self.assertIs(errors.is_disk_full("/x/y/terminals"), wanted)
+                self.assertIs(common_files.is_disk_full("/x/y/terminals"), wanted)
             asked.assert_called_once_with("/x/y")
-        self.assertFalse(errors.is_disk_full("/nowhere/at/all"))
+        self.assertFalse(common_files.is_disk_full("/nowhere/at/all"))
 
     def test_limits(self):
-        self.assertEqual((errors.LONGEST_WAIT, errors.SAID_AFTER, errors.UNREAD_LIMIT, errors.LONGEST_LINE), (10.0, 0.5, 65536, 65536))
+        self.assertEqual((unix_socket.LONGEST_WAIT, unix_socket.SAID_AFTER, io.UNREAD_LIMIT, io.LONGEST_LINE), (10.0, 0.5, 65536, 65536))
         self.assertEqual((common_files.LOG_LIMIT, common_files.KEPT, common_text.SAID_LIMIT), (1 << 20, 1 << 19, 64 * 1024))
         self.assertEqual((environment.PREFIX, environment.GUESSING), ("C-b", ("adaptive", "always", "never")))
         codes = {"C-a": 1, "C-z": 26, "C-]": 29, "C-\\": 28, "C-^": 30, "C-_": 31}
@@ -533,7 +535,7 @@ class Numbers(Case):
 
     def test_relay(self):
         """A relay is alone for an hour, its far end half a minute; seven seconds are silence; `ls` tells of more than 32 starts."""
-        self.assertEqual((sessions.ALONE, sessions.MANY_STARTS), (3600, 32))
+        self.assertEqual((remote.ALONE, session_folder.MANY_STARTS), (3600, 32))
         self.assertEqual((near.SILENT, far.ALONE, common.PEER_LIMIT, frames.HEARTBEAT), (7.0, 30.0, 256, 3.0))
         self.assertEqual((frames.VERSION, frames.NOISE_LIMIT, frames.MOST_TOLD, frames.WAITING_LIMIT), (2, 65536, 4097, 4 << 20))
 

@@ -4,7 +4,7 @@ import subprocess
 import tempfile
 import unittest
 
-from roam_live.common.errors import TOOLS
+from roam_live.common.process import TOOLS
 
 COMPLETES = r"""
 source "$1"

@@ -9,8 +9,9 @@ import time
 import unittest
 from unittest import mock
 
-from roam_live.common import errors
+from roam_live.common import errors, files, io as common_io, unix_socket
 from roam_live.common.listener import listening
+from roam_live.session import attached
 
 
 class Connections(unittest.TestCase):
@@ -29,16 +30,16 @@ class Connections(unittest.TestCase):
         self.listener.listen(1)
         with self.assertRaises(BlockingIOError):
             while True:
-                self.addCleanup(errors.connected_now(self.path).close)
+                self.addCleanup(unix_socket.connected_now(self.path).close)
 
     def test_own(self):
         """Who listens is known: this process, of this user."""
         self.listener.listen()
-        with errors.connected_now(self.path) as end:
-            self.assertEqual(errors.SocketPeer.of(end), (os.getpid(), os.getuid()))
+        with unix_socket.connected_now(self.path) as end:
+            self.assertEqual(unix_socket.SocketPeer.of(end), (os.getpid(), os.getuid()))
             with self.listener.accept()[0] as taken:
-                self.assertTrue(errors.is_own_peer(taken))
-                self.assertEqual(errors.SocketPeer.of(taken).process, os.getpid())
+                self.assertTrue(unix_socket.is_own_peer(taken))
+                self.assertEqual(unix_socket.SocketPeer.of(taken).process, os.getpid())
 
     def test_another_user(self):
         """Another's socket isn't taken, and the refusal names the user: also for the superuser, and where it is the superuser's."""
@@ -47,49 +48,49 @@ class Connections(unittest.TestCase):
         for own in {0, 1, 54321} - {there}:
             with mock.patch("os.getuid", return_value=own):
                 with self.assertRaises(PermissionError) as refused:
-                    errors.connected_now(self.path)
+                    unix_socket.connected_now(self.path)
                 self.assertEqual(errors.reason(refused.exception), f"user {there} listens there, and not you")
-                self.assertFalse(errors.is_listened(self.path))
-                self.assertEqual(errors.unheard(self.path), f"user {there} listens there, and not you")
+                self.assertFalse(unix_socket.is_listened(self.path))
+                self.assertEqual(unix_socket.unheard(self.path), f"user {there} listens there, and not you")
                 with self.assertRaisesRegex(errors.Fault, f"user {there} listens there"):
-                    errors.connected(self.path)
+                    unix_socket.connected(self.path)
 
     def test_one_who_connects(self):
         """One of another user who connects is known as such, and so is what is no Unix socket."""
         one, other = socket.socketpair()
         with one, other, mock.patch("os.getuid", return_value=54321):
-            self.assertFalse(errors.is_own_peer(one))
+            self.assertFalse(unix_socket.is_own_peer(one))
         with socket.socket(socket.AF_INET, socket.SOCK_DGRAM) as end:
-            self.assertFalse(errors.is_own_peer(end))
+            self.assertFalse(unix_socket.is_own_peer(end))
 
     def test_full(self):
         """A listener that takes none now is there, and nobody waits for it longer than is asked."""
         self.fill()
         before = time.monotonic()
-        self.assertTrue(errors.is_listened(self.path))
+        self.assertTrue(unix_socket.is_listened(self.path))
         with self.assertRaises(BlockingIOError):
-            errors.connected_now(self.path)
+            unix_socket.connected_now(self.path)
         self.assertLess(time.monotonic() - before, 1)
         with self.assertRaises(BlockingIOError):
-            errors.connected_in(self.path, 0.05)
+            unix_socket.connected_in(self.path, 0.05)
         self.assertGreaterEqual(time.monotonic() - before, 0.05)
 
     def test_nobody(self):
         """Nobody is where no file is, and where the file is left alone."""
-        self.assertFalse(errors.is_listened(self.path.with_name("none")))
+        self.assertFalse(unix_socket.is_listened(self.path.with_name("none")))
         self.listener.listen()
         self.listener.close()
-        self.assertFalse(errors.is_listened(self.path))
+        self.assertFalse(unix_socket.is_listened(self.path))
 
     def test_listening(self):
         """A socket's file is taken from nobody who listens there."""
         self.listener.listen()
         with self.assertRaisesRegex(errors.Fault, "somebody listens at .* already"):
             listening(str(self.path))
-        self.assertTrue(errors.is_listened(self.path))
+        self.assertTrue(unix_socket.is_listened(self.path))
         self.listener.close()
         with listening(str(self.path)):
-            self.assertTrue(errors.is_listened(self.path))
+            self.assertTrue(unix_socket.is_listened(self.path))
 
 
 class Lines(unittest.TestCase):
@@ -97,10 +98,10 @@ class Lines(unittest.TestCase):
 
     def test_bounded(self):
         """A line without an end isn't kept for good, and one behind it is read."""
-        lines = errors.Lines()
+        lines = common_io.Lines()
         for _ in range(40):
             self.assertEqual(lines.fed(b"x" * 4096), [])
-        self.assertLess(len(lines.rest), errors.LONGEST_LINE)
+        self.assertLess(len(lines.rest), common_io.LONGEST_LINE)
         self.assertEqual(lines.fed(b"\nfocus 1\n")[-1], "focus 1")
 
 
@@ -110,19 +111,19 @@ class Kept(unittest.TestCase):
     def test_limit(self):
         """65,536 bytes wait, and no more."""
         waiting = bytearray()
-        self.assertTrue(errors.keep(waiting, b"x" * 65536))
-        self.assertFalse(errors.keep(waiting, b"y"))
+        self.assertTrue(common_io.keep(waiting, b"x" * 65536))
+        self.assertFalse(common_io.keep(waiting, b"y"))
         self.assertEqual(waiting, b"x" * 65536)
         del waiting[:2]
-        self.assertTrue(errors.keep(waiting, b"yz"))
+        self.assertTrue(common_io.keep(waiting, b"yz"))
         self.assertEqual(waiting[-3:], b"xyz")
-        self.assertTrue(errors.keep(waiting, b""))
+        self.assertTrue(common_io.keep(waiting, b""))
 
     def test_characters(self):
         """A character that doesn't fit whole isn't kept in part."""
         for room in range(5):
             waiting = bytearray(65536 - room)
-            self.assertEqual(errors.keep(waiting, "\u20ac".encode()), room >= 3)
+            self.assertEqual(common_io.keep(waiting, "\u20ac".encode()), room >= 3)
             self.assertEqual(len(waiting), 65536 - room + (3 if room >= 3 else 0))
 
 
@@ -135,11 +136,11 @@ class Folders(unittest.TestCase):
             link, file = pathlib.Path(made, "link"), pathlib.Path(made, "file")
             link.symlink_to(made)
             file.touch()
-            self.assertEqual([errors.is_own_folder(path) for path in (made, link, file, f"{made}/none")], [True, True, False, False])
+            self.assertEqual([files.is_own_folder(path) for path in (made, link, file, f"{made}/none")], [True, True, False, False])
             with mock.patch("os.getuid", return_value=54321):
-                self.assertFalse(errors.is_own_folder(made))
+                self.assertFalse(files.is_own_folder(made))
                 said = io.StringIO()
                 with contextlib.redirect_stderr(said):
-                    self.assertIsNone(errors.noted_front_end(made))
+                    self.assertIsNone(attached.noted_front_end(made))
                 self.assertIn("this front end isn't counted: ", said.getvalue())
                 self.assertEqual(sorted(path.name for path in pathlib.Path(made).iterdir()), ["file", "link"])

@@ -10,7 +10,6 @@ from unittest import mock
 from aids import Case
 from emulated import Emulated
 from roam_live.common import tty
-from roam_live.common.errors import noted_front_end
 from roam_live.common.event_loop import Loop
 from roam_live.config.environment import PREFIXES
 from roam_live.frontend import display
@@ -20,6 +19,7 @@ from roam_live.frontend.display import Display, wrapped
 from roam_live.input.keys import BRACKETS
 from roam_live.protocol.display_records import ToldRecord
 from roam_live.protocol.panes import Places, Rect
+from roam_live.session.attached import noted_front_end
 
 FITS = "C-b r fits"
 

@@ -5,7 +5,7 @@ import subprocess
 import unittest
 
 from aids import Case, loaded
-from roam_live.common.errors import TOOLS
+from roam_live.common.process import TOOLS
 
 PROGRAM = "#!/bin/sh\necho program \"$@\"\n[ $# != 0 ] || exit 2\n"
 MUX = "import sys\nprint('mux', *sys.argv[1:])\n"

@@ -4,7 +4,7 @@ import os
 import sys
 
 from aids import read_now
-from roam_live.common.errors import connected_now
+from roam_live.common.unix_socket import connected_now
 from roam_live.host import pane, window
 from test_pty_host import Keeper
 

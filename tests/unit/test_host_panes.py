@@ -13,7 +13,7 @@ import unittest
 import unittest.mock
 
 from aids import StillLoop
-from roam_live.common.errors import TOOLS
+from roam_live.common.process import TOOLS
 from roam_live.host import pane as host_pane
 from roam_live.host.input_queue import TypedQueue
 from roam_live.host.pending_pastes import GivenTexts

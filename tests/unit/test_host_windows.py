@@ -8,14 +8,16 @@ import socket
 from unittest import mock
 
 from aids import Case, StillLoop, read_now
-from roam_live.common import errors
-from roam_live.common.errors import Fault, begun
+from roam_live.common import process as common_process
+from roam_live.common.errors import Fault
+from roam_live.common.process import begun
 from roam_live.host import pane as host_pane, repair, window as host_window, window_processes, windows
-from roam_live.host.pending_spawns import Begins
-from roam_live.host.window_commands import ASKED_AGAIN, MOST_WINDOWS, name_in, name_word
+from roam_live.host.window_commands import ASKED_AGAIN
 from roam_live.host.window_processes import SERVER, TERMINALS, WindowProcesses
 from roam_live.host.windows import ENDING, ENDS, FULL, OPENS, OVER, THERE, Windows
 from roam_live.protocol.panes import Rect
+from roam_live.protocol.spawn_request import Begins
+from roam_live.protocol.window_lines import MOST_WINDOWS, name_in, name_word
 from roam_live.session.window_state import note_ends, numbers_in, stands_ready
 
 
@@ -28,7 +30,7 @@ class Played(Case):
         self.folder, self.said = self.made_folder(), self.heard()
         self.wakeup = self.pipe()[0]
         self.made, self.spawned, self.killed = [], [], []
-        self.patch_of(host_pane.tty, "forked", side_effect=self.forked)
+        self.patch_of(host_pane.spawn, "forked", side_effect=self.forked)
         self.patch_of(host_window, "has_ended", return_value=False)
         self.patch_of(WindowProcesses, "spawn", lambda processes, role, words: self.spawn(processes, role))
         self.patch_of(window_processes, "program", lambda: "/roam")
@@ -799,7 +801,7 @@ class Mended(Played):
         other.mkdir()
         self.clean(True)
         self.folder.mkdir(0o700)
-        state = {"version": 4, "command": [], "shells": [1, errors.begun(1)]}
+        state = {"version": 4, "command": [], "shells": [1, common_process.begun(1)]}
         self.alive.add(1)
         with mock.patch("roam_live.session.processes.is_running", lambda process, moment: process == 1):
             (self.folder / "state.json").write_text(json.dumps(state))

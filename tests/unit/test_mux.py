@@ -15,8 +15,10 @@ from roam_live.config.user_file import OWN, settings_path
 from roam_live.frontend import app
 from roam_live.protocol.panes import Places, Rect
 from roam_live.relay.frames import greeting
-from roam_live.session import environment as session_environment, sessions
-from roam_live.session.sessions import FolderSession, NearSession, WindowedSession
+from roam_live.session import environment as session_environment, folder as session_folder, lookup
+from roam_live.session.folder import FolderSession
+from roam_live.session.remote import NearSession
+from roam_live.session.windowed import WindowedSession
 
 mux = loaded("mux")
 PAGE = pathlib.Path(__file__).resolve().parents[2] / "docs/man/roam-mux.1"
@@ -28,7 +30,7 @@ class Mux(Case):
     def setUp(self):
         self.base = self.made_folder() / "roam"
         self.base.mkdir(mode=0o700)
-        for module in (sessions, ssh):
+        for module in (session_folder, lookup, ssh):
             self.patch_of(module, "base", lambda: self.base)
         self.environment(ROAM_PREFIX=None, ROAM_GUESS=None, ROAM_MOUSE=None, ROAM_CLIPBOARD=None, ROAM_PANE=None, ROAM_HISTORY=None,
                          SHELL="/bin/sh", TERM="xterm")

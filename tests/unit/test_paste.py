@@ -6,11 +6,10 @@ from aids import Case, StillLoop
 from roam_live.frontend import paste
 from roam_live.frontend.paste import (BEHIND_IT, COUNTS, DROPPED, DROPS, ENDS, FULL_BEHIND, HANDING, LOST_WORDS, MOST_BEHIND, NOT_TAKEN,
                                       SHORT, TOO_LONG, Pastes, weight)
-from roam_live.host.pending_pastes import FULL
 from roam_live.input.keys import BRACKETS
 from roam_live.protocol.host_client import GIVES_AGAIN, LATER, MOST_GIVING, UNTOLD, ShellsLink
 from roam_live.protocol.panes_client import PAUSES
-from roam_live.protocol.paste_text import mark_acts
+from roam_live.protocol.paste_text import FULL, mark_acts
 from test_display import Person, PlayedPanes, StartLink, places
 from test_socket_server import Sockets
 

@@ -13,7 +13,7 @@ import unittest
 from unittest import mock
 
 from aids import Case
-from roam_live.common.errors import TOOLS, begun
+from roam_live.common.process import TOOLS, begun
 from roam_live.relay import path_setup
 from roam_live.relay.aead_packets import Seal, udp_end
 from roam_live.relay.path_setup import (ASKS_AGAIN, SEALED_HEAD, Finder, NearPath, address_in, forget_note, is_wanted, kept_name, made_path,

@@ -9,12 +9,13 @@ from unittest import mock
 from aids import Case, StillLoop, read_now
 from roam_live.common import tty
 from roam_live.common.event_loop import comes
-from roam_live.host import input_queue, pane, pending_pastes
+from roam_live.host import input_queue, pane
 from roam_live.host.input_queue import Marks, TypedQueue
-from roam_live.host.pending_pastes import HELD, KEPT, LOST, MOST_SPENT, MOST_TEXTS, PUT, TOO_LONG, TOO_MANY, GivenText, GivenTexts
+from roam_live.host.pending_pastes import KEPT, MOST_SPENT, GivenText, GivenTexts
 from roam_live.host.socket_server import LONGEST_LINE
 from roam_live.protocol import paste_text
-from roam_live.protocol.paste_text import CLOSES, MOST_BYTES, OPENS, cleaned, mark_acts, random_name, without_brackets
+from roam_live.protocol.paste_text import (CLOSES, HELD, LOST, MOST_BYTES, MOST_TEXTS, OPENS, PUT, TOO_LONG, TOO_MANY, cleaned, mark_acts,
+                                           random_name, without_brackets)
 from test_socket_server import NAMED, Sockets
 
 NAME, OTHER = "0123456789abcdef", "fedcba9876543210"
@@ -377,7 +378,7 @@ class Waiting(Case):
             self.texts.drop(GivenText(f"{number:016x}", b"x", False))
             self.texts.take(GivenText(f"{number + 1:016x}", b"x", False))
         self.assertLessEqual(len(self.texts.spent), MOST_SPENT)
-        self.assertEqual(pending_pastes.PUT, "put")
+        self.assertEqual(paste_text.PUT, "put")
 
 
 class Given(Sockets):

@@ -6,10 +6,11 @@ from unittest import mock
 
 from aids import Case, loaded
 from painted import PaintedCells, cells_of_rows, width_of
-from roam_live.common.errors import Fault, Home
+from roam_live.common.errors import Fault
 from roam_live.protocol import screen_cells
 from roam_live.protocol.display_records import NoRecord
 from roam_live.protocol.screen_cells import ShownCells, Style, styled
+from roam_live.protocol.server_address import Home
 
 picture = loaded("picture")
 PLACE = "{http://www.w3.org/2000/svg}"

@@ -15,7 +15,7 @@ from test_app import Fronts
 LIVE = pathlib.Path(preload.__file__).resolve().parents[2]
 
 # What a process has loaded in which a front end runs: `mux`, or `attach`.
-ROOTS = ("roam_live.frontend.app", "roam_live.session.sessions", "roam_live.session.port_session")
+ROOTS = ("roam_live.frontend.app", "roam_live.session.lookup", "roam_live.session.port_session")
 
 
 def names_of(node):

@@ -10,19 +10,22 @@ from unittest import mock
 
 from aids import Case, read_now, record
 from roam_live.cli import capture, send
-from roam_live.cli.parsing import WordParser
-from roam_live.common.errors import Fault, Home, begun
+from roam_live.cli.args import WordParser
+from roam_live.common.errors import Fault
 from roam_live.common.event_loop import READ, WRITE
+from roam_live.common.process import begun
 from roam_live.host import window, windows
 from roam_live.protocol import datagram_stream
 from roam_live.protocol.client_link import StartLink
 from roam_live.protocol.datagram_stream import LONGEST, SHORTEST, Carrier
 from roam_live.protocol.panes import Places, Rect
+from roam_live.protocol.server_address import Home
 from roam_live.relay.frames import greeting, read_greeting
-from roam_live.session import port_session, processes, sessions
+from roam_live.session import folder as session_folder, lookup, names as session_names, port_session, processes, remote
+from roam_live.session.folder import VERSION, FolderSession
 from roam_live.session.port_session import PortSession
 from roam_live.session.processes import Processes, is_note
-from roam_live.session.sessions import VERSION, FolderSession, NearSession
+from roam_live.session.remote import NearSession
 
 OWN = [os.getpid(), begun(os.getpid())]
 
@@ -33,7 +36,8 @@ class Based(Case):
     def setUp(self):
         self.base = self.made_folder() / "roam"
         self.base.mkdir(mode=0o700)
-        self.patch_of(sessions, "base", lambda: self.base)
+        for module in (session_folder, lookup):
+            self.patch_of(module, "base", lambda: self.base)
         self.folder = self.base / "main"
         self.folder.mkdir()
         self.said = self.heard()
@@ -152,7 +156,7 @@ class Read(Based):
         """One whose note is lost is found by its sockets, and its command by what keeps the shells."""
         session = self.session()
         self.patch_of(FolderSession, "listener", lambda _, name: {"clients": OWN[0], "bells": OWN[0]}.get(name))
-        with mock.patch.object(sessions, "command_of", return_value=["vi"]) as asks:
+        with mock.patch.object(session_folder, "command_of", return_value=["vi"]) as asks:
             self.assertTrue(session.find())
         asks.assert_called_once_with(OWN[0], self.folder)
         self.assertEqual(session.state, {"version": 3, "command": ["vi"], "server": OWN, "shells": OWN})
@@ -163,10 +167,10 @@ class Read(Based):
         for name, is_one in (("main", True), ("a-b_9", True), ("x" * 32, True), ("x" * 33, False), ("", False), ("a.b", False),
                              ("\u00e9", False)):
             if is_one:
-                sessions.check_name(name)
+                session_names.check_name(name)
             else:
                 with self.assertRaisesRegex(Fault, "is no name: letters, digits, - and _, 32 at most$"):
-                    sessions.check_name(name)
+                    session_names.check_name(name)
         with self.assertRaisesRegex(Fault, "is too long for a socket's path$"):
             FolderSession(self.base / ("x" * (108 - len(str(self.base)) - len("//terminals"))))
         FolderSession(self.base / ("x" * (107 - len(str(self.base)) - len("//terminals"))))
@@ -177,9 +181,9 @@ class Bases(Case):
 
     def setUp(self):
         self.folder, self.said = self.made_folder(), self.heard()
-        self.path = self.patch_of(sessions.pathlib, "Path", side_effect=self.path_of)
-        sessions.base.cache_clear()
-        self.addCleanup(sessions.base.cache_clear)
+        self.path = self.patch_of(session_names.pathlib, "Path", side_effect=self.path_of)
+        session_names.base.cache_clear()
+        self.addCleanup(session_names.base.cache_clear)
 
     def path_of(self, *words):
         """A path, with the folder here in place of /tmp."""
@@ -187,18 +191,18 @@ class Bases(Case):
 
     def test_runtime(self):
         self.environment(XDG_RUNTIME_DIR=str(self.folder))
-        self.assertEqual(sessions.base(), self.folder / "roam")
+        self.assertEqual(session_names.base(), self.folder / "roam")
         self.assertEqual((self.folder / "roam").stat().st_mode & 0o777, 0o700)
 
     def test_tmp(self):
         self.environment(XDG_RUNTIME_DIR=None)
-        self.assertEqual(sessions.base(), self.folder / f"roam-{os.getuid()}")
+        self.assertEqual(session_names.base(), self.folder / f"roam-{os.getuid()}")
         self.assertEqual(self.said.getvalue(), "")
 
     def test_not_own(self):
         """One of another user is told of and not used."""
         self.environment(XDG_RUNTIME_DIR=str(self.folder / "none"))
-        self.assertEqual(sessions.base().name, f"roam-{os.getuid()}")
+        self.assertEqual(session_names.base().name, f"roam-{os.getuid()}")
         self.assertIn("none, which is no folder of yours; /tmp has the sessions\n", self.said.getvalue())
 
     def test_written(self):
@@ -206,11 +210,11 @@ class Bases(Case):
         self.environment(XDG_RUNTIME_DIR=str(self.folder))
         for mode in (0o777, 0o1777, 0o770, 0o702):
             self.folder.chmod(mode)
-            sessions.base.cache_clear()
+            session_names.base.cache_clear()
             with self.assertRaisesRegex(Fault, "^XDG_RUNTIME_DIR is .*, which others may write"):
-                sessions.base()
+                session_names.base()
         self.folder.chmod(0o755)
-        self.assertEqual(sessions.base(), self.folder / "roam")
+        self.assertEqual(session_names.base(), self.folder / "roam")
 
     def test_open(self):
         """A folder that others may enter, a link and what is no folder are refused in a line that says which it has to be."""
@@ -218,15 +222,15 @@ class Bases(Case):
         there = self.folder / f"roam-{os.getuid()}"
         for made in (lambda: (there.mkdir(), there.chmod(0o750)), lambda: there.symlink_to(self.folder), lambda: there.touch(),
                      lambda: os.mkfifo(there), lambda: self.listening(there), lambda: there.symlink_to(self.folder / "none")):
-            sessions.base.cache_clear()
+            session_names.base.cache_clear()
             made()
             with self.assertRaisesRegex(Fault, "has to be a folder that you own and nobody else may enter$"):
-                sessions.base()
+                session_names.base()
             there.rmdir() if there.is_dir() and not there.is_symlink() else there.unlink()
         with mock.patch("os.getuid", return_value=os.getuid() + 1):
             (self.folder / f"roam-{os.getuid()}").mkdir(mode=0o700)
             with self.assertRaisesRegex(Fault, "has to be a folder that you own"):
-                sessions.base()
+                session_names.base()
 
 
 class Starts(Based):
@@ -234,7 +238,7 @@ class Starts(Based):
 
     def setUp(self):
         super().setUp()
-        self.patch_of(sessions, "program", return_value="/roam")
+        self.patch_of(session_folder, "program", return_value="/roam")
         self.patch_of(FolderSession, "spawned", lambda session, role, words, *_, **__: self.spawn(session, role, words))
         self.patch_of(FolderSession, "wait_for", lambda session, role, before, test: self.waits.append((role, before, test)))
         self.words, self.waits = [], []
@@ -250,7 +254,7 @@ class Starts(Based):
         (self.folder / "log").write_bytes(b"said before\n")
         session = self.session()
         session.launch(["vi", "x"])
-        tools = str(sessions.TOOLS / "pane_shells")
+        tools = str(session_folder.TOOLS / "pane_shells")
         self.assertEqual(self.words, [("server", ["/roam", "serve", "--as-meant", "--dir", str(self.folder)]),
                                       ("shells", [tools, "--close", "--server", str(OWN[0]), str(self.folder), "vi", "x"])])
         role, before, test = self.waits[0]
@@ -467,14 +471,14 @@ class Spawned(Based):
         """What may ask is in front of the terminal while it does; where there is none that is no fault."""
         opens, sets = self.patch("os.open", return_value=55), self.patch("os.tcsetpgrp")
         closes, handles = self.patch("os.close"), self.patch("signal.signal", return_value="before")
-        sessions.take_front(9)
+        remote.take_front(9)
         self.assertEqual((opens.call_args[0][0], sets.call_args[0], closes.call_args[0]), ("/dev/tty", (55, 9), (55,)))
         self.assertEqual(handles.call_args_list, [mock.call(signal.SIGTTOU, signal.SIG_IGN), mock.call(signal.SIGTTOU, "before")])
         opens.side_effect = OSError(6, "No such device or address")
-        sessions.take_front(9)
+        remote.take_front(9)
         self.patch("os.getpgrp", return_value=3)
-        with mock.patch("os.setpgid") as parts, mock.patch.object(sessions, "take_front") as takes:
-            sessions.in_front()
+        with mock.patch("os.setpgid") as parts, mock.patch.object(remote, "take_front") as takes:
+            remote.in_front()
         self.assertEqual((parts.call_args[0], takes.call_args[0]), ((0, 0), (3,)))
         self.assertIn(mock.call(signal.SIGTSTP, signal.SIG_IGN), handles.call_args_list)
 
@@ -483,11 +487,11 @@ class Spawned(Based):
         near = NearSession(self.base / "ssh:there:main", "main")
         near.folder.mkdir()
         (near.folder / "ended").touch()
-        with mock.patch.object(sessions, "take_front") as takes, mock.patch.object(NearSession, "spawned") as spawns:
+        with mock.patch.object(remote, "take_front") as takes, mock.patch.object(NearSession, "spawned") as spawns:
             spawns.return_value.stdout.readline.return_value = b"port - session abc\n"
             self.assertEqual(near.launch_relay(["ssh", "there"]), 0)
-        words = [str(sessions.TOOLS / "relay"), "--alone", "3600", "--log", str(near.log), "--dir", str(near.folder), "-", "ssh", "there"]
-        self.assertEqual(spawns.call_args, mock.call("relay", words, sessions.in_front, is_heard=True))
+        words = [str(remote.TOOLS / "relay"), "--alone", "3600", "--log", str(near.log), "--dir", str(near.folder), "-", "ssh", "there"]
+        self.assertEqual(spawns.call_args, mock.call("relay", words, remote.in_front, is_heard=True))
         takes.assert_called_once_with(os.getpgrp())
         self.assertFalse((near.folder / "ended").exists())
 
@@ -552,7 +556,7 @@ class Sends(Based):
         self.link.peer, self.start = self.pair()
         self.link.records.begun = True
         self.runs = self.patch_of(send.subprocess, "run", return_value=mock.Mock(returncode=0))
-        self.patch("roam_live.common.errors.program", return_value="/roam")
+        self.patch("roam_live.protocol.server_address.program", return_value="/roam")
         self.answers, self.asked = [], []
         self.patch("roam_live.protocol.client_link.ready", self.ready)
 

@@ -8,8 +8,9 @@ from unittest import mock
 
 from aids import Case, StillLoop, loaded, read_now
 from filtered import played
-from roam_live.common.errors import Fault, begun
+from roam_live.common.errors import Fault
 from roam_live.common.event_loop import READ, WRITE
+from roam_live.common.process import begun
 from roam_live.host import pane as host_pane, scrollback, window
 from roam_live.host.input_queue import TypedQueue
 from roam_live.host.pending_pastes import GivenTexts
@@ -35,7 +36,7 @@ class Keeper(Case):
         self.wakeup, self.wakes = self.pipe()
         self.said = self.heard()
         self.made = []
-        self.patch_of(host_pane.tty, "forked", side_effect=self.forked)
+        self.patch_of(host_pane.spawn, "forked", side_effect=self.forked)
         self.kills = self.patch("os.kill")
         self.ended = {}
         self.patch_of(window, "has_ended", side_effect=lambda process: self.ended.get(process, False))
@@ -350,11 +351,11 @@ class Refused(Keeper):
 
     def test_command(self):
         """A command that can't be spawned is told of in its pane, where a key tries again."""
-        self.patch_of(host_pane.tty, "forked", side_effect=OSError(11, "Resource temporarily unavailable"))
+        self.patch_of(host_pane.spawn, "forked", side_effect=OSError(11, "Resource temporarily unavailable"))
         panes = self.begin()
         self.turn()
         self.assertEqual(read_now(panes[0]), b"[not run: Resource temporarily unavailable; a key tries again]\r\n")
-        self.patch_of(host_pane.tty, "forked", side_effect=self.forked)
+        self.patch_of(host_pane.spawn, "forked", side_effect=self.forked)
         panes[0].send(b"x")
         self.turn()
         self.assertEqual((self.keeper.panes[1].process, self.keeper.panes[2].process, read_now(self.made[0])), (71, None, b""))
@@ -759,8 +760,8 @@ class Words(Case):
         """What is forked becomes the command, of the pane's size and in its folder, and ends where it can't."""
         asked = host_pane.Options(folder="/d", command=["vi"])
         pane = host_pane.PaneCommand(asked, StillLoop(), 3, 1, (5, 40), False, "/tmp", queue())
-        with mock.patch.object(host_pane.tty, "forked", return_value=(0, 0)) as forks, \
-                mock.patch.object(host_pane.tty, "become") as becomes, \
+        with mock.patch.object(host_pane.spawn, "forked", return_value=(0, 0)) as forks, \
+                mock.patch.object(host_pane.spawn, "become") as becomes, \
                 mock.patch.object(host_pane.os, "_exit", side_effect=InterruptedError) as exits, \
                 mock.patch.object(host_pane.os, "chdir") as enters:
             with self.assertRaises(InterruptedError):

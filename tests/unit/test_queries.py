@@ -2,7 +2,7 @@
 import unittest
 
 from aids import Case
-from roam_live.common.errors import TOOLS
+from roam_live.common.process import TOOLS
 from roam_live.input.keys import Key, Keys
 from roam_live.protocol.colours import ASKED, Colours, colour_of, told_in
 from roam_live.protocol.queries import VERSION, holds_frames, question_in

@@ -11,16 +11,18 @@ import time
 import unittest
 from unittest import mock
 
-from roam_live.common.errors import TOOLS, Home
 from roam_live.common.event_loop import Loop
+from roam_live.common.process import TOOLS
 from roam_live.frontend import display
 from roam_live.frontend.commands import Commands
 from roam_live.frontend.display import Display
 from roam_live.protocol.panes import Places, Rect
+from roam_live.protocol.server_address import Home
 from roam_live.protocol.session_interface import AnySession, Kept
+from roam_live.session.folder import FolderSession
 from roam_live.session.foreground import busy_panes
 from roam_live.session.port_session import PortSession
-from roam_live.session.sessions import FolderSession, NearSession
+from roam_live.session.remote import NearSession
 from test_display import PlayedPanes
 
 loader = importlib.machinery.SourceFileLoader("mux", str(TOOLS / "mux"))

@@ -12,9 +12,11 @@ import time
 import unittest
 from unittest import mock
 
-from roam_live.common.errors import Fault, begun, note_end
-from roam_live.session import sessions
-from roam_live.session.sessions import VERSION, FolderSession, NearSession
+from roam_live.common.errors import Fault
+from roam_live.common.process import begun, note_end
+from roam_live.session import folder as session_folder, lookup
+from roam_live.session.folder import VERSION, FolderSession
+from roam_live.session.remote import NearSession
 
 # A process that ended: no process has begun at this moment.
 ENDED = [1, 1]
@@ -41,9 +43,10 @@ class Sessions(unittest.TestCase):
         self.addCleanup(made.cleanup)
         self.base = pathlib.Path(made.name, "roam")
         self.base.mkdir(mode=0o700)
-        patched = mock.patch("roam_live.session.sessions.base", lambda: self.base)
-        patched.start()
-        self.addCleanup(patched.stop)
+        for module in (session_folder, lookup):
+            patched = mock.patch.object(module, "base", lambda: self.base)
+            patched.start()
+            self.addCleanup(patched.stop)
         self.folder = self.base / "main"
         self.folder.mkdir()
         for name in ("session", "rects", "log"):
@@ -88,7 +91,7 @@ class Listed(Sessions):
         (self.folder / "ended").touch()
         for seconds, names in ((0, ["log"]), (86390, ["log"]), (86410, [])):
             with mock.patch("time.time", return_value=time.time() + seconds):
-                sessions.sweep()
+                lookup.sweep()
             self.assertEqual(self.names() if self.folder.exists() else [], names)
 
     def test_followed(self):
@@ -98,20 +101,20 @@ class Listed(Sessions):
         own.write_text(f"{begun(os.getpid())} edits\n", encoding="ascii")
         (self.folder / "attached/1").write_text("7 edits\n", encoding="ascii")
         (self.folder / "ended").touch()
-        sessions.sweep()
+        lookup.sweep()
         self.assertEqual((self.names(), self.names(self.folder / "attached")), (["attached", "ended", "lock", "log"], [own.name]))
         own.unlink()
-        sessions.sweep()
+        lookup.sweep()
         self.assertFalse(self.folder.exists())
 
     def test_held(self):
         """So it is while a process holds the folder that nobody finds."""
         held = os.open(self.folder, os.O_RDONLY)
         fcntl.flock(held, fcntl.LOCK_SH)
-        sessions.sweep()
+        lookup.sweep()
         self.assertEqual(self.names(), ["lock", "log"])
         os.close(held)
-        sessions.sweep()
+        lookup.sweep()
         self.assertFalse(self.folder.exists())
 
     def test_begun_anew(self):
@@ -138,14 +141,14 @@ class Listed(Sessions):
             (self.base / name).mkdir()
             self.note(self.base / name, relay=[os.getpid(), begun(os.getpid())])
         self.note(server=[os.getpid(), begun(os.getpid())])
-        found = sessions.sessions_here()
+        found = lookup.sessions_here()
         wanted = ["main", "ssh:me@there.example:work:0badcafe", "ssh:there:main"]
         self.assertEqual([session.name for session in found], wanted)
         self.assertEqual([session.listed().split()[0] for session in found], wanted)
-        self.assertIsInstance(sessions.session_named("ssh:there:main"), NearSession)
+        self.assertIsInstance(lookup.session_named("ssh:there:main"), NearSession)
         for name in ("ssh:none:main", "ssh:there/../x:main", "../main", "ssh:there:main:1"):
             with self.assertRaises(Fault):
-                sessions.session_named(name)
+                lookup.session_named(name)
 
 
 class Found(Sessions):
@@ -175,9 +178,9 @@ class Found(Sessions):
         self.addCleanup(process.kill)
         self.addCleanup(process.stdout.close)
         process.stdout.readline()
-        self.assertEqual(sessions.command_of(process.pid, self.folder), ["sh", "-c", "a b"])
-        self.assertEqual(sessions.command_of(None, self.folder), [])
-        self.assertEqual(sessions.command_of(process.pid, self.base), [])
+        self.assertEqual(session_folder.command_of(process.pid, self.folder), ["sh", "-c", "a b"])
+        self.assertEqual(session_folder.command_of(None, self.folder), [])
+        self.assertEqual(session_folder.command_of(process.pid, self.base), [])
 
     def test_answers(self):
         """Where somebody answers nothing is removed, whatever is noted."""
@@ -266,7 +269,7 @@ class Starts(Sessions):
         """A try to reach another machine that fails leaves no folder; one where something is logged leaves the log."""
         for logged in (False, True):
             near = NearSession(self.base / "ssh:there:main", "main")
-            with near.locked(), mock.patch("roam_live.session.sessions.TOOLS", self.base), mock.patch("roam_live.session.sessions.in_front"):
+            with near.locked(), mock.patch("roam_live.session.remote.TOOLS", self.base), mock.patch("roam_live.session.remote.in_front"):
                 relay = self.base / "relay"
                 relay.write_text(f"#!/bin/sh\n{'echo said >> $4' if logged else ''}\nexit 3\n", encoding="utf-8")
                 relay.chmod(0o700)

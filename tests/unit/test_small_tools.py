@@ -6,8 +6,8 @@ from unittest import mock
 from aids import Case, StillLoop, loaded, read_now
 from roam_live.common.errors import Fault
 from roam_live.common.event_loop import READ
+from roam_live.session.folder import FolderSession
 from roam_live.session.port_session import PortSession
-from roam_live.session.sessions import FolderSession
 
 shell, attach = loaded("pane_shell"), loaded("attach")
 
@@ -95,7 +95,7 @@ class Shell(Case):
     def test_started(self):
         """The command has TERM of a VT220, and nothing of another terminal."""
         self.environment(LINES="5", COLORTERM="x", ROAM_WHY="1", KEPT="one")
-        with mock.patch.object(shell.tty, "forked", return_value=(0, 0)), mock.patch.object(shell.tty, "become") as becomes, \
+        with mock.patch.object(shell.spawn, "forked", return_value=(0, 0)), mock.patch.object(shell.spawn, "become") as becomes, \
                 mock.patch.object(shell.os, "_exit", side_effect=InterruptedError) as exits:
             with self.assertRaises(InterruptedError):
                 shell.spawned(["vi"], (5, 40))
@@ -103,7 +103,7 @@ class Shell(Case):
         command, environment = becomes.call_args[0]
         self.assertEqual((command, environment["TERM"], environment["KEPT"]), (["vi"], "vt220", "one"))
         self.assertFalse({"LINES", "COLORTERM", "ROAM_WHY"} & environment.keys())
-        with mock.patch.object(shell.tty, "forked", return_value=(7, self.master.fileno())) as forks:
+        with mock.patch.object(shell.spawn, "forked", return_value=(7, self.master.fileno())) as forks:
             self.master.setblocking(True)
             self.assertEqual(shell.spawned(["vi"], (5, 40)), (7, self.master.fileno()))
         forks.assert_called_once_with((5, 40))

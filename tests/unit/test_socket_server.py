@@ -6,7 +6,7 @@ import unittest
 from unittest import mock
 
 from aids import Case, StillLoop, read_now
-from roam_live.common.errors import begun
+from roam_live.common.process import begun
 from roam_live.host import foreground_watch
 from roam_live.host.pending_clients import MEETS, TICKS, ticks
 from roam_live.host.socket_server import LONGEST_LINE, MEETS_AGAIN, MOST_PEERS, MOST_WAITING, ShellsSocket

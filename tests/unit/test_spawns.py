@@ -10,8 +10,8 @@ from roam_live.common.errors import Fault
 from roam_live.frontend import spawn_commands
 from roam_live.frontend.command_line import CommandRunner
 from roam_live.frontend.spawn_commands import Handing
-from roam_live.host.pending_spawns import Begins, unpacked
 from roam_live.protocol.panes import Places, Rect
+from roam_live.protocol.spawn_request import Begins, unpacked
 from test_socket_server import Sockets, read_now
 
 NAME, OTHER = "0123456789abcdef", "fedcba9876543210"

@@ -10,10 +10,9 @@ from roam_live.cli.send import lines_in_pane
 from roam_live.cli.targets import Target, close_pane, pane_places, target_of, wants_brackets
 from roam_live.common.errors import Fault
 from roam_live.common.event_loop import ready
-from roam_live.host.pending_pastes import PUT
 from roam_live.protocol.display_records import screen_of
 from roam_live.protocol.panes import Places, Rect
-from roam_live.protocol.paste_text import MOST_BYTES, mark_acts
+from roam_live.protocol.paste_text import MOST_BYTES, PUT, mark_acts
 from roam_live.protocol.screen_cells import cells_of, part_of, sgr_of
 from test_socket_server import Sockets
 

@@ -9,8 +9,8 @@ import unittest
 from unittest import mock
 
 from roam_live.common import errors, files
-from roam_live.common.errors import TOOLS
 from roam_live.common.files import KEPT, LOG_LIMIT, make_room
+from roam_live.common.process import TOOLS
 from roam_live.common.text import SAID_LIMIT, Said, one_line, printable
 from roam_live.session.foreground import foreground
 from roam_live.session.processes import Processes

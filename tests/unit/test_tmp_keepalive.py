@@ -6,7 +6,7 @@ import stat
 import tempfile
 import unittest
 
-from roam_live.common.errors import is_locked
+from roam_live.common.files import is_locked
 from roam_live.session.tmp_keepalive import USED_EACH, Lasting
 
 OLD = 1_000_000.0

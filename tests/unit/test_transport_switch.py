@@ -6,7 +6,7 @@ import unittest
 from unittest import mock
 
 from aids import Case, StillLoop, ended, read_now
-from roam_live.common.errors import Fault, count_front_ends
+from roam_live.common.errors import Fault
 from roam_live.relay import far, near, path_setup, transport_switch
 from roam_live.relay.aead_packets import Seal, udp_end
 from roam_live.relay.batches import MOST_BUNDLES
@@ -15,6 +15,7 @@ from roam_live.relay.forwarding import CARRIES
 from roam_live.relay.frames import ENDED, HAD, KILLED, LEAVES, WINDOWS, RelayStream, Waiting, greeting
 from roam_live.relay.path_setup import SEALED_HEAD, wish
 from roam_live.relay.udp_path import Path
+from roam_live.session.attached import count_front_ends
 from test_batches import shown, typed
 from test_relay import FakeLink, Other, packed
 from test_aead_packets import Foolish

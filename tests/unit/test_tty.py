@@ -12,7 +12,7 @@ import termios
 from unittest import mock
 
 from aids import Case, read_now
-from roam_live.common import tty
+from roam_live.common import spawn, tty
 
 
 class Resets(Case):
@@ -152,13 +152,13 @@ class Commands(Case):
         runs = self.patch("os.execvpe")
         gets = self.patch("termios.tcgetattr", return_value=[0, 1, 2])
         sets = self.patch("termios.tcsetattr")
-        tty.become(["sh", "-c", "x"], {"A": "b"})
+        spawn.become(["sh", "-c", "x"], {"A": "b"})
         gets.assert_called_once_with(0)
         sets.assert_called_once_with(0, termios.TCSANOW, [0o40000, 1, 2])
         wakes.assert_called_once_with(-1)
-        self.assertEqual({call[0] for call in handles.call_args_list}, {(number, signal.SIG_DFL) for number in tty.SIGNALS})
+        self.assertEqual({call[0] for call in handles.call_args_list}, {(number, signal.SIG_DFL) for number in spawn.SIGNALS})
         for number in (signal.SIGCHLD, signal.SIGTERM, signal.SIGHUP, signal.SIGINT, signal.SIGPIPE):
-            self.assertIn(number, tty.SIGNALS)
+            self.assertIn(number, spawn.SIGNALS)
         self.assertEqual(runs.call_args_list[0][0], ("sh", ["sh", "-c", "x"], {"A": "b"}))
 
     def test_instead(self):
@@ -168,13 +168,13 @@ class Commands(Case):
         self.patch("termios.tcgetattr", side_effect=termios.error(5, "gone"))
         runs = self.patch("os.execvpe", side_effect=[FileNotFoundError(2, "No such file or directory"), None])
         writes = self.patch("os.write")
-        tty.become(["/no\x1b[c"], {"A": "b"}, "/bin/sh")
+        spawn.become(["/no\x1b[c"], {"A": "b"}, "/bin/sh")
         self.assertEqual(writes.call_args[0], (2, b"/no?[c: No such file or directory; this is /bin/sh\n"))
         self.assertEqual(runs.call_args[0], ("/bin/sh", ["/bin/sh"], {"A": "b", "SHELL": "/bin/sh"}))
 
     def forked(self, size):
         """What a shell tells of its terminal that is forked there, and its process."""
-        process, master = tty.forked(size)
+        process, master = spawn.forked(size)
         if process == 0:
             os.execvp("sh", ["sh", "-c", "stty size; tty; ps -o sid= -p $$; ls -l /proc/$$/fd | grep -c ptmx"])
         text = b""
@@ -198,8 +198,8 @@ class Commands(Case):
         before = signal.signal(signal.SIGHUP, lambda number, frame: None), signal.set_wakeup_fd(writer, warn_on_full_buffer=False)
         self.addCleanup(lambda: (signal.set_wakeup_fd(before[1]), signal.signal(signal.SIGHUP, before[0])))
         for takes in (lambda slave: os.kill(os.getpid(), signal.SIGHUP), lambda slave: signal.pause()):
-            with mock.patch.object(tty, "take", takes):
-                process, master = tty.forked((7, 33))
+            with mock.patch.object(spawn, "take", takes):
+                process, master = spawn.forked((7, 33))
             if process == 0:
                 os._exit(0)
             os.kill(process, signal.SIGHUP)
@@ -214,14 +214,14 @@ class Commands(Case):
         # What other tests left is closed before.
         gc.collect()
         before = sorted(os.listdir("/proc/self/fd"))
-        for name in ("os.fork", "roam_live.common.tty.set_size"):
+        for name in ("os.fork", "roam_live.common.spawn.set_size"):
             with mock.patch(name, side_effect=OSError(11, "none")), self.assertRaises(OSError):
-                tty.forked((7, 33))
+                spawn.forked((7, 33))
         self.assertEqual(sorted(os.listdir("/proc/self/fd")), before)
 
     def test_not_run(self):
         writes, runs = self.patch("os.write"), self.patch("os.execvpe", side_effect=PermissionError(13, "Permission denied"))
-        tty.execute(["x", "y"], {})
+        spawn.execute(["x", "y"], {})
         self.assertEqual(writes.call_args[0], (2, b"x: Permission denied\n"))
         runs.assert_called_once_with("x", ["x", "y"], {})
 
@@ -231,7 +231,7 @@ class Names(Case):
 
     def setUp(self):
         self.folder = self.made_folder()
-        self.patch_of(tty, "FOLDERS", (str(self.folder / "system"),))
+        self.patch_of(spawn, "FOLDERS", (str(self.folder / "system"),))
         self.environment(HOME=str(self.folder / "home"), TERMINFO=None, TERMINFO_DIRS=None)
 
     def enter(self, place, name):
@@ -241,11 +241,11 @@ class Names(Case):
         path.touch()
 
     def test_first(self):
-        self.assertEqual(tty.names(), {"TERM": "vt220", "COLORTERM": "truecolor"})
+        self.assertEqual(spawn.names(), {"TERM": "vt220", "COLORTERM": "truecolor"})
         self.enter("system/s", "screen-256color")
-        self.assertEqual(tty.names()["TERM"], "screen-256color")
+        self.assertEqual(spawn.names()["TERM"], "screen-256color")
         self.enter("system/t", "tmux-256color")
-        self.assertEqual(tty.names()["TERM"], "tmux-256color")
+        self.assertEqual(spawn.names()["TERM"], "tmux-256color")
 
     def test_places(self):
         """It is looked for where terminfo is: in TERMINFO, the home, TERMINFO_DIRS, and by a letter or its number."""
@@ -255,14 +255,14 @@ class Names(Case):
                 self.enter(place, "tmux-256color")
                 more = {name: ":".join(str(self.folder / word) for word in text.split(":")) for name, text in words.items()}
                 with mock.patch.dict(os.environ, more):
-                    self.assertTrue(tty.has_entry("tmux-256color"))
-                    self.assertFalse(tty.has_entry("tmux"))
+                    self.assertTrue(spawn.has_entry("tmux-256color"))
+                    self.assertFalse(spawn.has_entry("tmux"))
                 (self.folder / place / "tmux-256color").unlink()
-                self.assertFalse(tty.has_entry("tmux-256color"))
+                self.assertFalse(spawn.has_entry("tmux-256color"))
 
     def test_empty(self):
         """An empty name of a folder isn't the root."""
         self.environment(TERMINFO="", TERMINFO_DIRS="::")
         with mock.patch("os.path.exists", return_value=False) as looks:
-            self.assertFalse(tty.has_entry("vt220"))
+            self.assertFalse(spawn.has_entry("vt220"))
         self.assertFalse([call for call in looks.call_args_list if call[0][0].startswith("/v/") or call[0][0].startswith("/76/")])

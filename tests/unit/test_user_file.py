@@ -7,7 +7,7 @@ from aids import Case
 from roam_live.common.errors import Fault
 from roam_live.common.event_loop import Loop
 from roam_live.config import environment as config_environment
-from roam_live.config.status_styles import Styled
+from roam_live.config.styled_text import Styled
 from roam_live.config.user_file import OWN, default_command, settings_path, undone
 from roam_live.frontend.display import Display
 from roam_live.frontend.status_segments import StatusRow

@@ -12,11 +12,16 @@ from roam_live.cli import targets, windows as cli_windows
 from roam_live.cli.targets import session_of, target_of, window_of
 from roam_live.cli.windows import (WindowsAsked, check_title, detach_others, is_there, list_clients, list_windows, new_window, rename, shut,
                                    windows_of)
-from roam_live.common.errors import Fault, begun, count_front_ends, end_words, is_listened, is_running
+from roam_live.common.errors import Fault
+from roam_live.common.process import begun, end_words, is_running
+from roam_live.common.unix_socket import is_listened
 from roam_live.protocol.panes import Places, Rect
-from roam_live.session import foreground, sessions
-from roam_live.session.sessions import VERSION, FolderSession, Window, WindowedSession, session_named, window_in
+from roam_live.session import folder as session_folder, foreground, lookup, remote, windowed
+from roam_live.session.attached import count_front_ends
+from roam_live.session.folder import VERSION, FolderSession
+from roam_live.session.lookup import session_named, window_in
 from roam_live.session.window_state import WINDOWS_VERSION, numbers_in, stands_ready
+from roam_live.session.windowed import Window, WindowedSession
 
 PLACES = Places({1: Rect(1, 1, 23, 80)}, 1, 1)
 
@@ -27,7 +32,8 @@ class Sessions(Case):
     def setUp(self):
         self.base = self.made_folder() / "roam"
         self.base.mkdir(mode=0o700)
-        self.patch_of(sessions, "base", lambda: self.base)
+        for module in (session_folder, lookup):
+            self.patch_of(module, "base", lambda: self.base)
         self.environment(ROAM_PANE=None)
         self.said, self.text = self.heard(), self.printed()
         self.own = [os.getpid(), begun(os.getpid())]
@@ -112,7 +118,7 @@ class Found(Sessions):
         self.assertTrue(session.listed().startswith("main "))
         with self.assertRaisesRegex(Fault, "^session main runs, and nothing is left by which its windows are found"):
             session.window()
-        near = sessions.NearSession(folder)
+        near = remote.NearSession(folder)
         self.assertTrue(near.find())
         self.assertEqual(near.process("relay"), os.getpid())
 
@@ -122,7 +128,7 @@ class Found(Sessions):
         window = session.window(2)
         self.noted("main", 2, server=self.own, terminals=self.own)
         window.read()
-        age = self.patch_of(sessions, "age_of", return_value=9.9)
+        age = self.patch_of(session_folder, "age_of", return_value=9.9)
         self.assertTrue(window.has_terminals())
         age.return_value = 10.1
         self.assertFalse(window.has_terminals())
@@ -239,7 +245,8 @@ class Launched(Sessions):
     def setUp(self):
         super().setUp()
         self.spawned, self.waits, self.ended, self.refused = [], [], [], ""
-        self.patch_of(sessions, "program", return_value="/roam")
+        for module in (session_folder, windowed):
+            self.patch_of(module, "program", return_value="/roam")
         self.patch_of(FolderSession, "spawned", lambda session, role, words: self.spawn(session, role, words))
         self.patch_of(FolderSession, "wait_for", lambda session, role, before, test: self.waits.append((role, test)))
         self.patch_of(FolderSession, "end", lambda session, role: self.ended.append((session.name, role)))
@@ -258,7 +265,7 @@ class Launched(Sessions):
         self.new.launch(["vi", "x"])
         folder = self.base / "new/w/1"
         self.assertEqual(self.spawned, [
-            ("shells", [str(sessions.TOOLS / "pane_shells"), "--windows", "--first", str(self.base / "new"), "vi", "x"]),
+            ("shells", [str(windowed.TOOLS / "pane_shells"), "--windows", "--first", str(self.base / "new"), "vi", "x"]),
             ("server", ["/roam", "serve", "--as-meant", "--dir", str(folder)])])
         self.assertEqual((self.new.state, folder.stat().st_mode & 0o777, folder.parent.stat().st_mode & 0o777),
                          ({"version": WINDOWS_VERSION, "command": ["vi", "x"], "shells": self.own}, 0o700, 0o700))
@@ -284,7 +291,7 @@ class Launched(Sessions):
         self.assertEqual(self.spawned, [])
         self.noted("main", shells=[1, 1], command=["vi"])
         session.read()
-        words = [str(sessions.TOOLS / "pane_shells"), "--windows", str(self.base / "main"), "vi"]
+        words = [str(windowed.TOOLS / "pane_shells"), "--windows", str(self.base / "main"), "vi"]
         for demands in (session.demand_shells, session.window(2).demand_shells, session.revive_shells, session.window(7).revive_shells):
             demands()
             self.assertEqual(self.spawned.pop(), ("shells", words))
@@ -316,7 +323,7 @@ class Launched(Sessions):
         session = self.session()
         self.noted("main")
         session.read()
-        self.patch_of(sessions, "command_of", return_value=["vi"])
+        self.patch_of(windowed, "command_of", return_value=["vi"])
         self.listening(self.base / "main/w/7/shells")
         self.assertTrue(session.find() and session.is_found)
         self.assertEqual(session.state, {"version": WINDOWS_VERSION, "command": ["vi"], "shells": self.own})

@@ -1,5 +1,17 @@
-"""Which word is meant by one that is none."""
+"""The words of a command line: the parser, and what a mistyped word means."""
 from __future__ import annotations
+
+import argparse
+
+from roam_live.common.text import printable
+
+TYPE_CHECKING = False
+if TYPE_CHECKING:
+    from types import SimpleNamespace
+    from typing import NoReturn, Union
+
+    # What the words behind a word of `mux` ask for: a value for each argument, by a parser or without one.
+    Asked = Union[argparse.Namespace, SimpleNamespace]
 
 # The commands of tmux 3.3a with their other names, and what does the same here: a word of mux, or a key; nothing where nothing does.
 TMUX_TABLE = """
@@ -144,3 +156,10 @@ def meant(name: str, words: list[str]) -> str:
     found = [(slips(word, name), place, word) for place, word in enumerate(words) if len(name) > 2 or len(word) == 2]
     near = [one for one in found if one[0] <= 1]
     return min(near)[2] if near else ""
+
+
+class WordParser(argparse.ArgumentParser):
+    """A parser whose refusals are printable, whatever the words are: names of files may have any bytes."""
+
+    def error(self, message: str) -> NoReturn:
+        super().error(printable(message))

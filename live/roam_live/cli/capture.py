@@ -5,16 +5,18 @@ import subprocess
 import sys
 import time
 
+from roam_live.cli.connection import opened
 from roam_live.cli.targets import pane_places
-from roam_live.common.errors import TOOLS, Fault
-from roam_live.protocol.client_link import SILENT, opened
+from roam_live.common.errors import Fault
+from roam_live.common.process import TOOLS
+from roam_live.protocol.client_link import SILENT
 from roam_live.protocol.display_records import NoRecord, screen_of
 
 TYPE_CHECKING = False
 if TYPE_CHECKING:
     from roam_live.protocol.client_link import StartLink
     from roam_live.protocol.panes import Rect
-    from roam_live.session.sessions import FolderSession
+    from roam_live.session.folder import FolderSession
 
 # So many seconds a screen is waited for, and so many pass until one is asked for again that the start hasn't heard of yet.
 SCREEN_WAIT = 5.0

@@ -5,12 +5,12 @@ import os
 
 from roam_live.common.errors import Fault
 from roam_live.config.command_table import BadCommand, CommandWish, asked_by
-from roam_live.host.pending_spawns import DONE, RAN
+from roam_live.protocol.spawn_request import DONE, RAN
 
 TYPE_CHECKING = False
 if TYPE_CHECKING:
-    from roam_live.host.pending_spawns import Begins
-    from roam_live.session.sessions import FolderSession
+    from roam_live.protocol.spawn_request import Begins
+    from roam_live.session.folder import FolderSession
 
 # The acts of wishes that are done by acts alone.
 ACTS = {"split right": "split right", "split down": "split down", "close": "close"}
@@ -45,7 +45,7 @@ def split(window: FolderSession, pane: int, act: str, begins: Begins) -> int:
     from roam_live.cli import send
     from roam_live.cli.targets import making_of, pane_places
     from roam_live.cli.windows import WindowsAsked
-    from roam_live.host.pending_spawns import WAITS
+    from roam_live.protocol.spawn_request import WAITS
 
     number, life = making_of(window, pane)
     back = [f"focus {pane_places(window, number).focus}"] if begins.is_aside else []

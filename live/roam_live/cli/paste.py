@@ -4,20 +4,22 @@ from __future__ import annotations
 import sys
 import time
 
+from roam_live.cli.connection import opened
 from roam_live.cli.send import lines_in_pane, type_lines
 from roam_live.cli.targets import pane_places, wants_brackets
-from roam_live.common.errors import Fault, Lines, connected_in, read, write
+from roam_live.common.errors import Fault
 from roam_live.common.event_loop import READ, WRITE, ready
+from roam_live.common.io import Lines, read, write
 from roam_live.common.text import printable
+from roam_live.common.unix_socket import connected_in
 from roam_live.input.keys import pasted_acts
-from roam_live.protocol.client_link import opened
 from roam_live.protocol.host_client import HELD, PUT, REFUSED
 from roam_live.protocol.paste_text import MOST_BYTES, cleaned, mark_acts, random_name, without_brackets
 from roam_live.protocol.scrollback_client import BAD_LINE
 
 TYPE_CHECKING = False
 if TYPE_CHECKING:
-    from roam_live.session.sessions import FolderSession
+    from roam_live.session.folder import FolderSession
 
 # So many seconds a keeper has for taking a connection, and something of a text, and for putting the text in the place of its mark.
 CONNECTS = 1.0

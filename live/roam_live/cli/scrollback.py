@@ -5,13 +5,15 @@ from __future__ import annotations
 import os
 import sys
 import time
+from collections.abc import Iterable
 
 from roam_live.cli.paste import CONNECTS, paste_buffer
-from roam_live.cli.row_texts import RowWriter
 from roam_live.cli.targets import making_of
-from roam_live.common.errors import Fault, connected_in, read, write
+from roam_live.common.errors import Fault
 from roam_live.common.event_loop import READ, WRITE, ready
+from roam_live.common.io import read, write
 from roam_live.common.text import printable
+from roam_live.common.unix_socket import connected_in
 from roam_live.host.paste_buffers import EMPTY, MOST_BUFFER, TOO_LONG
 from roam_live.protocol.scrollback_client import (LOG, MOST_ROWS, Answer, AnswerReader, BadAnswer, BufferNote, RowsLink, Snapshot,
                                                   number_at, rows_in)
@@ -21,7 +23,7 @@ if TYPE_CHECKING:
     from collections.abc import Callable
     from typing import Any
 
-    from roam_live.session.sessions import FolderSession
+    from roam_live.session.folder import FolderSession
 
 # So many seconds a keeper has for an answer, or a part of one.
 ANSWERS = 10.0
@@ -31,6 +33,10 @@ OUTERMOST = "-"
 
 NOT_KEPT = "session {}: no rows are kept of pane {}, as where ROAM_HISTORY is 0, or by an earlier roam"
 NO_BUFFERS = "session {}: no buffers are kept there, as by an earlier roam"
+
+# What begins a style, and what may stand in one.
+BEGIN = "\x1b["
+IN_STYLE = frozenset("0123456789;:")
 
 
 class RowsAsked:
@@ -217,3 +223,39 @@ def set_buffer(session: FolderSession, text: str | None) -> int:
 def put_buffer(session: FolderSession, word: str | None, pane: int) -> int:
     """Pastes a buffer into a pane, or into that in focus."""
     return paste_buffer(session, buffer_number(RowsAsked(session), word), pane)
+
+
+def text_of(row: bytes, has_styles: bool) -> str:
+    """The characters of a row, with its styles or without; what else stands there, as nothing may, isn't handed on."""
+    first, *parts = row[1:].decode("utf-8", "replace").split(BEGIN)
+    found = [printable(first)]
+    for part in parts:
+        style, final, rest = part.partition("m")
+        if final and IN_STYLE.issuperset(style):
+            found += [f"{BEGIN}{style}m" if has_styles else "", printable(rest)]
+        else:
+            found.append(printable(part))
+    return "".join(found)
+
+
+class RowWriter:
+    """Writes rows by a call, each as a line; where they are to be joined, one that went on and the next are one line."""
+
+    def __init__(self, writes: Callable[[bytes], object], has_styles: bool, is_joined: bool) -> None:
+        self.writes, self.has_styles, self.is_joined = writes, has_styles, is_joined
+        # Whether the last row goes on in the next, so that no line has ended.
+        self.is_open = False
+
+    def put(self, rows: Iterable[bytes]) -> None:
+        """Writes rows."""
+        found = []
+        for row in rows:
+            self.is_open = self.is_joined and row[:1] == b"+"
+            found += [text_of(row, self.has_styles), "" if self.is_open else "\n"]
+        self.writes("".join(found).encode("utf-8", "replace"))
+
+    def end(self) -> None:
+        """Ends the last line."""
+        if self.is_open:
+            self.is_open = False
+            self.writes(b"\n")

@@ -6,19 +6,21 @@ import re
 import subprocess
 import time
 
+from roam_live.cli.connection import opened
 from roam_live.cli.targets import pane_places
-from roam_live.common.errors import Fault, Home
+from roam_live.common.errors import Fault
 from roam_live.common.tty import LEAST, MOST
 from roam_live.input.key_names import acts_named, acts_of_word
-from roam_live.protocol.client_link import MOST_ACTS, opened
+from roam_live.protocol.client_link import MOST_ACTS
 from roam_live.protocol.panes import MOST_PANES, MOVES, Places
+from roam_live.protocol.server_address import Home
 
 TYPE_CHECKING = False
 if TYPE_CHECKING:
     from collections.abc import Callable
 
     from roam_live.protocol.client_link import StartLink
-    from roam_live.session.sessions import FolderSession
+    from roam_live.session.folder import FolderSession
 
 # So many seconds a session may take none of the acts that its client start was given.
 SEND_WAIT = 10.0

@@ -9,17 +9,19 @@ import subprocess
 import zlib
 
 from roam_live.cli.targets import session_of, target_of
-from roam_live.common.errors import TOOLS
+from roam_live.common.process import TOOLS
 from roam_live.config.environment import wants_udp
 from roam_live.relay.frames import greeting, read_greeting
 from roam_live.session.environment import bring
-from roam_live.session.sessions import FolderSession, NearSession, base, check_name
+from roam_live.session.folder import FolderSession
+from roam_live.session.names import base, check_name
+from roam_live.session.remote import NearSession
 
 TYPE_CHECKING = False
 if TYPE_CHECKING:
     from collections.abc import Callable
 
-    from roam_live.cli.parsing import Asked
+    from roam_live.cli.args import Asked
     from roam_live.protocol.panes import Places
 
 # The options of ssh that have a word behind them, and those of `mux ssh` itself.

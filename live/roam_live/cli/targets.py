@@ -6,8 +6,10 @@ import re
 import time
 from collections import namedtuple
 
-from roam_live.common.errors import Fault, Lines, connected_in, read, runs_program
+from roam_live.common.errors import Fault
 from roam_live.common.event_loop import comes
+from roam_live.common.io import Lines, read
+from roam_live.common.unix_socket import connected_in, runs_program
 from roam_live.protocol.panes import ASIDE, ASKED, BEHIND, BRACKETED, ToldPanes
 from roam_live.session.foreground import own_pane
 
@@ -16,7 +18,7 @@ if TYPE_CHECKING:
     import socket
 
     from roam_live.protocol.panes import Places
-    from roam_live.session.sessions import FolderSession
+    from roam_live.session.folder import FolderSession
 
 # The name of a session, or of what stands here for one of another machine, which may be missing; a window of it, and a pane.
 WORD = re.compile(r"(?P<name>ssh:[^:]+:[^:.]+(?::[0-9a-f]{8})?|[^:.]*)(?::(?P<window>[1-9]\d?))?(?:\.(?P<pane>[1-9]))?|:", re.ASCII)
@@ -46,7 +48,7 @@ def target_of(word: str) -> Target:
 
 def session_of(target: Target) -> FolderSession:
     """The session that is named, or the one in which this process runs."""
-    from roam_live.session.sessions import session_named, window_in
+    from roam_live.session.lookup import session_named, window_in
 
     folder = own_pane()[0]
     if target.name:
@@ -59,7 +61,7 @@ def session_of(target: Target) -> FolderSession:
 def window_of(session: FolderSession, target: Target) -> FolderSession:
     """The window that is named of a session which runs: where none is, that in which this process runs, else that where somebody was
     last."""
-    from roam_live.session.sessions import window_in
+    from roam_live.session.lookup import window_in
 
     folder = own_pane()[0]
     is_own = target.window is None and folder and is_in(folder, session)

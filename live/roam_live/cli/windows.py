@@ -4,21 +4,23 @@ from __future__ import annotations
 import os
 import time
 
-from roam_live.common.errors import Fault, Lines, connected_in, read, reason
+from roam_live.common.errors import Fault, reason
 from roam_live.common.event_loop import comes
+from roam_live.common.io import Lines, read
 from roam_live.common.text import printable
-from roam_live.host.pending_spawns import RAN, READY
-from roam_live.host.window_commands import (GONE, LONGEST_BYTES, LONGEST_NAME, MOST_WINDOWS, OPENED, RUNS, WINDOW, WINDOWS, name_in,
-                                            name_word)
+from roam_live.common.unix_socket import connected_in
 from roam_live.protocol.paste_text import random_name
 from roam_live.protocol.presence import CLIENT, CLIENTS, MOST_ATTENDED, number_in, presence_in
+from roam_live.protocol.spawn_request import RAN, READY
+from roam_live.protocol.window_lines import (GONE, LONGEST_BYTES, LONGEST_NAME, MOST_WINDOWS, OPENED, RUNS, WINDOW, WINDOWS, name_in,
+                                             name_word)
 
 TYPE_CHECKING = False
 if TYPE_CHECKING:
     import socket
 
-    from roam_live.host.pending_spawns import Begins
-    from roam_live.session.sessions import FolderSession
+    from roam_live.protocol.spawn_request import Begins
+    from roam_live.session.folder import FolderSession
 
 # So many seconds the keeper has for taking a connection, and for what it is asked: a window has to be opened, or to end, in that time.
 CONNECTS = 1.0

@@ -6,8 +6,9 @@ import os
 import socket
 from collections.abc import Callable
 
-from roam_live.common.errors import Fault, is_listened, is_own_peer
+from roam_live.common.errors import Fault
 from roam_live.common.event_loop import Loop
+from roam_live.common.unix_socket import is_listened, is_own_peer
 
 # So many seconds who comes waits, where the system has no descriptor for it.
 DEAF = 1.0

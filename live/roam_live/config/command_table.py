@@ -4,10 +4,10 @@ from __future__ import annotations
 from collections import namedtuple
 
 from roam_live.common.text import printable
-from roam_live.host.pending_spawns import MOST_BYTES, TOO_LONG, Begins
-from roam_live.host.window_commands import LONGEST_BYTES, LONGEST_NAME
 from roam_live.input.key_names import acts_of_word
 from roam_live.input.keys import Key, acts_of
+from roam_live.protocol.spawn_request import MOST_BYTES, TOO_LONG, Begins
+from roam_live.protocol.window_lines import LONGEST_BYTES, LONGEST_NAME
 
 TYPE_CHECKING = False
 if TYPE_CHECKING:

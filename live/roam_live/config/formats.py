@@ -6,7 +6,7 @@ import time
 from collections import namedtuple
 
 from roam_live.common.text import printable
-from roam_live.config.status_styles import ROW_STYLE, Styled
+from roam_live.config.styled_text import ROW_STYLE, Styled
 
 SIDES = ("left", "right")
 

@@ -7,8 +7,10 @@ import signal
 import time
 from collections.abc import Callable
 
-from roam_live.common.errors import Fault, all_done, noted_front_end, read, unwoken, woken
+from roam_live.common.errors import Fault, all_done
 from roam_live.common.event_loop import Loop
+from roam_live.common.io import read
+from roam_live.common.process import unwoken, woken
 from roam_live.config.command_table import CommandWish
 from roam_live.config.environment import chosen_guessing, chosen_prefix, sets_clipboard, text_of, wants_mouse
 from roam_live.config.user_file import OWN
@@ -25,6 +27,7 @@ from roam_live.protocol.bells import BellFollower
 from roam_live.protocol.client_link import LAST_WAIT, Keeper, StartLink
 from roam_live.protocol.host_client import ShellsLink
 from roam_live.protocol.panes_client import AWAITED, PanesFollower
+from roam_live.session.attached import noted_front_end
 from roam_live.session.environment import brings_to
 from roam_live.session.host_watchdog import ShellsWatch
 

@@ -7,14 +7,12 @@ import time
 from collections.abc import Callable
 
 from roam_live.common import tty
-from roam_live.common.errors import has_others
 from roam_live.common.event_loop import Loop
 from roam_live.config.environment import ESCAPE_TIME, follows_latest, number_of
 from roam_live.frontend.bindings import NEWEST, OWN, PICKS, Typing, help_with
 from roam_live.frontend.choose_list import Choosing, ChoosingWindow, Listing
 from roam_live.frontend.copymode.controller import INTERRUPT, CopyEvent, Copying
 from roam_live.frontend.display import NO_SIZE, Display
-from roam_live.frontend.foci import Foci
 from roam_live.frontend.key_help import Helping
 from roam_live.frontend.mouse import Pointing
 from roam_live.frontend.paste import Pastes
@@ -26,13 +24,14 @@ from roam_live.frontend.synchronize_panes import Synchronizing
 from roam_live.frontend.zoom import Zooming
 from roam_live.input.extended_keys import ANSWERED, form_for
 from roam_live.input.key_names import spelled
-from roam_live.input.keys import TYPES, Key, Keys, acts_of
+from roam_live.input.keys import Key, Keys, acts_of
 from roam_live.input.mouse_reports import MOUSE
-from roam_live.protocol.client_link import StartLink
+from roam_live.protocol.client_link import TYPES, StartLink
 from roam_live.protocol.colours import COLOUR
 from roam_live.protocol.panes import BESIDE, MOVES, Places
 from roam_live.protocol.panes_client import PanesFollower
 from roam_live.protocol.presence import LEAVE_OTHERS
+from roam_live.session.attached import has_others
 from roam_live.session.foreground import told
 
 TYPE_CHECKING = False
@@ -752,3 +751,24 @@ class Commands:
             self.act(f"focus {pane}")
         else:
             self.display.tell(NO_LAST)
+
+
+class Foci:
+    """The panes that were in focus, the newest first, each by its making: another pane of the number is another."""
+
+    def __init__(self, panes: PanesFollower) -> None:
+        self.panes = panes
+        self.makings: list[str] = []
+
+    def told(self) -> None:
+        """Takes note of what is told: where the focus is, and which panes there are."""
+        places = self.panes.places
+        if not places:
+            return
+        there = [self.panes.making(pane) for pane in places.rects]
+        now = self.panes.making(places.focus)
+        self.makings = [now, *(making for making in self.makings if making != now and making in there)] if now else self.makings
+
+    def last(self, focus: int) -> int:
+        """The pane that was in focus before the one that is; 0 where none is known."""
+        return next((pane for pane in (int(making.partition(" ")[0]) for making in self.makings) if pane != focus), 0)

@@ -8,10 +8,11 @@ import time
 from collections.abc import Callable
 
 from roam_live.common import tty
-from roam_live.common.errors import Fault, write
+from roam_live.common.errors import Fault
 from roam_live.common.event_loop import WRITE, Loop, ready
+from roam_live.common.io import write
 from roam_live.common.text import printable
-from roam_live.config.status_styles import ROW_STYLE, Styled
+from roam_live.config.styled_text import ROW_STYLE, Styled
 from roam_live.frontend.outer_modes import GivenAside, GivenClip
 from roam_live.frontend.status_line import (ALL_PANES, BETWEEN, SYNCHRONIZED, ZOOMED, clipped, columns, cut, fitted, label_at, row_text,
                                             said, tail)

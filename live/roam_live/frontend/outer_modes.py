@@ -4,7 +4,7 @@ from __future__ import annotations
 
 import os
 
-from roam_live.common.errors import write
+from roam_live.common.io import write
 from roam_live.common.text import printable
 from roam_live.config.environment import wants_extended_keys
 from roam_live.input.extended_keys import QUERY, WANTED, answered, given_back

@@ -5,7 +5,8 @@ from collections import deque
 from collections.abc import Callable, Iterable, Sequence
 
 from roam_live.common.event_loop import Loop
-from roam_live.input.keys import TYPES, pasted_acts
+from roam_live.input.keys import pasted_acts
+from roam_live.protocol.client_link import TYPES
 from roam_live.protocol.host_client import HELD, LATER, LOST, PUT, UNTOLD
 from roam_live.protocol.panes import MOVES
 from roam_live.protocol.paste_text import MOST_BYTES, cleaned, mark_acts, marked_in, random_name

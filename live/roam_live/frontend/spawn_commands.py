@@ -6,8 +6,8 @@ from collections.abc import Callable
 
 from roam_live.common.text import printable
 from roam_live.config.command_table import BadCommand
-from roam_live.host.pending_spawns import LATE, RAN, READY, REFUSED, WAITS, Begins
 from roam_live.protocol.paste_text import random_name
+from roam_live.protocol.spawn_request import LATE, RAN, READY, REFUSED, WAITS, Begins
 
 TYPE_CHECKING = False
 if TYPE_CHECKING:

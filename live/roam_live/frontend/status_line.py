@@ -2,7 +2,7 @@
 from __future__ import annotations
 
 from roam_live.common.text import printable
-from roam_live.config.status_styles import Styled
+from roam_live.config.styled_text import Styled
 
 # What stands before or behind windows that have no room, and between two.
 BEFORE, BEHIND, BETWEEN = "< ", " >", " "

@@ -10,7 +10,7 @@ from roam_live.config.environment import STATUS_INTERVAL, number_of, text_of
 TYPE_CHECKING = False
 if TYPE_CHECKING:
     from roam_live.config.formats import Format
-    from roam_live.config.status_styles import Styled
+    from roam_live.config.styled_text import Styled
     from roam_live.frontend.app import FrontEnd
 
 OPTIONS = ("status-left", "status-right")

@@ -5,8 +5,8 @@ from __future__ import annotations
 import os
 from collections.abc import Callable
 
-from roam_live.common.errors import opened_process
 from roam_live.common.event_loop import Loop
+from roam_live.common.process import opened_process
 
 TYPE_CHECKING = False
 if TYPE_CHECKING:

@@ -12,10 +12,10 @@ from roam_live.common.text import printable
 from roam_live.common.tty import LEAST, is_large_enough, largest
 from roam_live.frontend.line_editor import AskedLine
 from roam_live.frontend.windows_client import ToldWindows, WindowsLink
-from roam_live.host.window_commands import BELL, LONGEST_BYTES, LONGEST_NAME, MOST_WINDOWS, name_word
 from roam_live.input.extended_keys import ANSWERED
 from roam_live.input.mouse_reports import MOUSE
 from roam_live.protocol.colours import COLOUR
+from roam_live.protocol.window_lines import BELL, LONGEST_BYTES, LONGEST_NAME, MOST_WINDOWS, name_word
 from roam_live.session.foreground import told
 
 TYPE_CHECKING = False

@@ -5,12 +5,12 @@ from __future__ import annotations
 import re
 from collections.abc import Callable
 
-from roam_live.common.errors import connected_now
 from roam_live.common.event_loop import Loop
 from roam_live.common.text import printable
+from roam_live.common.unix_socket import connected_now
 from roam_live.frontend.status_line import cut, window_label
-from roam_live.host.window_commands import LONGEST_NAME, WINDOWS, name_in
 from roam_live.protocol.panes_client import BAD_LINE, Following
+from roam_live.protocol.window_lines import LONGEST_NAME, WINDOWS, name_in
 
 # What is told of the windows to who asked for them: it may be told from another machine.
 TOLD = re.compile(r"window (?P<window>[1-9]\d?) (?P<name>-|(?:[0-9a-f]{2}){1,256})|gone (?P<gone>[1-9]\d?)|windows (?P<count>\d{1,2})"

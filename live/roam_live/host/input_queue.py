@@ -5,7 +5,7 @@ import re
 from collections import deque
 from collections.abc import Callable
 
-from roam_live.common.errors import UNREAD_LIMIT, keep, write
+from roam_live.common.io import UNREAD_LIMIT, keep, write
 from roam_live.host.pending_pastes import GivenText, GivenTexts
 from roam_live.protocol.paste_text import CLOSES, OPENS, without_brackets
 

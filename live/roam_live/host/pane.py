@@ -11,13 +11,14 @@ import struct
 import termios
 from collections.abc import Callable
 
-from roam_live.common import tty
-from roam_live.common.errors import ASKS_WHY, UNREAD_LIMIT, connected_now, read, reason, say, write
+from roam_live.common import spawn, tty
+from roam_live.common.errors import ASKS_WHY, reason, say
 from roam_live.common.event_loop import Loop, always, comes
 from roam_live.common.fault_log import SoonFaults
+from roam_live.common.io import UNREAD_LIMIT, read, write
+from roam_live.common.unix_socket import connected_now
 from roam_live.host.input_queue import TypedQueue
-from roam_live.host.output_scan import Keypad
-from roam_live.protocol.bells import Bells
+from roam_live.host.output_scan import Bells, Keypad
 from roam_live.session.environment import AGENT, NAMES, Brought, agent_in
 from roam_live.session.foreground import PANE, group_in_front
 
@@ -83,7 +84,7 @@ class Options:
 def surroundings(asked: Options, pane: int, brought: Brought) -> dict[str, str]:
     """The environment of a pane's command, with what was brought to the session."""
     kept = {name: value for name, value in os.environ.items() if name not in (*FOREIGN, *NAMES, ASKS_WHY)}
-    return {**kept, **tty.names(), **brought.set_values(), AGENT: agent_in(asked.common), PANE: f"{asked.dir}:{pane}"}
+    return {**kept, **spawn.names(), **brought.set_values(), AGENT: agent_in(asked.common), PANE: f"{asked.dir}:{pane}"}
 
 
 def entered(folder: str) -> dict[str, str]:
@@ -186,14 +187,14 @@ class PaneCommand:
     def run(self) -> None:
         """Runs the command; where it can't be spawned a line in the pane says why."""
         try:
-            self.process, self.terminal = tty.forked(self.size)
+            self.process, self.terminal = spawn.forked(self.size)
         except OSError as fault:
             self.show(NOT_RUN.format(reason(fault)).encode())
             return
         if self.process == 0:
             try:
                 environment = {**surroundings(self.asked, self.number, self.brought), **entered(self.folder)}
-                tty.become(self.command or self.asked.command, environment, None if self.command else self.asked.instead)
+                spawn.become(self.command or self.asked.command, environment, None if self.command else self.asked.instead)
             finally:
                 os._exit(127)
         os.set_inheritable(self.terminal, False)

@@ -6,7 +6,8 @@ import os
 import time
 from collections.abc import Callable
 
-from roam_live.common.errors import begun, noted_editors
+from roam_live.common.process import begun
+from roam_live.session.attached import noted_editors
 
 # For so many seconds from its begin, or from the keeper's, a front end is waited for: by then it has tried four times to connect.
 MEETS = 4.0

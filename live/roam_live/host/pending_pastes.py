@@ -5,10 +5,9 @@ from collections import OrderedDict
 from collections.abc import Callable
 
 from roam_live.common.event_loop import Loop
-from roam_live.protocol.paste_text import MOST_BYTES
+from roam_live.protocol.paste_text import HELD, LOST, MOST_BYTES, MOST_TEXTS, PUT, TOO_LONG, TOO_MANY
 
-# So many texts wait at most, with MOST_BYTES together, each for so many seconds since something was done with it.
-MOST_TEXTS = 64
+# A text waits KEPT seconds since something was done with it.
 KEPT = 60.0
 
 # The timer at which a text has waited for too long.
@@ -16,14 +15,6 @@ WAITED = "given texts"
 
 # So many names are known that were spent.
 MOST_SPENT = 1024
-
-# What is told of a text: that it waits, that it was put at its mark, or that it isn't known, as one that waited for too long.
-HELD, PUT, LOST = "held", "put", "lost"
-
-# Why there is no room for one yet.
-TOO_MANY = f"{MOST_TEXTS} texts wait to be pasted"
-TOO_LONG = f"{MOST_BYTES >> 20} MB wait to be pasted"
-FULL = (TOO_MANY, TOO_LONG)
 
 
 class GivenText:

@@ -1,61 +1,25 @@
-"""What a new pane or window begins with where somebody asks for it: a command, a folder, a name. It is handed to what keeps the shells
-first, which then has it begin in the next new pane there."""
+"""Commands that wait at the pty host for the new pane or window that they begin in."""
 from __future__ import annotations
 
 import os
-import re
 from collections import namedtuple
 from collections.abc import Callable
 
 from roam_live.common.event_loop import Loop
+from roam_live.protocol.spawn_request import DONE, LATE, MOST_BYTES, RAN, READY, REFUSED, TOO_LONG, WAITS, unpacked
 
 TYPE_CHECKING = False
 if TYPE_CHECKING:
     from roam_live.host.socket_peer import ShellsPeer
     from roam_live.protocol.panes import Rect
+    from roam_live.protocol.spawn_request import Begins
 
-# How one hands it over, under a name that is chosen by chance: for a pane beside that making of one, or for a window. Its bytes follow.
-RUN = re.compile(r"run ([0-9a-f]{16}) (?:([1-9]) (\d{1,20})|window) ([1-9]\d{0,5})", re.ASCII)
-RAN = "run"
-
-# So many bytes it has at most, and so many wait at a window, each for so many seconds.
-MOST_BYTES = 1 << 16
+# MOST_WAITING commands wait at a window at most.
 MOST_WAITING = 8
-WAITS = 2.0
 
-# What is told of one behind its name: it waits, it isn't taken, it has begun, or no pane came in time.
-READY, REFUSED, DONE, LATE = "ready", "refused", "done", "late"
-
-TOO_LONG = f"a command has {MOST_BYTES} bytes at most"
 TOO_MANY = f"{MOST_WAITING} commands wait for their panes"
 NO_PANE = "the pane isn't there"
 BAD = "its words can't be read"
-
-
-class Begins(namedtuple("Begins", "words folder title is_aside", defaults=("", "", False))):
-    """What a new pane or window begins with: the words of its command, its folder and its name, where it isn't as always; and whether who
-    asks for it stays where he is."""
-
-    words: list[str]
-    folder: str
-    title: str
-    is_aside: bool
-
-    def packed(self) -> bytes:
-        """The bytes by which it is handed over."""
-        return b"\0".join(os.fsencode(part) for part in (self.folder, self.title, *self.words))
-
-    def command(self) -> list[str]:
-        """The command: a single word is one of the shell, as in tmux; nothing where it is as always."""
-        return [os.environ.get("SHELL") or "/bin/sh", "-c", *self.words] if len(self.words) == 1 else list(self.words)
-
-
-def unpacked(data: bytes) -> Begins | None:
-    """What was handed over; None where it can't be read."""
-    parts = [os.fsdecode(part) for part in data.split(b"\0")]
-    if len(parts) < 2 or not parts[1].isprintable() or "" in parts[2:3]:
-        return None
-    return Begins(parts[2:], parts[0], parts[1])
 
 
 class Handed(namedtuple("Handed", "peer begins pane rects")):

@@ -8,7 +8,9 @@ import json
 import os
 import stat
 
-from roam_live.common.errors import Fault, begun, log_to, reason, replace_text
+from roam_live.common.errors import Fault, log_to, reason
+from roam_live.common.files import replace_text
+from roam_live.common.process import begun
 from roam_live.host.window import MENDED, UNMENDED
 from roam_live.session.environment import begin_agent
 from roam_live.session.window_state import WINDOWS_VERSION, window_folder, windows_folder
@@ -16,7 +18,7 @@ from roam_live.session.window_state import WINDOWS_VERSION, window_folder, windo
 TYPE_CHECKING = False
 if TYPE_CHECKING:
     from roam_live.host.windows import KeptWindow, Windows
-    from roam_live.session.sessions import WindowedSession
+    from roam_live.session.windowed import WindowedSession
 
 # Suffixes of a session whose name was taken run from 2 to LAST_NUMBER. LONGEST_NAME is the limit of a session's name.
 LAST_NUMBER = 999
@@ -56,7 +58,7 @@ class Mending:
         """Restore what is missing, unless somebody holds the session's lock, as one who launches something there."""
         if all(window.shells.is_found() for window in self.there() if window.shells):
             return
-        from roam_live.session.sessions import WindowedSession
+        from roam_live.session.windowed import WindowedSession
 
         session = WindowedSession(self.windows.asked.common)
         try:

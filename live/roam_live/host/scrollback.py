@@ -6,8 +6,9 @@ import contextlib
 from collections import deque
 from collections.abc import Callable
 
-from roam_live.common.errors import Fault, program, reason
+from roam_live.common.errors import Fault, reason
 from roam_live.common.event_loop import Loop
+from roam_live.common.process import program
 from roam_live.config.environment import DEFAULT_ROWS, chosen_history
 from roam_live.host.scrollback_process import CLEARED, LEAST_SIZE, LOST, MOST_SIZE, MOST_TERMINALS, ROWS, RowFilter, RowRecord
 from roam_live.host.scrollback_store import PaneRows, RowsRoom, Snapshot

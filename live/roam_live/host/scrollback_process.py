@@ -8,8 +8,8 @@ import signal
 from collections import namedtuple
 from collections.abc import Callable
 
-from roam_live.common.errors import read, write
 from roam_live.common.event_loop import Loop, always
+from roam_live.common.io import read, write
 from roam_live.common.text import one_line
 from roam_live.session.foreground import PANE
 

@@ -7,18 +7,21 @@ import re
 import socket
 from collections.abc import Callable
 
-from roam_live.common.errors import Fault, SocketPeer, read, reason, say, write
+from roam_live.common.errors import Fault, reason, say
 from roam_live.common.event_loop import Loop
+from roam_live.common.io import read, write
 from roam_live.common.listener import Listener
+from roam_live.common.unix_socket import SocketPeer
 from roam_live.host.paste_buffers import NOTHING, UNKNOWN, WATCHES, Buffers
 from roam_live.host.pending_clients import Unmet
-from roam_live.host.pending_pastes import KEPT, LOST, GivenText, GivenTexts
-from roam_live.host.pending_spawns import RAN, REFUSED, RUN, HandedCommands
+from roam_live.host.pending_pastes import KEPT, GivenText, GivenTexts
+from roam_live.host.pending_spawns import HandedCommands
 from roam_live.host.scrollback_queries import RowAsker
 from roam_live.host.socket_peer import MOST_WAITING, Giving, ShellsPeer, client_line
 from roam_live.protocol.colours import Colours
-from roam_live.protocol.paste_text import cleaned, random_name
+from roam_live.protocol.paste_text import LOST, cleaned, random_name
 from roam_live.protocol.presence import CLIENTS, LEAVE, LEAVE_OTHERS, WHO, Attended, Presence, presence_said
+from roam_live.protocol.spawn_request import RAN, REFUSED, RUN
 from roam_live.protocol.zoom_record import OVER, NotedZoom
 from roam_live.session.environment import BROUGHT, Brought
 

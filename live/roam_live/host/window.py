@@ -10,10 +10,12 @@ import socket
 import time
 from collections.abc import Callable
 
-from roam_live.common.errors import Fault, begun, is_running, note_end, read, reason, say
+from roam_live.common.errors import Fault, reason, say
 from roam_live.common.event_loop import Loop
 from roam_live.common.fault_log import FaultLog
+from roam_live.common.io import read
 from roam_live.common.listener import Listener
+from roam_live.common.process import begun, is_running, note_end
 from roam_live.host.foreground_watch import Fronts
 from roam_live.host.input_queue import TypedQueue
 from roam_live.host.pane import Options, PaneCommand, Spare, has_ended, say_in
@@ -29,7 +31,7 @@ from roam_live.session.tmp_keepalive import LOOKS, Lasting
 TYPE_CHECKING = False
 if TYPE_CHECKING:
     from roam_live.common.tty import Size
-    from roam_live.host.pending_spawns import Begins
+    from roam_live.protocol.spawn_request import Begins
 
 # So many seconds a close may take before it is asked for anew.
 CLOSE_WAIT = 3.0

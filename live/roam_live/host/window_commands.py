@@ -1,9 +1,8 @@
-"""The lines about windows at the keeper's sockets `shells`: which there are, what happens there, and how one is opened, named and shut."""
+"""The lines about windows at the pty host: answers those of front ends, and sends what happens to windows."""
 from __future__ import annotations
 
-import re
-
 from roam_live.common.tty import largest
+from roam_live.protocol.window_lines import GONE, NAME, OPEN, OPENED, RUNS, SHUT, WINDOW, WINDOWS, name_in, name_word
 
 TYPE_CHECKING = False
 if TYPE_CHECKING:
@@ -11,9 +10,9 @@ if TYPE_CHECKING:
     from typing import Protocol
 
     from roam_live.common.tty import Size
-    from roam_live.host.pending_spawns import Begins
     from roam_live.host.socket_peer import ShellsPeer
     from roam_live.host.socket_server import ShellsSocket
+    from roam_live.protocol.spawn_request import Begins
 
     class WindowTable(Protocol):
         """Who has the windows of a session."""
@@ -37,23 +36,6 @@ if TYPE_CHECKING:
         def came(self, number: int) -> None:
             """Takes note that a terminal is at a window now."""
 
-# The words of lines that are said, and of those that are told.
-WINDOWS, WINDOW, GONE, OPENED, BELL, ACTIVITY, RUNS = "windows", "window", "gone", "opened", "bell", "activity", "runs"
-
-# How one asks for a window to be opened, by a command that was handed over where its name stands there, named and shut. A size is cut to
-# the largest that a session may have.
-OPEN = re.compile(r"open ([1-9]\d{0,4}) ([1-9]\d{0,4})(?: ([0-9a-f]{16}))?", re.ASCII)
-NAME = re.compile(r"name ([1-9]\d?) (-|(?:[0-9a-f]{2}){1,119})", re.ASCII)
-SHUT = re.compile(r"shut ([1-9]\d?)", re.ASCII)
-
-# A session has so many windows at most, and a name so many characters, and bytes, which stand in a line in hexadecimal.
-MOST_WINDOWS = 99
-LONGEST_NAME = 64
-LONGEST_BYTES = 119
-
-# What a name is where a window has none.
-NO_NAME = "-"
-
 # One who asks may have so many opened at once.
 MOST_OPENING = 4
 
@@ -63,22 +45,6 @@ ASKED_AGAIN = 5.0
 WATCHES = "a terminal that only watches opens none"
 TOO_MANY = f"{MOST_OPENING} are being opened"
 NOT_HANDED = "its command isn't there"
-
-
-def name_in(word: str) -> str | None:
-    """The name that a word tells, nothing for none; None where it can't be one."""
-    if word == NO_NAME:
-        return ""
-    try:
-        name = bytes.fromhex(word).decode("utf-8")
-    except ValueError:
-        return None
-    return name if name.isprintable() and 0 < len(name) <= LONGEST_NAME else None
-
-
-def name_word(name: str) -> str:
-    """The word that tells a name."""
-    return name.encode("utf-8", "replace").hex() or NO_NAME
 
 
 class AskedWindow:

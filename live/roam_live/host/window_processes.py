@@ -5,9 +5,12 @@ import contextlib
 import json
 import os
 
-from roam_live.common.errors import SocketPeer, begun, connected_now, end_words, is_running, program, reason, replace_text, say
-from roam_live.common.tty import forked_apart
-from roam_live.host.window_commands import NO_NAME, name_in, name_word
+from roam_live.common.errors import reason, say
+from roam_live.common.files import replace_text
+from roam_live.common.process import begun, end_words, is_running, program
+from roam_live.common.spawn import forked_apart
+from roam_live.common.unix_socket import SocketPeer, connected_now
+from roam_live.protocol.window_lines import NO_NAME, name_in, name_word
 from roam_live.session.foreground import PANE
 from roam_live.session.processes import is_note
 from roam_live.session.window_state import SPARE, STANDS_READY, WINDOWS_VERSION, window_folder, windows_folder

@@ -8,14 +8,17 @@ import signal
 import socket
 from collections.abc import Callable
 
-from roam_live.common.errors import Fault, connected_now, read, reason, say
+from roam_live.common.errors import Fault, reason, say
+from roam_live.common.io import read
 from roam_live.common.tty import LEAST, size_act
+from roam_live.common.unix_socket import connected_now
 from roam_live.host.pane import Options
 from roam_live.host.repair import Mending
 from roam_live.host.scrollback import pane_of_key
 from roam_live.host.window import Common, Shells
-from roam_live.host.window_commands import ACTIVITY, BELL, GONE, MOST_WINDOWS, RUNS, WindowLines
+from roam_live.host.window_commands import WindowLines
 from roam_live.host.window_processes import SERVER, TERMINALS, WindowProcesses
+from roam_live.protocol.window_lines import ACTIVITY, BELL, GONE, MOST_WINDOWS, RUNS
 from roam_live.session.foreground import working_folder
 from roam_live.session.tmp_keepalive import Lasting
 from roam_live.session.window_state import note_ends, numbers_in, windows_folder
@@ -24,7 +27,7 @@ TYPE_CHECKING = False
 if TYPE_CHECKING:
     from roam_live.common.event_loop import Loop
     from roam_live.common.tty import Size
-    from roam_live.host.pending_spawns import Begins
+    from roam_live.protocol.spawn_request import Begins
 
 # What a window is: about to be there, there, or about to be gone.
 OPENING, THERE, ENDING = "opening", "there", "ending"

@@ -41,8 +41,6 @@ PASTE, PASTED = "\x1b[200~", "\x1b[201~"
 SPELLINGS.update({PASTE: "paste", PASTED: "pasted"})
 ACTS = {name for name in SPELLINGS.values() if not name.startswith("C-") and not name.startswith("paste")}
 TYPED = {"\r": "key return", "\x7f": "key backspace"}
-# What an act begins with that goes to the program in the pane in focus.
-TYPES = ("char ", "key ")
 
 # A sequence, or a character; and the beginning of a sequence that more may follow.
 WHOLE = re.compile(ANSWER.pattern + r"|\x1b\[\[[A-E]|\x1b\[[0-?]*[ -/]*[@-~]|\x1bO[ -~]|.", re.DOTALL)

@@ -1,5 +1,4 @@
-"""Bells of panes: found in what programs write, told at a socket in the session's folder, and followed there. A screen has no place for
-them."""
+"""Bells of panes at the socket `bells` of a session's folder: who tells them, and who follows. A screen has no place for them."""
 from __future__ import annotations
 
 import os
@@ -8,13 +7,11 @@ import socket
 import time
 from collections.abc import Callable
 
-from roam_live.common.errors import Fault, Lines, connected_now, read, reason, say
+from roam_live.common.errors import Fault, reason, say
 from roam_live.common.event_loop import Loop
+from roam_live.common.io import Lines, read
 from roam_live.common.listener import Listener
-
-# An escape with one of these begins a control string, in which a bell doesn't ring. A bell ends one, and so do these and any escape.
-BEGINS = b"]PX^_"
-ENDS = re.compile(rb"[\x18\x1a]")
+from roam_live.common.unix_socket import connected_now
 
 # A pane rings once in so many seconds, for so many at most who follow: terminals of other machines follow one by one, as those of this do.
 APART = 1.0
@@ -29,37 +26,6 @@ SAID = re.compile(r"say ([ -~]{1,200})")
 
 # A line that tells how the keypad of a pane is.
 KEYPAD = re.compile(r"keypad ([1-9]) (application|numeric)")
-
-
-class Bells:
-    """Finds bells in what a program writes, in any pieces."""
-
-    def __init__(self) -> None:
-        self.is_string = False
-        self.rest = b""
-
-    def rung(self, piece: bytes) -> bool:
-        """Whether a bell rings in a piece."""
-        if not self.is_string and not self.rest and b"\x07" not in piece and b"\x1b" not in piece:
-            return False
-        *parts, last = (self.rest + piece).split(b"\x07")
-        rings = False
-        for part in parts:
-            self.go_on(part)
-            rings = rings or not self.is_string
-            self.is_string = False
-            if rings:
-                break
-        self.rest = b"\x1b" if last.endswith(b"\x1b") else b""
-        self.go_on(last[: len(last) - len(self.rest)])
-        return rings
-
-    def go_on(self, text: bytes) -> None:
-        """Goes on with bytes that have no bell: whether they end inside of a control string."""
-        last = text.rfind(b"\x1b")
-        if last >= 0:
-            self.is_string = last + 1 < len(text) and text[last + 1] in BEGINS
-        self.is_string = self.is_string and not ENDS.search(text, max(last, 0))
 
 
 class BellSource:

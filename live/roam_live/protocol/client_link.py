@@ -6,16 +6,17 @@ import socket
 import time
 from collections.abc import Callable
 
-from roam_live.common.errors import Fault, SocketPeer, connected_now, is_disk_full, read, reason
+from roam_live.common.errors import Fault, reason
 from roam_live.common.event_loop import READ, WRITE, ready
-from roam_live.input.keys import TYPES
+from roam_live.common.files import is_disk_full
+from roam_live.common.io import read
+from roam_live.common.unix_socket import SocketPeer, connected_now
 from roam_live.protocol.display_records import NoRecord, Records
 
 TYPE_CHECKING = False
 if TYPE_CHECKING:
     from roam_live.protocol.display_records import ToldRecord
     from roam_live.protocol.session_interface import AnySession
-    from roam_live.session.sessions import FolderSession
 
 # The pauses before a start is spawned anew; a connection that lasted so long had no fault at its start.
 PAUSES = (0.1, 1, 2, 4, 8, 15)
@@ -52,6 +53,9 @@ LET_GO = "this terminal was let go; what was typed last may be lost"
 EARLIER = "the client start is an earlier roam's"
 REFUSED = "the client start refused a line"
 SILENT = "the client start tells nothing"
+
+# What an act begins with that goes to the program in the pane in focus.
+TYPES = ("char ", "key ")
 
 
 def greeting_of(watches: bool, guessing: str) -> bytes:
@@ -264,22 +268,6 @@ def without_keys(line: str) -> str:
     if line.startswith(PASTED):
         return ""
     return " ; ".join(act for act in line.split(" ; ") if not act.startswith(TYPES))
-
-
-def opened(session: FolderSession, watches: bool) -> StartLink:
-    """A connection over which records come; where an earlier roam's start is there it is to another, which is launched in its place."""
-    link = StartLink(session.terminals, watches)
-    for _ in range(2):
-        link.connect()
-        if link.begins(FIRST_WAIT):
-            return link
-        why = link.loss() if link.has_ended else SILENT
-        link.close()
-        if why != EARLIER:
-            break
-        with session.locked():
-            session.demand_terminals(link.process)
-    raise Fault(why)
 
 
 class Keeper:

@@ -3,7 +3,7 @@ from __future__ import annotations
 
 import socket
 
-from roam_live.common.errors import read, write
+from roam_live.common.io import read, write
 
 # A datagram has a header of 42 bytes, which begins with these letters, and 1 to 1,200 behind it.
 LETTERS = b"RM"

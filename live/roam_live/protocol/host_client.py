@@ -5,15 +5,15 @@ import os
 import socket
 from collections.abc import Callable
 
-from roam_live.common.errors import connected_now, read, write
 from roam_live.common.event_loop import Loop
-from roam_live.host.pending_pastes import FULL
-from roam_live.host.pending_spawns import RAN
+from roam_live.common.io import read, write
+from roam_live.common.unix_socket import connected_now
 from roam_live.protocol.colours import COLOUR, Colours, told_in
 from roam_live.protocol.panes_client import LET_GO, Following
-from roam_live.protocol.paste_text import MOST_BYTES
+from roam_live.protocol.paste_text import FULL, MOST_BYTES
 from roam_live.protocol.presence import HERE, LEAVE, WHO, Presence, ToldOthers, terminal_name
 from roam_live.protocol.scrollback_client import BUFFER, AnswerReader, BadAnswer, RowsLink
+from roam_live.protocol.spawn_request import RAN
 from roam_live.protocol.zoom_record import NONE, ZOOM, ZOOMED, ZoomNote, zoomed_in
 
 TYPE_CHECKING = False

@@ -6,8 +6,9 @@ import re
 import time
 from collections import namedtuple
 
-from roam_live.common.errors import Lines, connected_in, read
 from roam_live.common.event_loop import comes
+from roam_live.common.io import Lines, read
+from roam_live.common.unix_socket import connected_in
 
 TYPE_CHECKING = False
 if TYPE_CHECKING:

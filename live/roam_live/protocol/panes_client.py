@@ -6,8 +6,10 @@ import socket
 from collections import deque
 from collections.abc import Callable
 
-from roam_live.common.errors import Lines, SocketPeer, connected, connected_now, read, reason, runs_program, say, write
+from roam_live.common.errors import reason, say
 from roam_live.common.event_loop import Loop
+from roam_live.common.io import Lines, read, write
+from roam_live.common.unix_socket import SocketPeer, connected, connected_now, runs_program
 from roam_live.protocol.panes import ASIDE, BRACKETED, CLIPS, LONGEST_LINE, Places, ToldPanes
 from roam_live.protocol.queries import ASKS
 

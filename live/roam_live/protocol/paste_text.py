@@ -15,6 +15,17 @@ MOST_BYTES = 1 << 24
 DROPPED = re.compile(r"[\x00-\x08\x0a-\x0c\x0e-\x1f\x7f-\x9f]")
 DROPPED_BUT_ESCAPE = re.compile(r"[\x00-\x08\x0a-\x0c\x0e-\x1a\x1c-\x1f\x7f-\x9f]")
 
+# MOST_TEXTS texts wait at the pty host at most, with MOST_BYTES together.
+MOST_TEXTS = 64
+
+# What is told of a text: that it waits, that it was put at its mark, or that it isn't known, as one that waited for too long.
+HELD, PUT, LOST = "held", "put", "lost"
+
+# Why there is no room for one yet.
+TOO_MANY = f"{MOST_TEXTS} texts wait to be pasted"
+TOO_LONG = f"{MOST_BYTES >> 20} MB wait to be pasted"
+FULL = (TOO_MANY, TOO_LONG)
+
 
 def cleaned(text: str, keeps_escape: bool = False) -> str:
     """What of a text is pasted: LF and CR LF as CR, and no other control character but TAB; ESC too where that is kept."""

@@ -13,8 +13,8 @@ import struct
 from collections import namedtuple
 from collections.abc import Callable, Iterator
 
-from roam_live.common.errors import is_id
 from roam_live.protocol.panes import MOST_STARTS, MOST_WATCHERS, asked_places
+from roam_live.protocol.server_address import is_id
 from roam_live.session.window_state import STARTS
 
 # The file has so many bytes at most.

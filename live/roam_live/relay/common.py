@@ -4,7 +4,7 @@ from __future__ import annotations
 import signal
 import socket
 
-from roam_live.common.errors import read
+from roam_live.common.io import read
 from roam_live.protocol.datagram_stream import is_datagram
 from roam_live.relay.frames import WAITING_LIMIT
 

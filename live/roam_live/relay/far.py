@@ -9,8 +9,10 @@ import socket
 import time
 from collections.abc import Iterable
 
-from roam_live.common.errors import Fault, connected_now, noted_front_end, opened_process
+from roam_live.common.errors import Fault
 from roam_live.common.event_loop import Loop, is_taken
+from roam_live.common.process import opened_process
+from roam_live.common.unix_socket import connected_now
 from roam_live.protocol.datagram_stream import Carrier, is_datagram
 from roam_live.relay.aead_packets import PORTS, udp_end
 from roam_live.relay.client_limits import StartLimit
@@ -20,8 +22,9 @@ from roam_live.relay.forwarding import CARRIES, SHELLS
 from roam_live.relay.frames import ENDED, KILLED, LEAVES, WANTS, WINDOWS, RelayStream, Waiting
 from roam_live.relay.path_setup import close_standard, forget_note, is_wanted, made_path, name_in, part_from_command, take_over
 from roam_live.relay.transport_switch import Ways, finish
+from roam_live.session.attached import noted_front_end
 from roam_live.session.host_watchdog import ShellsWatch
-from roam_live.session.sessions import window_in
+from roam_live.session.lookup import window_in
 
 TYPE_CHECKING = False
 if TYPE_CHECKING:

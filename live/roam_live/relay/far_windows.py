@@ -8,16 +8,18 @@ import re
 import socket
 from collections.abc import Callable, Sequence
 
-from roam_live.common.errors import Fault, connected_now, is_id
+from roam_live.common.errors import Fault
 from roam_live.common.event_loop import Loop
-from roam_live.host.window_commands import GONE, MOST_WINDOWS, WINDOW, WINDOWS
+from roam_live.common.unix_socket import connected_now
 from roam_live.protocol.panes_client import Following
 from roam_live.protocol.presence import number_in
+from roam_live.protocol.server_address import is_id
+from roam_live.protocol.window_lines import GONE, MOST_WINDOWS, WINDOW, WINDOWS
 from roam_live.relay.frames import WINDOWS as LEADS
 
 TYPE_CHECKING = False
 if TYPE_CHECKING:
-    from roam_live.session.sessions import FolderSession
+    from roam_live.session.folder import FolderSession
 
 # The high byte of a peer's number names its window, which 0 stands for the relay's own.
 WINDOW_SHIFT = 8

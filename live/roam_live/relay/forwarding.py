@@ -13,8 +13,9 @@ import struct
 from collections.abc import Callable
 from typing import Generic, TypeVar
 
-from roam_live.common.errors import Fault, read, write
+from roam_live.common.errors import Fault
 from roam_live.common.event_loop import Loop
+from roam_live.common.io import read, write
 
 TYPE_CHECKING = False
 if TYPE_CHECKING:

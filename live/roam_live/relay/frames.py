@@ -17,7 +17,8 @@ import zlib
 from collections import deque
 from collections.abc import Callable, Iterator
 
-from roam_live.common.errors import Fault, read, write
+from roam_live.common.errors import Fault
+from roam_live.common.io import read, write
 from roam_live.protocol.datagram_stream import LETTERS, LONGEST, SHORTEST, is_datagram
 from roam_live.relay.batches import LARGE, LONGEST_TEXT, has_lzma, joined, pack_large, parted, saying, unpack_large
 from roam_live.relay.forwarding import BYTES, CARRIES, PipeStreams

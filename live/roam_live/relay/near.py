@@ -11,9 +11,12 @@ import subprocess
 import time
 from collections.abc import Callable, Iterator
 
-from roam_live.common.errors import Fault, count_front_ends, logs, make_room_in_logs, opened_process, read, reason, replace_text, say
+from roam_live.common.errors import Fault, logs, make_room_in_logs, reason, say
 from roam_live.common.event_loop import Loop
+from roam_live.common.files import replace_text
+from roam_live.common.io import read
 from roam_live.common.listener import Listener
+from roam_live.common.process import opened_process
 from roam_live.common.text import Said
 from roam_live.protocol.datagram_stream import Carrier, is_datagram
 from roam_live.relay.common import FORGOTTEN_AFTER, PEER_LIMIT, Ended, Options, end_for, loopback_socket, received
@@ -24,6 +27,7 @@ from roam_live.relay.near_sockets import NearSockets
 from roam_live.relay.near_windows import NearWindows
 from roam_live.relay.path_setup import Finder, NearPath, is_wanted, kept_name, near_path, wish
 from roam_live.relay.transport_switch import SOUND, Ways, finish
+from roam_live.session.attached import count_front_ends
 from roam_live.session.tmp_keepalive import Lasting
 
 TYPE_CHECKING = False

@@ -6,8 +6,9 @@ import os
 import socket
 from collections.abc import Callable
 
-from roam_live.common.errors import Fault, read, reason, say, write
+from roam_live.common.errors import Fault, reason, say
 from roam_live.common.event_loop import Loop
+from roam_live.common.io import read, write
 from roam_live.common.listener import Listener
 from roam_live.protocol.panes import ASIDE, CLIP, CLIPS, ToldPanes, aside_of
 from roam_live.protocol.panes_client import Following

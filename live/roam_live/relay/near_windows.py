@@ -6,8 +6,9 @@ import os
 import shutil
 from collections.abc import Callable
 
-from roam_live.common.errors import Fault, reason, replace_text, say
+from roam_live.common.errors import Fault, reason, say
 from roam_live.common.event_loop import Loop
+from roam_live.common.files import replace_text
 from roam_live.common.listener import Listener
 from roam_live.protocol.datagram_stream import Carrier
 from roam_live.relay.far_windows import leads_of

@@ -16,7 +16,9 @@ import threading
 import time
 from collections.abc import Iterable
 
-from roam_live.common.errors import begun, is_running, reason, replace_text, say
+from roam_live.common.errors import reason, say
+from roam_live.common.files import replace_text
+from roam_live.common.process import begun, is_running
 from roam_live.config.environment import wants_udp
 from roam_live.relay.aead_packets import KEY_LENGTH, PORTS, Seal, cipher, places_of, random_key, udp_end
 from roam_live.relay.batches import has_lzma

@@ -7,8 +7,11 @@ import os
 import stat
 import time
 
-from roam_live.common.errors import Fault, Lines, SocketPeer, connected_in, connected_now, is_own_folder, read, reason
+from roam_live.common.errors import Fault, reason
 from roam_live.common.event_loop import comes
+from roam_live.common.files import is_own_folder
+from roam_live.common.io import Lines, read
+from roam_live.common.unix_socket import SocketPeer, connected_in, connected_now
 from roam_live.protocol.panes import ASKED
 
 TYPE_CHECKING = False
@@ -17,7 +20,7 @@ if TYPE_CHECKING:
     from collections.abc import Iterable
 
     from roam_live.protocol.session_interface import AnySession
-    from roam_live.session.sessions import FolderSession
+    from roam_live.session.folder import FolderSession
 
 # The variables whose values are brought, and what one is that isn't set. The longest stands in a line in hexadecimal.
 NAMES = ("DISPLAY", "WAYLAND_DISPLAY", "SSH_CONNECTION")

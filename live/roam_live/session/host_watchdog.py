@@ -5,8 +5,9 @@ import os
 import time
 from collections.abc import Callable
 
-from roam_live.common.errors import Fault, is_stopped, opened_process, reason
+from roam_live.common.errors import Fault, reason
 from roam_live.common.event_loop import Loop
+from roam_live.common.process import is_stopped, opened_process
 
 TYPE_CHECKING = False
 if TYPE_CHECKING:

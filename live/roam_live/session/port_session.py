@@ -6,7 +6,8 @@ import shutil
 import subprocess
 import tempfile
 
-from roam_live.common.errors import Fault, Home
+from roam_live.common.errors import Fault
+from roam_live.protocol.server_address import Home
 
 
 # So many seconds the start has for its end.

@@ -10,9 +10,10 @@ import signal
 import time
 from collections.abc import Callable, Iterator
 
-from roam_live.common.errors import (SAID_AFTER, Fault, SocketPeer, begun, connected_in, is_absent, is_own_folder, is_running, reason,
-                                     replace_text, say)
-from roam_live.common.files import make_room
+from roam_live.common.errors import Fault, is_absent, reason, say
+from roam_live.common.files import is_own_folder, make_room, replace_text
+from roam_live.common.process import begun, is_running
+from roam_live.common.unix_socket import SAID_AFTER, SocketPeer, connected_in
 
 TYPE_CHECKING = False
 if TYPE_CHECKING:

@@ -5,7 +5,8 @@ import contextlib
 import os
 import re
 
-from roam_live.common.errors import Fault, is_absent, reason, replace_text
+from roam_live.common.errors import Fault, is_absent, reason
+from roam_live.common.files import replace_text
 
 # What lies in a window's folder while its server only stands ready.
 SPARE = "spare"

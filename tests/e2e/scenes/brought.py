@@ -4,7 +4,7 @@ import socket
 import subprocess
 
 from tried import Outer, check, comes, said, scene, tool
-from roam_live.common.errors import TOOLS
+from roam_live.common.process import TOOLS
 
 NOTHING = {name: "" for name in ("SSH_AUTH_SOCK", "DISPLAY", "WAYLAND_DISPLAY", "SSH_CONNECTION")}
 HOSTILE = "a'b $(echo no)`id`"

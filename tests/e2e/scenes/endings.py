@@ -17,8 +17,8 @@ import time
 from tried import (
     LIVE, Outer, PROGRAM, check, children, commands, comes, folder_of, listed, noted, own_terminal, said, scene, tool, window_of)
 from roam_live.common import tty
-from roam_live.common.errors import TOOLS, begun
-from roam_live.session.sessions import FolderSession
+from roam_live.common.process import TOOLS, begun
+from roam_live.session.folder import FolderSession
 
 LISTED = 50
 

@@ -10,7 +10,7 @@ import xml.etree.ElementTree
 import zlib
 
 from tried import Outer, PROGRAM, check, children, comes, listed, noted, said, scene, tool, window_of
-from roam_live.common.errors import TOOLS
+from roam_live.common.process import TOOLS
 from roam_live.protocol.panes import asked_places
 from roam_live.relay.frames import HEADER, greeting
 

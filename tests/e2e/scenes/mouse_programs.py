@@ -7,7 +7,7 @@ import time
 from scenes.mouse import report
 from scenes.programs import Tmux, differences, htop_options, mc_home
 from tried import SESSION, Outer, check, comes, scene, terminals_of, tool
-from roam_live.common import tty
+from roam_live.common import spawn
 from roam_live.input.mouse_reports import SGR, MouseReport, sent, tracking_of
 from roam_live.protocol.panes import ASIDE, ToldPanes
 from roam_live.protocol.screen_cells import ShownCells
@@ -65,7 +65,7 @@ def check_pointed(name, command, steps, quits):
     outer.shows("$ ")
     outer.type(b"\x02%")
     outer.status(" 1 [2]")
-    known = " ".join(f"{word}={value}" for word, value in tty.names().items())
+    known = " ".join(f"{word}={value}" for word, value in spawn.names().items())
     tmux = Tmux(f"export {known}; {command}", *PANE)
     outer.type(b"clear\r")
     outer.type(f"{command}; clear; echo le''ft {name}\r".encode())

@@ -9,7 +9,8 @@ from tried import (
     KEEPS_NONE, Outer, check, comes, connected, is_part_of, listed, noted, part_at, said, scene, shown_above, terminals_of, told_cells,
     tool)
 from emulated import Emulated
-from roam_live.common.errors import is_listened, program
+from roam_live.common.process import program
+from roam_live.common.unix_socket import is_listened
 from roam_live.protocol.screen_cells import Style
 
 # What a program paints, row by row with pauses: wide characters stand at every place of a row in turn.

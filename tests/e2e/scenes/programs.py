@@ -4,9 +4,9 @@ import shutil
 import subprocess
 
 from tried import SESSION, check, comes, scene, three_panes
-from roam_live.common import tty
+from roam_live.common import spawn
 from painted import cells_of_rows
-from roam_live.common.errors import TOOLS
+from roam_live.common.process import TOOLS
 from roam_live.protocol.screen_cells import Style
 
 # What keeps htop and mc from showing what differs from one run to the next.
@@ -94,7 +94,7 @@ def check_program(name, command, quits):
         if not shutil.which(needed):
             print(f"skipped {name}: {needed} isn't here", flush=True)
             return
-    known = " ".join(f"{word}={value}" for word, value in tty.names().items())
+    known = " ".join(f"{word}={value}" for word, value in spawn.names().items())
     tmux = Tmux(f"export {known}; {command}", *PANE)
     outer.type(b"\x02q1clear\r")
     outer.type(f"{command}; clear; echo le''ft {name}\r".encode())

@@ -8,8 +8,9 @@ import time
 from tried import SESSION, Outer, check, children, comes, is_filter, noted, said, scene, tool, window_of
 from roam_live.cli.scrollback import RowsAsked
 from roam_live.cli.targets import making_of
-from roam_live.common.errors import TOOLS, Fault
-from roam_live.session.sessions import FolderSession
+from roam_live.common.errors import Fault
+from roam_live.common.process import TOOLS
+from roam_live.session.folder import FolderSession
 
 KEPT = 10_000
 

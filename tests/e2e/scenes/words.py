@@ -5,7 +5,7 @@ import subprocess
 import xml.etree.ElementTree
 
 from tried import Outer, PROGRAM, check, comes, failed, listed, noted, said, scene, tool, window_of
-from roam_live.common.errors import TOOLS
+from roam_live.common.process import TOOLS
 from roam_live.config.environment import PREFIXES
 from roam_live.frontend.bindings import Typing, help_with
 from roam_live.input.keys import Keys

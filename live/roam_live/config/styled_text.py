@@ -1,4 +1,4 @@
-"""Texts of the last row in their styles."""
+""""""
 from __future__ import annotations
 
 from collections import namedtuple

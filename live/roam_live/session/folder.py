@@ -1,0 +1,389 @@
+"""A session by its folder: a server, or a relay to one, the process of its shells, and the client of this machine's terminals."""
+from __future__ import annotations
+
+import contextlib
+import json
+import os
+import pathlib
+import time
+
+from roam_live.common.errors import Fault
+from roam_live.common.files import is_locked, is_own_folder, replace_text
+from roam_live.common.process import TOOLS, age_of, begun, end_words, is_stopped, note_end, program
+from roam_live.common.unix_socket import is_listened
+from roam_live.protocol.panes import ASKED, MOST_STARTS, asked_places
+from roam_live.session.attached import count_front_ends
+from roam_live.session.environment import LINK
+from roam_live.session.names import LONGEST_PATH, base, check_name
+from roam_live.session.processes import START_WAIT, Processes, end_left
+from roam_live.session.window_state import STARTS, WINDOWS
+
+TYPE_CHECKING = False
+if TYPE_CHECKING:
+    from collections.abc import Iterable
+
+    from roam_live.protocol.panes import Places
+
+# What a session's note is like. An earlier roam had one without this number: its session has no start for terminals. One of 2 knows no
+# guesses.
+VERSION = 3
+
+# So many seconds it is waited for being told whether there is room for a start, before it is spawned: a person waits for that.
+ROOM_ASKED = 0.25
+
+# So many seconds the log of a session that has ended stays; and the files of which a process that was killed while it wrote one leaves
+# another, with its number behind the name.
+LOG_KEPT = 86400.0
+WRITTEN = ("ended", "state.json", "session", "attached")
+
+# From so many starts on `mux ls` tells how many a server knows.
+MANY_STARTS = 32
+
+SOCKETS = ("clients", "panes", "terminals", "bells", "shells", *(f"p{pane}" for pane in range(1, 10)))
+
+
+class FolderSession(Processes):
+    """A session: its folder, and what was noted of it.
+
+    One that was noted by `mux` has a process whose end is the session's; of one whose server was spawned by hand the folder is all that is
+    known.
+    """
+
+    # What its note is like, and the socket at which the process of each role listens.
+    version = VERSION
+    sockets = {"server": "clients", "shells": "bells", "terminals": "terminals"}
+
+    def __init__(self, folder: str | os.PathLike[str], name: str | None = None, server: int | None = None) -> None:
+        super().__init__(folder, server)
+        self.name = name or self.folder.name
+        # Whether its processes were found by its sockets.
+        self.is_found = False
+        # Where front ends are noted, and what is one for all windows; and the number of the window, where it is one of several.
+        self.common = self.folder
+        self.number = 0
+        self.terminals = self.folder / "terminals"
+        if len(str(self.terminals)) > LONGEST_PATH:
+            raise Fault(f"{self.folder} is too long for a socket's path")
+
+    @classmethod
+    def named(cls, name: str) -> FolderSession:
+        """That of a name."""
+        check_name(name)
+        return cls(base() / name)
+
+    def __str__(self) -> str:
+        return f"in {self.folder}"
+
+    # ---- its windows
+
+    def windows(self) -> list[FolderSession]:
+        """Its windows, in order: itself, where it has no others."""
+        return [self]
+
+    def title(self) -> str:
+        """What it is called as a window; nothing where it has no name."""
+        return ""
+
+    def window(self, number: int | None = None) -> FolderSession:
+        """A window by its number, else the one where somebody was last; Fault where it isn't there."""
+        if number not in (None, 1):
+            raise Fault(f"session {self.name} has one window, as an earlier roam's, and no window {number}")
+        return self
+
+    def whole_session(self) -> FolderSession:
+        """The session of which this is a window, or itself."""
+        return self
+
+    # ---- what is known of it
+
+    def id(self) -> str:
+        """The session's id, where it is known."""
+        try:
+            return (self.folder / "session").read_text(encoding="utf-8").strip()
+        except OSError:
+            return ""
+
+    def places(self, seconds: float = ASKED) -> Places | None:
+        """Where its panes are, asked now; None where nobody tells it in so many seconds, as in a folder that another user made in its
+        place."""
+        return asked_places(self.folder / "panes", seconds) if is_own_folder(self.folder) else None
+
+    def is_served(self) -> bool:
+        """Whether a server is there, or a relay to one."""
+        return is_listened(self.folder / "clients")
+
+    def busy(self) -> dict[int, str] | None:
+        """The panes in which another program than a shell runs, and its name: in none where what is noted to have kept the shells has
+        ended, or was never begun, as where a start was killed half-way. None where that isn't known: shells that were spawned by hand are
+        noted nowhere, and found by their socket alone."""
+        from roam_live.session.foreground import busy_panes
+
+        if self.state is None:
+            with contextlib.suppress(Fault):
+                self.find()
+        shells = self.process("shells")
+        noted = self.state if self.state and not self.is_found else {}
+        if shells is None and (self.served in noted or "shells" in noted):
+            return {}
+        if shells is None:
+            with contextlib.suppress(Fault):
+                shells = self.listener(self.sockets["shells"])
+        return None if shells is None else busy_panes(shells)
+
+    def busy_programs(self) -> dict[tuple[int, int], str] | None:
+        """The same by windows and panes; 0 is the one of a session that has no others."""
+        busy = self.busy()
+        return None if busy is None else {(0, pane): name for pane, name in busy.items()}
+
+    def ending(self) -> tuple[str, int]:
+        """What is said where the process that serves it has ended, and the status: who ends it on purpose notes so before."""
+        if self.met and self.ended() == end_words(*self.met):
+            return "[the session has ended]", 0
+        return f"[the server was killed, or has failed, and its session is gone; {self.log} may tell why]", 1
+
+    def ended(self) -> str:
+        """What is noted of an end: the process that served and when it began; nothing where nothing is."""
+        try:
+            return (self.folder / "ended").read_text(encoding="utf-8").strip()
+        except (OSError, ValueError):
+            return ""
+
+    def note_end(self) -> None:
+        """Notes that the process that serves it is about to be ended on purpose, so that who follows it tells no fault."""
+        if self.runs() and self.met:
+            note_end(self.folder, *self.met)
+
+    def demand_age(self) -> None:
+        """Refuses one that an earlier roam began."""
+        if self.runs("server") and (self.state or {}).get("version") != self.version:
+            raise Fault(f"session {self.name} was begun by an earlier roam, and is left to it: `mux kill {self.name}` ends it")
+
+    # ---- whether it is there
+
+    def find(self) -> bool:
+        """Whether it runs: as is noted, or else as the process tells that answers at its socket. Where the note is lost, as to a cleaner of
+        old files, its processes are known again from then on."""
+        if self.runs():
+            return True
+        self.demand_read()
+        process = self.listener(self.sockets[self.served])
+        process = self.holder() if process is None else process
+        if process is None:
+            return False
+        found: dict[str, int | None] = {self.served: process}
+        for role in self.sockets:
+            if role != self.served:
+                with contextlib.suppress(Fault):
+                    found[role] = self.listener(self.sockets[role])
+        command = command_of(found.get("shells"), self.folder)
+        self.state = {"version": self.version, "command": command, **{role: [one, begun(one)] for role, one in found.items() if one}}
+        self.is_found = True
+        return self.runs()
+
+    def holder(self) -> int | None:
+        """The process that serves, by the folder that it holds, where neither a note nor a socket is left; None where it holds none."""
+        return None
+
+    def demand(self) -> None:
+        """Refuses where it doesn't run."""
+        if not self.find():
+            raise Fault(f"no session {self.name} is running")
+
+    def note_found(self) -> None:
+        """Notes again what was found by its sockets, where the note is lost; its lock is held."""
+        if self.is_found:
+            replace_text(self.note, json.dumps(self.state))
+
+    # ---- what belongs to it
+
+    def launch(self, command: Iterable[str] = ()) -> None:
+        """Launches the server and its shells, or a command in place of each shell; all or nothing."""
+        self.clean()
+        self.forget_front_ends()
+        self.state = {"version": VERSION, "command": list(command)}
+        before = self.logged()
+        with self.whole():
+            self.spawned("server", [program(), "serve", "--as-meant", "--dir", str(self.folder)])
+            self.wait_for("server", before, lambda: (self.folder / "session").exists() and self.is_served())
+            self.spawn_shells()
+
+    def demand_ready(self) -> None:
+        """Sees that what keeps its shells is there, where it was spawned just now."""
+
+    def spawn_shells(self, more: Iterable[str] = ()) -> None:
+        """Spawns what keeps a shell in each pane."""
+        state = self.state or {}
+        words = [str(TOOLS / "pane_shells"), "--close", "--server", str(state["server"][0]), *more]
+        self.spawned("shells", [*words, str(self.folder), *state.get("command", ())])
+
+    def demand_shells(self) -> None:
+        """Sees that what keeps its shells runs."""
+        if not self.runs("shells"):
+            self.spawn_shells(["--again"])
+
+    def spawn_terminals(self) -> None:
+        """Spawns the client start of this machine's terminals."""
+        self.terminals.unlink(missing_ok=True)
+        self.state = self.state or {"version": self.version}
+        self.spawned("terminals", [program(), "attach", "--dir", str(self.folder), "--terminals", str(self.terminals)])
+
+    def demand_room(self) -> None:
+        """Refuses where the server knows as many starts as it ever does."""
+        places = self.places(ROOM_ASKED)
+        if places and places.is_full():
+            raise Fault(f"session {self.name} has had the {MOST_STARTS} client starts of its life, and hears no other; what runs in it "
+                        f"goes on, and `mux kill {self.name}` ends it")
+
+    def demand_terminals(self, earlier: int | None = None) -> None:
+        """Sees that the start of this machine's terminals runs, and is ready: another than that of an earlier roam, where one is named."""
+        before = self.logged()
+        if not self.has_terminals(earlier):
+            self.demand_room()
+            self.spawn_terminals()
+            self.wait_for("terminals", before, lambda: is_listened(self.terminals))
+
+    def has_terminals(self, earlier: int | None = None) -> bool:
+        """Whether a client start for this machine's terminals is there, as is noted or as its socket tells: another than that of an earlier
+        roam, which goes on with the terminals that it has."""
+        if earlier is not None:
+            with contextlib.suppress(Fault):
+                return self.listener(self.sockets["terminals"]) not in (None, earlier)
+        if is_listened(self.terminals):
+            return True
+        start = self.process("terminals")
+        # One that runs for long and has no socket left goes on with the terminals that it has, and is found by no other.
+        return start is not None and (os.path.lexists(self.terminals) or age_of(start) < START_WAIT)
+
+    def revive(self, earlier: int | None = None) -> None:
+        """Starts the start of the terminals anew, where it has ended, or is that of an earlier roam, and nobody else does."""
+        with contextlib.suppress(BlockingIOError), self.locked(may_wait=False):
+            if not self.has_terminals(earlier):
+                self.spawn_terminals()
+
+    def revive_shells(self) -> bool:
+        """Spawns the shells anew where what kept them has ended; tells whether they run."""
+        with contextlib.suppress(BlockingIOError), self.locked(may_wait=False):
+            if self.find():
+                self.demand_shells()
+        return self.runs("shells")
+
+    # ---- its end
+
+    def clean(self) -> None:
+        """Removes what a session that doesn't run any more left, but for its log and the note of its end. Where somebody answers still
+        nothing is removed."""
+        if self.is_served():
+            raise Fault(f"somebody answers at {self.folder / 'clients'}; nothing is removed there")
+        # A front end that is there still reads how it ended.
+        count_front_ends(self.folder)
+        relays = self.folder / "relays"
+        # An earlier roam left `rects`.
+        notes = [self.folder / name for name in (*SOCKETS, LINK, STARTS, "rects", "session", "session.new", "state.json")]
+        for path in [*(relays.iterdir() if relays.is_dir() else ()), *notes]:
+            path.unlink(missing_ok=True)
+        if self.served == "relay":
+            import shutil
+
+            shutil.rmtree(self.folder / WINDOWS, ignore_errors=True)
+
+    def forget_front_ends(self) -> None:
+        """Has no front end counted that was at one of this name before."""
+        attached = self.folder / "attached"
+        for note in attached.iterdir() if attached.is_dir() else ():
+            note.unlink(missing_ok=True)
+
+    def end_all(self) -> None:
+        """Ends the session's processes; the shells hang up their programs once the server is gone."""
+        self.note_end()
+        filters = self.filters()
+        for role in (self.served, "shells", "terminals"):
+            self.end(role)
+        end_left(filters)
+
+    def kill(self) -> None:
+        """Ends what is left of the session, and removes it; its lock is held."""
+        self.end_all()
+        self.clean()
+
+    def tidy(self) -> None:
+        """Removes what is left of a session that has ended; its lock is held, since one that is being spawned looks like that too."""
+        if not self.find():
+            self.kill()
+            with contextlib.suppress(OSError):
+                self.leave()
+
+    def leave(self) -> None:
+        """Removes the folder of one that has ended, unless somebody is there still; its log stays for a day, where it tells something."""
+        attached, ended = self.folder / "attached", self.folder / "ended"
+        if count_front_ends(self.common) or is_locked(self.folder):
+            return
+        if self.log.exists() and (attached.is_dir() or ended.exists()):
+            # It has ended just now.
+            os.utime(self.log)
+        for path in [ended, *(path for path in self.folder.iterdir() if path.stem in WRITTEN and path.suffix[1:].isdigit())]:
+            path.unlink(missing_ok=True)
+        for folder in (attached, self.folder / "relays"):
+            if folder.is_dir():
+                folder.rmdir()
+        if not self.tells() or time.time() > self.log.stat().st_mtime + LOG_KEPT:
+            self.log.unlink(missing_ok=True)
+        (self.folder / "lock").unlink(missing_ok=True)
+        if not self.log.exists():
+            self.folder.rmdir()
+
+    def await_end(self) -> None:
+        """Waits for the end of what ends soon once nothing is served, where there is such a process."""
+
+    def drop_ended(self) -> None:
+        """Cleans up after one that has ended, where nobody launches it anew."""
+        with contextlib.suppress(OSError), self.locked(may_wait=False):
+            self.tidy()
+
+    def close(self) -> None:
+        """Lets it go: its processes stay."""
+
+    # ---- what `mux ls` says
+
+    def listed(self) -> str:
+        """What `mux ls` says of it: nothing of one that has ended, which is cleaned up where nobody launches it anew."""
+        if not self.find():
+            self.drop_ended()
+        return self.line() if self.runs() else ""
+
+    def line(self) -> str:
+        """What `mux ls` says of it."""
+        places = self.places()
+        size = "{} by {}".format(*places.size()) if places else "-"
+        panes = len(places.rects) if places else None
+        return f"{listed(self.name, size, panes, count_front_ends(self.common))}{many_starts([places])}{self.lacking()}"
+
+    def lacking(self) -> str:
+        """What `mux ls` says of what keeps the shells, where that doesn't run."""
+        shells = self.process("shells")
+        if shells is None:
+            return ", nothing keeps its shells"
+        return ", what keeps its shells is stopped" if is_stopped(shells) else ""
+
+
+def listed(name: str, size: str, panes: int | None, terminals: int) -> str:
+    """What `mux ls` says of any session; panes that aren't known are None."""
+    has = "? panes" if panes is None else "1 pane" if panes == 1 else f"{panes} panes"
+    return f"{name:12} {size:12} {has:8} {terminals} terminal{'' if terminals == 1 else 's'}"
+
+
+def many_starts(found: Iterable[Places | None]) -> str:
+    """What `mux ls` says of how many starts a server has had, where they are many; from some on no new one of another machine is taken."""
+    places = max((one for one in found if one), key=lambda one: one.starts, default=None)
+    if not places or places.starts <= MANY_STARTS:
+        return ""
+    warning = ", new ones of this machine alone are taken" if places.warning() else ""
+    return f", {places.starts} of {MOST_STARTS} starts{', no other is taken' if places.is_full() else warning}"
+
+
+def command_of(shells: int | None, folder: pathlib.Path) -> list[str]:
+    """The command that a process keeps in each pane of a folder's session; none where it is the shell, or isn't known."""
+    try:
+        words = pathlib.Path(f"/proc/{shells}/cmdline").read_bytes().split(b"\0")[:-1]
+        return [os.fsdecode(word) for word in words[words.index(os.fsencode(folder)) + 1 :]]
+    except (OSError, ValueError):
+        return []

@@ -1,0 +1,337 @@
+"""Sessions with windows, and their windows."""
+from __future__ import annotations
+
+import contextlib
+import os
+import time
+
+from roam_live.common.errors import Fault
+from roam_live.common.process import TOOLS, begun, end_words, holder_of, program
+from roam_live.common.unix_socket import is_listened
+from roam_live.protocol.window_lines import MOST_WINDOWS, name_in
+from roam_live.session.attached import count_front_ends
+from roam_live.session.folder import FolderSession, command_of, listed, many_starts
+from roam_live.session.names import LONGEST_PATH
+from roam_live.session.processes import end_left
+from roam_live.session.window_state import SPARE, WINDOWS, WINDOWS_VERSION, note_ends, numbers_in, stands_ready
+
+TYPE_CHECKING = False
+if TYPE_CHECKING:
+    from collections.abc import Iterable, Iterator
+
+# The window with which a session begins.
+FIRST = 1
+
+# So many seconds it is waited for what keeps a session, where nothing is left that it keeps.
+END_SOON = 1.0
+
+
+class WindowedSession(FolderSession):
+    """A session with windows: its note has the keeper of its shells, which has the rest."""
+
+    served = "shells"
+    sockets = {"shells": "shells"}
+    version = WINDOWS_VERSION
+
+    def __init__(self, folder: str | os.PathLike[str]) -> None:
+        super().__init__(folder)
+        self.folder_of_windows = self.folder / WINDOWS
+        if len(str(self.folder_of_windows / str(MOST_WINDOWS) / "terminals")) > LONGEST_PATH:
+            raise Fault(f"{self.folder} is too long for a socket's path")
+
+    # ---- its windows
+
+    def all_windows(self) -> list[Window]:
+        """The windows of which there are folders, in order, whether they run or not."""
+        return [Window(self, number) for number in numbers_in(str(self.folder_of_windows))]
+
+    def windows(self) -> list[FolderSession]:
+        """The windows that run, in order."""
+        return [window for window in self.all_windows() if window.find() and not window.is_spare()]
+
+    def window(self, number: int | None = None) -> FolderSession:
+        """A window by its number, else the one where somebody was last; Fault where it isn't there."""
+        if number is not None:
+            named = Window(self, number) if number in numbers_in(str(self.folder_of_windows)) else None
+            if not named or not named.find() or named.is_spare():
+                raise Fault(f"session {self.name} has no window {number}")
+            return named
+        there = self.windows()
+        if not there and self.runs(self.served):
+            raise Fault(f"session {self.name} runs, and nothing is left by which its windows are found, as where a cleaner removed it; "
+                        "what keeps them makes that anew within a minute")
+        if not there:
+            raise Fault(f"session {self.name} has ended")
+        last = self.last()
+        return next((window for window in there if window.number == last), there[0])
+
+    def last(self) -> int:
+        """The window where somebody was last, as far as that is noted."""
+        with contextlib.suppress(OSError, ValueError):
+            return int((self.folder_of_windows / "last").read_text(encoding="ascii")[:9])
+        return 0
+
+    # ---- whether it is there
+
+    def runs(self, role: str | None = None) -> bool:
+        """Whether the process of a role runs; where none is named, whether a window does, or what keeps them."""
+        return super().runs(role) or role is None and any(window.runs() for window in self.all_windows())
+
+    def listener(self, name: str) -> int | None:
+        """The process that listens at a socket of this name of any window; None where none does."""
+        for number in numbers_in(str(self.folder_of_windows)):
+            found = super().listener(f"{WINDOWS}/{number}/{name}")
+            if found is not None:
+                return found
+        return None
+
+    def find(self) -> bool:
+        """Whether it runs: as is noted, or else as the processes tell that answer at its sockets, which are known again from then on."""
+        if self.process(self.served):
+            return True
+        self.demand_read()
+        with contextlib.suppress(Fault):
+            keeper = self.listener(self.sockets[self.served])
+            keeper = self.holder() if keeper is None else keeper
+            if keeper is not None:
+                command = command_of(keeper, self.folder)
+                self.state = {"version": self.version, "command": command, self.served: [keeper, begun(keeper)]}
+                self.is_found = True
+                return True
+        return bool(self.windows())
+
+    def holder(self) -> int | None:
+        """What keeps its windows, by the folder that it holds."""
+        return holder_of(self.folder)
+
+    def is_ready(self) -> bool:
+        """Whether a window is there, with what keeps its shells."""
+        return any(is_listened(window.folder / "shells") for window in self.windows())
+
+    # ---- what belongs to it
+
+    def launch(self, command: Iterable[str] = ()) -> None:
+        """Launches what keeps its windows, and the server of the first, with a command in place of each shell; all or nothing."""
+        self.clean()
+        self.forget_front_ends()
+        self.state = {"version": self.version, "command": list(command)}
+        window = Window(self, FIRST)
+        window.name = self.name
+        with self.whole():
+            # It takes longest, and waits for the server of the first window, which is spawned meanwhile.
+            self.spawn_shells(["--first"])
+            window.spawn_server()
+
+    def demand_ready(self) -> None:
+        """Waits until what keeps its windows has one."""
+        # A command that ends at once may have ended it already.
+        self.wait_for("shells", self.logged(), lambda: self.is_ready() or self.own["shells"].poll() == 0)
+
+    def spawn_shells(self, more: Iterable[str] = ()) -> None:
+        """Spawns what keeps its windows."""
+        self.state = self.state or {"version": self.version, "command": []}
+        words = [str(TOOLS / "pane_shells"), "--windows", *more, str(self.folder), *self.state.get("command", ())]
+        self.spawned("shells", words)
+
+    def demand_shells(self) -> None:
+        """Sees that what keeps its windows runs, and one of them is there."""
+        if not self.runs("shells"):
+            before = self.logged()
+            self.spawn_shells()
+            self.wait_for("shells", before, self.is_ready)
+
+    def demand_terminals(self, earlier: int | None = None) -> None:
+        """Sees that the start of the window runs where somebody was last, while there is one."""
+        if self.windows():
+            self.window().demand_terminals(earlier)
+
+    def revive_shells(self) -> bool:
+        """Spawns what keeps its windows anew where it has ended, and takes them over; tells whether it runs."""
+        with contextlib.suppress(BlockingIOError), self.locked(may_wait=False):
+            if not self.runs("shells") and self.find():
+                self.spawn_shells()
+        return self.runs("shells")
+
+    def busy(self) -> dict[int, str] | None:
+        """What runs in the panes of its windows is told by these."""
+        return {}
+
+    def busy_programs(self) -> dict[tuple[int, int], str] | None:
+        """The windows and panes in which another program than a shell runs, and its name; None where that isn't known."""
+        from roam_live.session.foreground import busy_programs
+
+        keeper = self.process("shells")
+        busy = busy_programs(keeper) if keeper else {}
+        numbers = {str(window.folder): window.number for window in self.all_windows()}
+        return None if busy is None else {(numbers.get(folder, 0), pane): name for (folder, pane), name in busy.items()}
+
+    # ---- its end
+
+    @contextlib.contextmanager
+    def whole(self) -> Iterator[None]:
+        """Ends what is spawned inside, where not all of it could be, with what that has spawned."""
+        with super().whole():
+            try:
+                yield
+            except BaseException:
+                self.end_all()
+                raise
+
+    def await_end(self) -> None:
+        """Waits for what keeps its windows, which ends soon once there are none."""
+        end = time.monotonic() + END_SOON
+        while self.runs(self.served) and not self.windows() and time.monotonic() < end:
+            time.sleep(0.01)
+
+    def note_end(self) -> None:
+        """Notes that its windows' servers are about to be ended on purpose."""
+        note_ends(str(self.folder), [end_words(*window.met) for window in self.all_windows() if window.runs() and window.met])
+
+    def end_all(self) -> None:
+        """Ends the keeper, which ends the windows, and those that it left."""
+        self.note_end()
+        filters = self.filters()
+        self.end(self.served)
+        for window in self.all_windows():
+            window.end_all()
+        end_left(filters)
+
+    def clean(self) -> None:
+        """Removes what a session that doesn't run any more left, but for its log and the note of its end."""
+        for window in self.all_windows():
+            window.clean()
+        (self.folder_of_windows / "last").unlink(missing_ok=True)
+        with contextlib.suppress(OSError):
+            self.folder_of_windows.rmdir()
+        super().clean()
+
+    # ---- what `mux ls` says
+
+    def line(self) -> str:
+        """What `mux ls` says of it: the size of the window where somebody was last, the panes of all, and where there are several which."""
+        windows = self.windows()
+        places = {window.number: window.places() for window in windows}
+        shown = places.get(self.last()) or next(iter(places.values()), None)
+        size = "{} by {}".format(*shown.size()) if shown else "-"
+        panes = None if None in places.values() or not places else sum(len(one.rects) for one in places.values() if one)
+        named = " ".join(f"{window.number}:{window.title()}" if window.title() else f"{window.number}" for window in windows)
+        more = f", {len(windows)} windows: {named}" if len(windows) > 1 else ""
+        starts = many_starts(places.values())
+        return f"{listed(self.name, size, panes, count_front_ends(self.folder))}{starts}{more}{self.lacking()}"
+
+
+class Window(FolderSession):
+    """A window of a session: its server and its start, as they are noted in its folder. Its lock, its log, and what keeps its shells are
+    the session's."""
+
+    version = WINDOWS_VERSION
+    sockets = {"server": "clients", "terminals": "terminals"}
+
+    def __init__(self, session: WindowedSession, number: int, server: int | None = None) -> None:
+        super().__init__(session.folder_of_windows / str(number), f"{session.name}:{number}", server)
+        self.session, self.number = session, number
+        self.common, self.log = session.folder, session.log
+
+    def whole_session(self) -> FolderSession:
+        """The session of which this is a window."""
+        return self.session
+
+    def windows(self) -> list[FolderSession]:
+        """The windows of its session that run."""
+        return self.session.windows()
+
+    def window(self, number: int | None = None) -> FolderSession:
+        """A window of its session by its number, else this one."""
+        return self if number in (None, self.number) else self.session.window(number)
+
+    def spawn_server(self) -> None:
+        """Spawns the server, in the window's folder, which is made."""
+        for folder in (self.folder.parent, self.folder):
+            folder.mkdir(mode=0o700, exist_ok=True)
+        self.state = {"version": self.version}
+        before = self.logged()
+        try:
+            self.spawned("server", [program(), "serve", "--as-meant", "--dir", str(self.folder)])
+            self.wait_for("server", before, lambda: (self.folder / "session").exists() and self.is_served())
+        except BaseException:
+            self.end_all()
+            raise
+
+    def is_spare(self) -> bool:
+        """Whether its server only stands ready, and it is no window: the mark in its folder may be lost, as to a cleaner of old files."""
+        if (self.folder / SPARE).exists():
+            return True
+        is_joined = any(os.path.lexists(self.folder / name) for name in ("shells", "terminals"))
+        return not is_joined and stands_ready(self.process("server"))
+
+    def title(self) -> str:
+        """What it is called; nothing where it has no name."""
+        try:
+            return name_in((self.folder / "name").read_text(encoding="utf-8")[:512].strip()) or ""
+        except (OSError, ValueError):
+            return ""
+
+    # ---- what is known of it
+
+    def process(self, role: str) -> int | None:
+        """The process of a role; None where none runs."""
+        if role == "shells":
+            self.session.read()
+            return self.session.process(role)
+        return super().process(role)
+
+    def busy(self) -> dict[int, str] | None:
+        """The panes in which another program than a shell runs, and its name."""
+        from roam_live.session.foreground import busy_panes
+
+        keeper = self.process("shells")
+        return busy_panes(keeper, str(self.folder)) if keeper else {}
+
+    def ending(self) -> tuple[str, int]:
+        """What is said where its server has ended, and the status."""
+        if self.met and end_words(*self.met) in self.session.ended().splitlines():
+            return "[the session has ended]", 0
+        return f"[the server was killed, or has failed, and its session is gone; {self.log} may tell why]", 1
+
+    def note_end(self) -> None:
+        """Notes that its server is about to be ended on purpose."""
+        if self.runs() and self.met:
+            note_ends(str(self.common), [end_words(*self.met)])
+
+    # ---- what belongs to it
+
+    def taken_lock(self, may_wait: bool) -> int:
+        """The session's lock, once this process has it."""
+        return self.session.taken_lock(may_wait)
+
+    def launch(self, command: Iterable[str] = ()) -> None:
+        """Refuses: what keeps the session's windows opens them."""
+        raise Fault(f"session {self.session.name}: what keeps its windows opens them")
+
+    def demand_terminals(self, earlier: int | None = None) -> None:
+        """Sees that the start of this machine's terminals runs, and is ready; what was found by its sockets is noted again."""
+        self.note_found()
+        super().demand_terminals(earlier)
+
+    def demand_shells(self) -> None:
+        """Sees that what keeps the session's windows runs."""
+        self.session.read()
+        self.session.demand_shells()
+
+    def revive_shells(self) -> bool:
+        """Spawns what keeps the session's windows anew, where it has ended; tells whether it runs."""
+        return self.session.revive_shells()
+
+    def end_all(self) -> None:
+        """Ends its processes."""
+        for role in ("server", "terminals"):
+            self.end(role)
+
+    def clean(self) -> None:
+        """Removes what it left, with its folder."""
+        super().clean()
+        for name in ("name", SPARE):
+            (self.folder / name).unlink(missing_ok=True)
+        for folder in (self.folder / "relays", self.folder):
+            with contextlib.suppress(OSError):
+                folder.rmdir()

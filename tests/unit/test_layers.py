@@ -1,0 +1,102 @@
+"""The layers of the packages in live/roam_live: each package imports only itself and the packages below it.
+
+Every import counts: those at the top of a module, those below TYPE_CHECKING, and those inside functions.
+"""
+import ast
+import graphlib
+import re
+
+from aids import Case
+from roam_live.common.process import TOOLS
+
+PACKAGE = TOOLS / "roam_live"
+
+# From the lowest layer to the highest. Packages on the same line do not import each other.
+LAYERS = (("common",), ("protocol",), ("input", "session"), ("config",), ("frontend", "host", "relay"), ("cli",))
+LAYER = {package: number for number, packages in enumerate(LAYERS) for package in packages}
+
+
+def package_of(module: str) -> str:
+    """Return the package of a dotted module name below roam_live, "" if it has none."""
+    return module.split(".")[1] if module.count(".") else ""
+
+
+def imports_in(text: str) -> "list[tuple[int, str]]":
+    """Return the line and the dotted name of each import of roam_live in a module, and of each name that may be a module."""
+    found = []
+    for node in ast.walk(ast.parse(text)):
+        if isinstance(node, ast.Import):
+            found += [(node.lineno, alias.name) for alias in node.names]
+        elif isinstance(node, ast.ImportFrom):
+            # A relative import would hide its package.
+            module = "." * node.level + (node.module or "")
+            found += [(node.lineno, f"{module}.{alias.name}") for alias in node.names]
+    return [(line, name) for line, name in found if name.startswith((".", "roam_live"))]
+
+
+def modules_named_in(text: str) -> "list[tuple[int, str]]":
+    """Return the line and the name of each module that a text names as a string, as for a later import."""
+    strings = [node for node in ast.walk(ast.parse(text)) if isinstance(node, ast.Constant) and isinstance(node.value, str)]
+    return [(node.lineno, node.value) for node in strings if re.fullmatch(r"roam_live(\.[a-z_]+)+", node.value)]
+
+
+def faults_in(name: str, text: str) -> "list[str]":
+    """Return what is wrong with the imports of a module, given by its path below live/."""
+    package, faults = package_of(name.removesuffix(".py").replace("/", ".")), []
+    for line, module in imports_in(text) + modules_named_in(text):
+        other = package_of(module)
+        if other not in LAYER:
+            faults.append(f"{name}:{line}: {module} is in no package")
+        elif other != package and LAYER[other] >= LAYER[package]:
+            faults.append(f"{name}:{line}: {package} imports {module}, which is not below it")
+    return faults
+
+
+def texts() -> "dict[str, str]":
+    """Return the text of each module, by its path below live/."""
+    paths = sorted(path for path in PACKAGE.rglob("*.py") if path != PACKAGE / "__init__.py")
+    return {str(path.relative_to(TOOLS)): path.read_text(encoding="utf-8") for path in paths}
+
+
+class Layers(Case):
+    """Which package imports which."""
+
+    def test_packages(self):
+        """Each package has a layer, each module is in a package, and the `__init__.py` of each package is empty."""
+        folders = {path.parent for path in PACKAGE.rglob("*.py")} - {PACKAGE}
+        self.assertEqual({folder.relative_to(PACKAGE).parts[0] for folder in folders}, set(LAYER))
+        self.assertEqual([path.name for path in PACKAGE.glob("*.py")], ["__init__.py"])
+        self.assertEqual({(folder / "__init__.py").read_bytes() for folder in folders}, {b""})
+
+    def test_layers(self):
+        """No module imports from a package that is not below its own."""
+        self.assertEqual([fault for name, text in texts().items() for fault in faults_in(name, text)], [])
+
+    def test_no_cycle(self):
+        """The packages have an order in which each comes after all that it imports."""
+        graph = {package: set() for package in LAYER}
+        for name, text in texts().items():
+            package = package_of(name.replace("/", "."))
+            graph[package] |= {package_of(module) for _, module in imports_in(text)} - {package}
+        order = list(graphlib.TopologicalSorter(graph).static_order())
+        self.assertEqual((order[0], order[-1], sorted(order)), ("common", "cli", sorted(LAYER)))
+
+    def test_found(self):
+        """An upward import is found wherever it is, and a sideways or relative one too."""
+        cases = (
+            ("roam_live/common/a.py", "from roam_live.protocol.bells import X\n", 1),
+            ("roam_live/common/a.py", "import roam_live.cli.cmd\n", 1),
+            ("roam_live/input/a.py", "TYPE_CHECKING = False\nif TYPE_CHECKING:\n    from roam_live.session.names import NAME\n", 3),
+            ("roam_live/host/a.py", "def f():\n    from roam_live.relay import near\n", 2),
+            ("roam_live/frontend/copymode/a.py", "from roam_live.host import pane\n", 1),
+            ("roam_live/session/a.py", "from . import names\n", 1),
+            ("roam_live/config/a.py", "from roam_live import cli\n", 1),
+            ("roam_live/session/a.py", "MODULES = ('json', 'roam_live.config.loader')\n", 1),
+        )
+        for name, text, line in cases:
+            found = faults_in(name, text)
+            self.assertEqual([fault.partition(": ")[0] for fault in found], [f"{name}:{line}"], text)
+        for name, text in (("roam_live/cli/a.py", "from roam_live.common import tty\nfrom roam_live.frontend.copymode.keys import X\n"),
+                           ("roam_live/frontend/a.py", "from roam_live.frontend.copymode import mode\nimport re\n"),
+                           ("roam_live/frontend/copymode/a.py", "from roam_live.frontend import display\n")):
+            self.assertEqual(faults_in(name, text), [])
