@@ -15,7 +15,7 @@ def shared(folder):
 @scene
 def guesses(folder):
     """What is tried of guesses."""
-    run = subprocess.run(script("try_guesses", PROGRAM), stdout=subprocess.PIPE, stderr=subprocess.STDOUT, check=False)
+    run = subprocess.run(script("try_predictions", PROGRAM), stdout=subprocess.PIPE, stderr=subprocess.STDOUT, check=False)
     print(run.stdout.decode("utf-8", "replace"), end="", flush=True)
     check("what keys are guessed to show leaves no trace", run.returncode == 0, run.returncode)
 
