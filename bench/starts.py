@@ -101,7 +101,7 @@ class Side:
             run([*self.new_detached, name], self.environment)
         found = [run(self.ls, self.environment) for _ in range(times)]
         notes = [json.loads(path.read_text(encoding="utf-8")) for path in self.folder.glob("roam/*/state.json")]
-        roles = ("server", "shells", "terminals") if notes else ()
+        roles = ("server", "host", "client") if notes else ()
         memory = {role: statistics.median(memory_of(note[role][0]) for note in notes) for role in roles}
         for name in names:
             run([*self.kill, name], self.environment)

@@ -70,9 +70,9 @@ _roam_mux() {
         return
     fi
     case ${COMP_WORDS[COMP_CWORD - 1]} in
-    ssh) mapfile -t COMPREPLY < <(compgen -A hostname -W "--ssh --far --guess --help" -- "$word") && return ;;
+    ssh) mapfile -t COMPREPLY < <(compgen -A hostname -W "--ssh --far --predict --help" -- "$word") && return ;;
     mux | roam-mux | */mux | */roam-mux) words="$_roam_mux_words $(_roam_mux_names "${mux[@]}")" ;;
-    attach) words="-d --guess --help $(_roam_mux_names "${mux[@]}")" ;;
+    attach) words="-d --predict --help $(_roam_mux_names "${mux[@]}")" ;;
     :) words=$(_roam_mux_windows "${COMP_WORDS[COMP_CWORD - 2]}" "${mux[@]}") ;;
     new-window) words="-n --help $(_roam_mux_names "${mux[@]}")" ;;
     -n) words= ;;
@@ -85,8 +85,8 @@ _roam_mux() {
     buffer) words="list show set paste --help" ;;
     -S | -E) words="-" ;;
     --svg | --raw | -f | -e | -J | -d) words=$(_roam_mux_names "${mux[@]}") ;;
-    new) words="-d --guess --help" ;;
-    --guess) words="adaptive always never" ;;
+    new) words="-d --predict --help" ;;
+    --predict) words="adaptive always never" ;;
     help) words=$_roam_mux_words ;;
     esac
     mapfile -t COMPREPLY < <(compgen -W "$words" -- "$word")
@@ -96,9 +96,9 @@ _roam_attach() {
     local word=${COMP_WORDS[COMP_CWORD]}
     case ${COMP_WORDS[COMP_CWORD - 1]} in
     --dir) _roam_folder "$word" "" ;;
-    --guess) mapfile -t COMPREPLY < <(compgen -W "adaptive always never" -- "$word") ;;
+    --predict) mapfile -t COMPREPLY < <(compgen -W "adaptive always never" -- "$word") ;;
     --server) COMPREPLY=() ;;
-    *) _roam_folder "$word" "--watch --guess --dir --server --help" ;;
+    *) _roam_folder "$word" "--watch --predict --dir --server --help" ;;
     esac
 }
 
@@ -134,10 +134,10 @@ _roam() {
         return
     fi
     case ${COMP_WORDS[1]} in
-    serve) words="--dir --port --session --turns --as-meant --help" ;;
+    serve) words="--dir --port --session --turns --normalize --help" ;;
     attach) words="--dir --port --session --client --keys --acts --terminals --wire --watch --turns --help" ;;
     show) words="--rows --cols --help" ;;
-    rows) words="--as-meant --help" ;;
+    rows) words="--normalize --help" ;;
     world) words="--help" ;;
     *) words="mux serve attach show rows world --help --version" ;;
     esac

@@ -213,17 +213,17 @@ def ssh_server(folder, machines):
         server.wait()
 
 
-def roam_client(machines, ssh, name, size=(24, 80), guessing="never"):
+def roam_client(machines, ssh, name, size=(24, 80), prediction="never"):
     """A terminal with a session of the far machine through `mux ssh`, as a side has it."""
     known = " ".join(f"{word}='{os.environ[word]}'" for word in ("ROAM", "XDG_RUNTIME_DIR", "SHELL", "PS1", "PATH", "LC_ALL"))
-    words = ["ssh", "--guess", guessing, "--ssh", ssh[name], "--far", f"env {known} {TOOLS / 'mux'}", ADDRESSES[1], name]
+    words = ["ssh", "--predict", prediction, "--ssh", ssh[name], "--far", f"env {known} {TOOLS / 'mux'}", ADDRESSES[1], name]
     environment = {"ROAM_UDP": "never"} if name == "pipe" else {}
     return Outer(["ip", "netns", "exec", machines.spaces[0], str(TOOLS / "mux"), *words], size, environment)
 
 
-def mosh_client(machines, size=(24, 80), guessing="never"):
+def mosh_client(machines, size=(24, 80), prediction="never"):
     """A terminal with a shell of the far machine through mosh."""
     words = ["ip", "netns", "exec", machines.spaces[1], "mosh-server", "new", "-i", ADDRESSES[1], "-p", str(MOSH_PORT), "--", "/bin/sh"]
     key = re.search(r"MOSH CONNECT \d+ (\S+)", run(*words))[1]
     client = ["ip", "netns", "exec", machines.spaces[0], "mosh-client", ADDRESSES[1], str(MOSH_PORT)]
-    return Outer(client, size, {"MOSH_KEY": key, "MOSH_PREDICTION_DISPLAY": guessing})
+    return Outer(client, size, {"MOSH_KEY": key, "MOSH_PREDICTION_DISPLAY": prediction})

@@ -116,10 +116,10 @@ class Side:
         print(f"        {self.name:7} {name}: {value if isinstance(value, str) else f'{value:.2f}'}", flush=True)
 
 
-def sides_of(names, machines, ssh, folder, guessing="never"):
+def sides_of(names, machines, ssh, folder, prediction="never"):
     """The sides of these names, in their order; mosh's first, so that nobody takes its port."""
-    made = {name: Side(name, mosh_client(machines, guessing=guessing), folder) for name in names if name == "mosh"}
-    made.update({name: Side(name, roam_client(machines, ssh, name, guessing=guessing), folder) for name in names if name != "mosh"})
+    made = {name: Side(name, mosh_client(machines, prediction=prediction), folder) for name in names if name == "mosh"}
+    made.update({name: Side(name, roam_client(machines, ssh, name, prediction=prediction), folder) for name in names if name != "mosh"})
     return [made[name] for name in SIDES if name in made and made[name].is_there]
 
 
@@ -353,7 +353,7 @@ def phase_paste(sides, machines, asked):
 
 
 def way_of(machines, side, seconds=4):
-    """By what a sealed side goes, while somebody types."""
+    """By what an encrypted side goes, while somebody types."""
     machines.link.clear()
     typist = typed_on([side], seconds)[0]
     tcp, udp = machines.link.sealed[TCP], machines.link.sealed[UDP]

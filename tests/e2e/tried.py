@@ -19,7 +19,7 @@ from emulated import Emulated
 from roam_live.cli.capture import asked_screen
 from roam_live.common import tty
 from roam_live.common.process import TOOLS, program
-from roam_live.protocol.client_link import StartLink
+from roam_live.protocol.client_link import ClientLink
 from roam_live.protocol.screen_cells import ShownCells, Style, cells_of
 
 # So many seconds something has for coming.
@@ -76,7 +76,7 @@ def children(process):
 
 
 def is_command(process):
-    """Whether a process is a pane's, by its words: not a filter of rows, a server or a client start."""
+    """Whether a process is a pane's, by its words: not a scrollback process, a server or a client process."""
     try:
         words = pathlib.Path(f"/proc/{process}/cmdline").read_bytes().split(b"\0")
     except OSError:
@@ -84,17 +84,17 @@ def is_command(process):
     return words[1:2] not in ([b"rows"], [b"serve"], [b"attach"])
 
 
-def is_filter(process):
-    """Whether a process is a filter of rows, by its words."""
+def is_scrollback_process(process):
+    """Whether a process is a scrollback process, by its words."""
     try:
         return pathlib.Path(f"/proc/{process}/cmdline").read_bytes().split(b"\0")[1:2] == [b"rows"]
     except OSError:
         return False
 
 
-def commands(shells):
-    """The commands of panes that what keeps the shells has started, without what else it has."""
-    return [process for process in children(shells) if is_command(process)]
+def commands(host):
+    """The commands of panes that the pty host has started, without what else it has."""
+    return [process for process in children(host) if is_command(process)]
 
 
 def listed():
@@ -119,19 +119,19 @@ def noted(name, number=1, base=None):
 
 
 def terminals_of(name, number=1):
-    """The socket of the client start of a session's window."""
+    """The socket of the client process of a session's window."""
     return window_of(name, number) / "terminals"
 
 
-def connected(name, watches=True):
-    """A connection to a session's client start, over which records come."""
-    link = StartLink(terminals_of(name), watches)
+def connected(name, is_read_only=True):
+    """A connection to a session's client process, over which records come."""
+    link = ClientLink(terminals_of(name), is_read_only)
     link.connect()
     return link
 
 
 def told_cells(name):
-    """The cells that a session shows, as its client start tells them to who watches."""
+    """The cells that a session shows, as its client process tells them to who watches."""
     return cells_of(asked_screen(connected(name), "look sgr"))
 
 
@@ -168,10 +168,10 @@ class Outer:
         """Keeps what the tool writes."""
         while True:
             try:
-                piece = os.read(self.master, 65536)
+                chunk = os.read(self.master, 65536)
             except OSError:
                 return
-            self.written += piece
+            self.written += chunk
             self.moments.append((time.monotonic(), len(self.written)))
 
     def type(self, text):
@@ -210,7 +210,7 @@ class Outer:
         return comes(lambda: any(text in row for row in self.rows()), seconds)
 
     def shown_at(self, text, seconds=WAIT):
-        """When a text came to stand somewhere from now on, by the rows after each piece that was painted; None where it doesn't in time.
+        """When a text came to stand somewhere from now on, by the rows after each chunk that was painted; None where it doesn't in time.
 
         It is read once the text was painted as it is, or nothing was painted for a moment: reading takes this process long, which may carry
         what is measured.
@@ -221,7 +221,7 @@ class Outer:
             end, searched = searched, len(self.written)
             found = self.written.find(text.encode(), max(0, end - len(text))) if searched > end else -1
             if is_over or found >= 0 or self.is_still():
-                for moment, length in [piece for piece in list(self.moments) if piece[1] > self.read_to]:
+                for moment, length in [chunk for chunk in list(self.moments) if chunk[1] > self.read_to]:
                     self.emulated.fed(bytes(self.written[self.read_to : length]))
                     self.read_to = length
                     if begun < moment <= begun + seconds and any(text in row for row in self.emulated.lines()):
@@ -331,7 +331,7 @@ KEEPS_NONE = {"ROAM_HISTORY": "0"}
 def three_panes(name=SESSION, environment=None):
     """A terminal on a session of three panes, the first beside two others and in focus."""
     outer = Outer(tool("mux", name), environment=environment)
-    # What keeps the shells follows the panes from here on, and knows where the focus was.
+    # The pty host follows the panes from here on, and knows where the focus was.
     outer.shows("$ ")
     for keys, label in ((b"", "[1]"), (b"\x02%", " 1 [2]"), (b'\x02"', " 1  2 [3]"), (b"\x02q1", "[1] 2  3")):
         outer.type(keys)

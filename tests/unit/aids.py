@@ -148,7 +148,7 @@ class Case(unittest.TestCase):
 
 
 def record(word: str, *numbers: int, data: "bytes | None" = None, words: str = "") -> bytes:
-    """A record as a client start writes it: with bytes behind it their number is told."""
+    """A record as a client process writes it: with bytes behind it their number is told."""
     counts = [*numbers, *([len(data)] if data is not None else [])]
     line = " ".join([word, *map(str, counts), *([words] if words else [])])
     return f"{line}\n".encode() + (data or b"")
@@ -172,8 +172,8 @@ def read_now(end: "socket.socket | int") -> bytes:
     text = b""
     with contextlib.suppress(BlockingIOError):
         while True:
-            piece = os.read(end if isinstance(end, int) else end.fileno(), 65536)
-            if not piece:
+            chunk = os.read(end if isinstance(end, int) else end.fileno(), 65536)
+            if not chunk:
                 break
-            text += piece
+            text += chunk
     return text

@@ -15,7 +15,7 @@ def controls(chance):
     return b"".join(parts)
 
 
-def pieces(chance, text):
+def chunks(chance, text):
     """A text, cut by chance."""
     places = sorted(chance.randint(0, len(text)) for _ in range(chance.randint(0, 4)))
     return [text[begin:end] for begin, end in zip([0, *places], [*places, len(text)])]

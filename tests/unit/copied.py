@@ -52,7 +52,7 @@ def answer_all(mode, does):
 
 
 def found_row(rows, first, is_back, text):
-    """The row behind one, or before it, at which a text begins, as the keeper finds it."""
+    """The row behind one, or before it, at which a text begins, as the host finds it."""
     from roam_live.frontend.copymode.search import matches
 
     numbers = range(first - 1, rows.first - 1, -1) if is_back else range(first + 1, rows.end)

@@ -48,9 +48,9 @@ class Emulated:
         """The screen that is shown."""
         return self.screens[self.is_other]
 
-    def fed(self, piece):
+    def fed(self, chunk):
         """Goes on with what is written."""
-        text = self.rest + self.decoder.decode(piece)
+        text = self.rest + self.decoder.decode(chunk)
         at = 0
         while at < len(text):
             part = PARTS.match(text, at)

@@ -1,4 +1,4 @@
-"""A filter of rows that is played by hand, and one that is a small script: it knows LF and CSI 3 J alone."""
+"""A scrollback process that is played by hand, and one that is a small script: it knows LF and CSI 3 J alone."""
 import contextlib
 import os
 import sys
@@ -44,12 +44,12 @@ while True:
     out.flush()
 '''
 
-# What runs that script, as a filter.
+# What runs that script, as a scrollback process.
 FAKE = [sys.executable, "-S", "-E", "-c", SCRIPT]
 
 
-class PlayedFilter:
-    """The other ends of a filter's pipes."""
+class PlayedProcess:
+    """The other ends of a scrollback process's pipes."""
 
     def __init__(self, case, said=b""):
         ends = [os.pipe() for _ in range(3)]
@@ -66,10 +66,10 @@ class PlayedFilter:
         found = b""
         with contextlib.suppress(BlockingIOError):
             while True:
-                piece = os.read(self.input, 65536)
-                if not piece:
+                chunk = os.read(self.input, 65536)
+                if not chunk:
                     break
-                found += piece
+                found += chunk
         return found
 
     def prints(self, data):
@@ -85,9 +85,9 @@ class PlayedFilter:
 
 def played(case, count=1, said=b""):
     """Filters that are spawned one after the other from now on, and played by hand; each further one can't be spawned."""
-    filters = [PlayedFilter(case, said) for _ in range(count)]
-    spawns = [(NOBODY, list(one.ends)) for one in filters]
+    processes = [PlayedProcess(case, said) for _ in range(count)]
+    spawns = [(NOBODY, list(one.ends)) for one in processes]
     patch = mock.patch.object(scrollback_process, "spawned", side_effect=[*spawns, *[OSError(11, "no process is left")] * 50])
     patch.start()
     case.addCleanup(patch.stop)
-    return filters
+    return processes

@@ -5,7 +5,7 @@ from aids import Case
 from roam_live.frontend.borders import least_of, panes_of
 from roam_live.protocol.panes import Places, Rect
 from test_borders import Played
-from test_display import Person, PlayedShells
+from test_display import Person, PlayedHost
 
 # What a front end says of what is shown, and not to the session.
 SHOWN = ("part", "whole", "repaint", "mask", "unmask")
@@ -69,10 +69,10 @@ class Attached(Case):
     def setUp(self):
         self.stop_clock()
 
-    def attach(self, session, size=(24, 80), shells=None, **more):
+    def attach(self, session, size=(24, 80), host=None, **more):
         """A person there, to whom it is told where the panes are; the session is taken to be of this machine."""
         self.session, self.shown, self.heard = session, [], []
-        self.person = Person(*size, told=session.places(), shells=shells or PlayedShells(False), **more)
+        self.person = Person(*size, told=session.places(), host=host or PlayedHost(False), **more)
         link = self.person.link
         for act in link.acts:
             session.do(act)

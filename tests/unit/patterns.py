@@ -1,6 +1,6 @@
 """Each use of `re` and each text with an escape in live/, with what it reads or writes. One that isn't in the table below is a fault, and
-so is one of the table that isn't there any more: nothing in live/ matches or searches what a client start paints, since what is painted is
-whatever a pane's program wrote.
+so is one of the table that isn't there any more: nothing in live/ matches or searches what a client process paints, since what is painted
+is whatever a pane's program wrote.
 """
 import ast
 import re
@@ -12,15 +12,15 @@ LIVE = TOOLS
 # What is read, or written, in words.
 TYPED = "reads what a person types"
 WRITES = "writes to the person's terminal, and reads nothing"
-PROGRAM = "reads what a pane's program writes, at the keeper of shells"
+PROGRAM = "reads what a pane's program writes, at the pty host"
 LINES = "reads lines of a socket of the session's folder"
 NAMES = "reads names of sessions and hosts"
 SETTINGS = "reads what a person's settings file has stand in the last row"
 KEY_NAMES = "is what a key is typed as that is named, and reads nothing"
 WORDS = "reads what a program of this machine says"
 RELAY = "reads what the other end of a relay says"
-LENT = "reads the SGR before characters of a row that the keeper lends; what is written is made anew"
-ROWS = "reads rows that the filter of rows printed, which have characters and SGR alone, and writes none of either"
+LENT = "reads the SGR before characters of a row that the host lends; what is written is made anew"
+ROWS = "reads rows that the scrollback process printed, which have characters and SGR alone, and writes none of either"
 CELLS = "reads the SGR before a cell, in the record that answers `look sgr`"
 BRACKETS = "is typed round a paste, and taken out of one"
 MARKS = "reads what was typed into a pane, for marks of texts that were given"
@@ -92,12 +92,12 @@ KNOWN = {
     ("roam_live/input/mouse_reports.py", "REPORT", "re"): TYPED,
     ("roam_live/input/mouse_reports.py", "REPORT", "ESC"): TYPED,
     ("roam_live/frontend/popup.py", "", "ESC"): WRITES,
-    ("roam_live/frontend/popup.py", "Drawing.laid", "ESC"): WRITES,
+    ("roam_live/frontend/popup.py", "Popup.laid", "ESC"): WRITES,
     ("roam_live/frontend/popup.py", "put_at", "ESC"): WRITES,
     ("roam_live/protocol/panes.py", "TOLD", "re"): LINES,
     ("roam_live/protocol/queries.py", "", "ESC"): ANSWERS,
     ("roam_live/protocol/queries.py", "NAMED", "ESC"): ANSWERS,
-    ("roam_live/protocol/queries.py", "PaneQuestion.answer", "ESC"): ANSWERS,
+    ("roam_live/protocol/queries.py", "PaneQuery.answer", "ESC"): ANSWERS,
     ("roam_live/protocol/queries.py", "mode_told", "ESC"): ANSWERS,
     ("roam_live/relay/frames.py", "GREETING", "re"): RELAY,
     ("roam_live/cli/ssh.py", "host_of", "re"): WORDS,
@@ -105,7 +105,7 @@ KNOWN = {
     ("roam_live/cli/send.py", "demand_acts", "re"): WORDS,
     ("roam_live/session/names.py", "NAME", "re"): NAMES,
     ("roam_live/session/names.py", "NEAR_NAME", "re"): NAMES,
-    **{("roam_live/config/formats.py", name, "re"): SETTINGS for name in ("HEXADECIMAL", "NUMBERED", "PIECE", "restyled")},
+    **{("roam_live/config/formats.py", name, "re"): SETTINGS for name in ("HEXADECIMAL", "NUMBERED", "CHUNK", "restyled")},
     ("roam_live/config/parser.py", "ESCAPES", "ESC"): "is what an escape of a person's settings file stands for, and reads nothing",
     ("roam_live/common/tty.py", "CLEARED", "ESC"): WRITES,
     ("roam_live/common/tty.py", "ENTERED", "ESC"): WRITES,
@@ -114,14 +114,14 @@ KNOWN = {
     ("roam_live/common/tty.py", "RESET", "ESC"): BEGIN,
     ("roam_live/common/tty.py", "unwrapped", "ESC"): WRITES,
     ("roam_live/protocol/spawn_request.py", "RUN", "re"): LINES,
-    ("roam_live/host/socket_server.py", "ASK", "re"): LINES,
-    ("roam_live/host/scrollback.py", "SHOWS_OTHER", "ESC"): "is handed to the filter of rows, and reads nothing",
+    ("roam_live/host/socket_server.py", "STATUS", "re"): LINES,
+    ("roam_live/host/scrollback.py", "SHOWS_OTHER", "ESC"): "is handed to the scrollback process, and reads nothing",
     ("roam_live/host/scrollback_store.py", "characters", "ESC"): ROWS,
     ("roam_live/cli/scrollback.py", "BEGIN", "ESC"):
-        "reads rows that the keeper handed out, and writes the SGR in them where that is asked for",
+        "reads rows that the host handed out, and writes the SGR in them where that is asked for",
     ("roam_live/host/socket_server.py", "BUFFER", "re"): LINES,
-    ("roam_live/host/socket_server.py", "GIVE", "re"): LINES,
-    ("roam_live/host/socket_server.py", "GIVE_BUFFER", "re"): LINES,
+    ("roam_live/host/socket_server.py", "PASTE", "re"): LINES,
+    ("roam_live/host/socket_server.py", "PASTE_BUFFER", "re"): LINES,
     ("roam_live/host/socket_server.py", "LEAVES", "re"): LINES,
     ("roam_live/relay/forwarding.py", "LED", "re"): LINES,
     ("roam_live/cli/targets.py", "WORD", "re"): NAMES,
@@ -130,7 +130,7 @@ KNOWN = {
     ("roam_live/protocol/paste_text.py", "DROPPED", "re"): "reads a text that is pasted",
     ("roam_live/protocol/paste_text.py", "DROPPED_BUT_ESCAPE", "re"): "reads a text that is pasted",
     ("roam_live/host/input_queue.py", "BEGUN", "re"): MARKS,
-    ("roam_live/host/input_queue.py", "MARK", "re"): MARKS,
+    ("roam_live/host/input_queue.py", "PLACEHOLDER", "re"): MARKS,
     ("roam_live/protocol/window_lines.py", "NAME", "re"): LINES,
     ("roam_live/protocol/window_lines.py", "OPEN", "re"): LINES,
     ("roam_live/protocol/window_lines.py", "SHUT", "re"): LINES,

@@ -1,4 +1,4 @@
-"""A keeper of shells that is played: it lends rows, finds texts in them, and keeps buffers; at once, or once it is told to answer."""
+"""A pty host that is played: it lends rows, finds texts in them, and keeps buffers; at once, or once it is told to answer."""
 from collections import deque
 
 from copied import rows_of
@@ -7,8 +7,8 @@ from roam_live.frontend.copymode.search import matches
 from roam_live.protocol.scrollback_client import BufferNote, Snapshot
 
 
-class PlayedKept:
-    """What it keeps of panes, of each the rows that left and those of its screen."""
+class PlayedScrollback:
+    """What it keeps of panes, of each the rows scrolled off and those of its screen."""
 
     def __init__(self, text, size, first=0):
         lines = rows_of(text, size[1])
@@ -17,7 +17,7 @@ class PlayedKept:
         self.texts: list = []
         self.asked: list = []
         self.released: list = []
-        self.on_more = lambda pane, life, count: None
+        self.on_more = lambda pane, generation, count: None
         # Whether it answers at once, and what it hasn't answered; whether it lends snapshots, and keeps buffers.
         self.is_quick, self.waiting = True, deque()
         self.lends = self.keeps = True
@@ -25,7 +25,7 @@ class PlayedKept:
         self.most = 2000
 
     def end(self):
-        """The number behind that of the last row that left."""
+        """The number behind that of the last scrolled-off row."""
         return self.first + len(self.lines) - self.size[0]
 
     def answer(self, does):
@@ -40,21 +40,21 @@ class PlayedKept:
         for _ in range(min(count, len(self.waiting))):
             self.waiting.popleft()()
 
-    def snapshot(self, pane, life, told):
+    def snapshot(self, pane, generation, told):
         """Lends a snapshot."""
-        self.asked.append(("snapshot", pane, life))
+        self.asked.append(("snapshot", pane, generation))
         screen = self.lines[-self.size[0] :]
-        found = Snapshot(pane, life, self.first, self.end(), screen) if self.lends else None
+        found = Snapshot(pane, generation, self.first, self.end(), screen) if self.lends else None
         self.answer(lambda: told(found))
 
-    def rows(self, pane, life, first, count, told):
+    def rows(self, pane, generation, first, count, told):
         """Lends rows."""
         self.asked.append(("rows", first, count))
         begin = max(first, self.first)
         lines = self.lines[begin - self.first : begin - self.first + min(count, self.most)] if self.lends else []
         self.answer(lambda: told(begin, lines))
 
-    def find(self, pane, life, first, back, text, told):
+    def find(self, pane, generation, first, back, text, told):
         """Finds a text."""
         self.asked.append(("find", first, back, text))
         rows = Rows(self.first, self.first + len(self.lines), self.size[1])
@@ -63,9 +63,9 @@ class PlayedKept:
         found = next((row for row in numbers if any(match[0][0] == row for match in matches(rows, row, text))), None)
         self.answer(lambda: told(found))
 
-    def release(self, pane, life):
+    def release(self, pane, generation):
         """Lets a snapshot go."""
-        self.released.append((pane, life))
+        self.released.append((pane, generation))
 
     def add_buffer(self, text, told):
         """Keeps a buffer."""

@@ -1,4 +1,4 @@
-"""Sealed packets: what is opened, which counters are new, and sockets that the system refuses."""
+"""Encrypted packets: what is opened, which counters are new, and sockets that the system refuses."""
 import errno
 import random
 import socket
@@ -8,7 +8,8 @@ from unittest import mock
 
 from aids import Case
 from roam_live.relay import aead_packets
-from roam_live.relay.aead_packets import (LONGEST_PACKET, LONGEST_TEXT, MOST_PACKETS, PORTS, TO_NEAR, WINDOW, Seal, Window, came_to, cipher,
+from roam_live.relay.aead_packets import (LONGEST_PACKET, LONGEST_TEXT, MOST_PACKETS, PORTS, TO_NEAR, WINDOW, AeadPackets, Window, came_to,
+                                          cipher,
                                           places_of, udp_end)
 
 
@@ -33,34 +34,34 @@ class Foolish:
         return data[:-16]
 
 
-class Seals(Case):
+class Encrypts(Case):
     """What one end seals the other opens, and nothing else."""
 
     def setUp(self):
         kind = cipher()
         if not kind:
             self.skipTest("the library cryptography isn't here")
-        self.near, self.far = Seal(kind(b"k" * 32), True), Seal(kind(b"k" * 32), False)
-        self.other = Seal(kind(b"j" * 32), True)
+        self.near, self.far = AeadPackets(kind(b"k" * 32), True), AeadPackets(kind(b"k" * 32), False)
+        self.other = AeadPackets(kind(b"j" * 32), True)
 
     def test_both_ways(self):
         """Counters go from 1 up, the highest bit tells the way, and a packet is 24 bytes more than its text."""
-        packets = [self.near.sealed(b"one"), self.near.sealed(b""), self.near.sealed(bytes(LONGEST_TEXT))]
+        packets = [self.near.encrypted(b"one"), self.near.encrypted(b""), self.near.encrypted(bytes(LONGEST_TEXT))]
         self.assertEqual([packet[:8] for packet in packets], [number.to_bytes(8, "big") for number in (1, 2, 3)])
         self.assertEqual([len(packet) for packet in packets], [27, 24, LONGEST_PACKET])
         self.assertEqual([self.far.counter_of(packet) for packet in packets], [1, 2, 3])
-        self.assertEqual([self.far.opened(packet) for packet in packets], [b"one", b"", bytes(LONGEST_TEXT)])
-        back = self.far.sealed(b"back")
+        self.assertEqual([self.far.decrypted(packet) for packet in packets], [b"one", b"", bytes(LONGEST_TEXT)])
+        back = self.far.encrypted(b"back")
         self.assertEqual(back[:8], (TO_NEAR | 1).to_bytes(8, "big"))
-        self.assertEqual((self.near.counter_of(back), self.near.opened(back)), (1, b"back"))
+        self.assertEqual((self.near.counter_of(back), self.near.decrypted(back)), (1, b"back"))
 
     def test_known_bytes(self):
-        """The nonce is four zero bytes and the packet's first eight, and no more data is sealed with it."""
-        self.assertEqual(self.near.sealed(b"text"), bytes(7) + b"\1" + cipher()(b"k" * 32).encrypt(bytes(11) + b"\1", b"text", None))
+        """The nonce is four zero bytes and the packet's first eight, and no more data is encrypted with it."""
+        self.assertEqual(self.near.encrypted(b"text"), bytes(7) + b"\1" + cipher()(b"k" * 32).encrypt(bytes(11) + b"\1", b"text", None))
 
     def test_not_its_own(self):
         """An end takes nothing that goes its own way, too short or too long, or has no counter."""
-        packet = self.near.sealed(b"text")
+        packet = self.near.encrypted(b"text")
         self.assertEqual(self.near.counter_of(packet), 0)
         counters = (0).to_bytes(8, "big"), MOST_PACKETS.to_bytes(8, "big")
         for wrong in (b"", packet[:23], packet + bytes(LONGEST_PACKET), *(counter + packet[8:] for counter in counters)):
@@ -68,16 +69,16 @@ class Seals(Case):
 
     def test_forged(self):
         """Whatever bit is turned, wherever it is cut, under another key, or with another counter: it isn't opened."""
-        packet = self.near.sealed(b"some text of 25 bytes ...")
+        packet = self.near.encrypted(b"some text of 25 bytes ...")
         for place in range(len(packet) * 8):
             forged = bytearray(packet)
             forged[place // 8] ^= 1 << place % 8
-            self.assertIsNone(self.far.opened(bytes(forged)), place)
+            self.assertIsNone(self.far.decrypted(bytes(forged)), place)
         for length in range(len(packet)):
-            self.assertIsNone(self.far.opened(packet[:length]), length)
-        self.assertIsNone(self.far.opened(self.other.sealed(b"some text")))
-        self.assertIsNone(self.far.opened(self.near.sealed(b"x")[:8] + packet[8:]))
-        self.assertEqual(self.far.opened(packet), b"some text of 25 bytes ...")
+            self.assertIsNone(self.far.decrypted(packet[:length]), length)
+        self.assertIsNone(self.far.decrypted(self.other.encrypted(b"some text")))
+        self.assertIsNone(self.far.decrypted(self.near.encrypted(b"x")[:8] + packet[8:]))
+        self.assertEqual(self.far.decrypted(packet), b"some text of 25 bytes ...")
 
 
 class Counters(unittest.TestCase):
@@ -85,13 +86,13 @@ class Counters(unittest.TestCase):
 
     def test_end(self):
         """The last counter is used once, and there is none behind it."""
-        seal = Seal(Foolish(b""), True)
-        seal.counter = MOST_PACKETS - 2
-        self.assertFalse(seal.is_spent())
-        self.assertEqual(Seal(Foolish(b""), False).counter_of(seal.sealed(b"")), MOST_PACKETS - 1)
-        self.assertTrue(seal.is_spent())
+        aead = AeadPackets(Foolish(b""), True)
+        aead.counter = MOST_PACKETS - 2
+        self.assertFalse(aead.is_spent())
+        self.assertEqual(AeadPackets(Foolish(b""), False).counter_of(aead.encrypted(b"")), MOST_PACKETS - 1)
+        self.assertTrue(aead.is_spent())
         with self.assertRaises(ValueError):
-            seal.sealed(b"")
+            aead.encrypted(b"")
 
     def test_window(self):
         """Each counter is new once, in whatever order they come; what is too old is never new."""

@@ -1,4 +1,4 @@
-"""A person's front end: its loop on a pseudo-terminal, with a start that is played, and what keys ask of it."""
+"""A person's front end: its loop on a pseudo-terminal, with a client that is played, and what keys ask of it."""
 import os
 import pty
 import select
@@ -18,7 +18,7 @@ from roam_live.input import mouse_reports
 from roam_live.input.extended_keys import QUERY, WANTED, given_back
 from roam_live.protocol import client_link
 from roam_live.protocol.colours import ASKED
-from roam_live.protocol.display_records import ToldRecord
+from roam_live.protocol.display_records import DisplayRecord
 from roam_live.protocol.host_client import FEW
 from roam_live.protocol.panes import Places, Rect
 from test_display import Person, PlayedPanes, painting, places
@@ -89,7 +89,7 @@ class Fronts(Case):
         self.patch_of(app, "woken", return_value=self.wakeup)
         self.quiet = self.patch_of(app, "unwoken")
         self.panes = PlayedPanes(self.place)
-        self.patch_of(app, "PanesFollower", lambda folder, loop, changed, tells: self.panes)
+        self.patch_of(app, "PanesSubscriber", lambda folder, loop, changed, tells: self.panes)
         self.front = FrontEnd(self.place, False, "C-b", "adaptive", lambda places: False, StillLoop())
         self.addCleanup(lambda: closed(self.front.display.outer.end))
         self.addCleanup(lambda: self.front.link.close())
@@ -109,17 +109,17 @@ class Fronts(Case):
             self.front.turn()
 
     def connect(self):
-        """Takes the terminal and connects; the start's end, which has begun to tell records."""
+        """Takes the terminal and connects; the client's end, which has begun to tell records."""
         self.front.display.outer.enter()
         self.front.connect()
-        self.start = self.taken(self.listener)
+        self.client = self.taken(self.listener)
         self.turn()
-        self.start.send(b"painted before\ntold\n")
-        return self.start
+        self.client.send(b"painted before\nevents\n")
+        return self.client
 
     def paints(self, rows=23, cols=80, text="x"):
-        """Has the start paint so many rows and columns anew."""
-        self.start.send(record("size", rows, cols) + record("anew", data=painting(rows, cols, text)))
+        """Has the client paint so many rows and columns anew."""
+        self.client.send(record("size", rows, cols) + record("anew", data=painting(rows, cols, text)))
         self.turn()
 
     def type(self, text):
@@ -138,10 +138,10 @@ class Loop(Fronts):
     """Its turns."""
 
     def test_connected(self):
-        """It asks for records, says how guesses are shown, asks for all but the last row, goes to the newest rows, and shows a painting
+        """It asks for records, says how predictions are shown, asks for all but the last row, goes to the newest rows, and shows a painting
         without its reset."""
-        start = self.connect()
-        self.assertEqual(read_now(start), b"told\nguess adaptive\npart 23 80\nview -500\n")
+        client = self.connect()
+        self.assertEqual(read_now(client), b"events\npredict adaptive\npart 23 80\nview -500\n")
         self.paints(text="hello")
         shown = self.shown()
         self.assertTrue(shown.startswith(QUERY + WANTED + tty.ENTERED) and b"hello" in shown)
@@ -153,7 +153,7 @@ class Loop(Fronts):
         text = b"".join((record("size", 23, 80), record("anew", data=painting(23, 80, "\u00e9")), record("part", 0, 0), record("taken", 4),
                          record("silent", 10), record("paint", data=b"\x1b[2;2Hz"), record("heard"), record("screen", data=b"1")))
         shown = []
-        start = self.connect()
+        client = self.connect()
         self.turn()
         self.shown()
         for cut in range(len(text) + 1):
@@ -161,8 +161,8 @@ class Loop(Fronts):
             self.front.commands.show_known()
             self.turn()
             self.shown()
-            for piece in (text[:cut], text[cut:]):
-                start.send(piece)
+            for chunk in (text[:cut], text[cut:]):
+                client.send(chunk)
                 self.turn()
             shown.append(self.shown())
         self.assertEqual(set(shown), {shown[0]})
@@ -170,51 +170,51 @@ class Loop(Fronts):
 
     def test_typed(self):
         """What is typed goes, and an escape that nothing follows in 25 ms."""
-        start = self.connect()
-        read_now(start)
+        client = self.connect()
+        read_now(client)
         self.type(b"ls\r")
-        self.assertEqual(read_now(start), b"char 6c ; char 73 ; key return\n")
+        self.assertEqual(read_now(client), b"char 6c ; char 73 ; key return\n")
         self.type(b"\x1b")
-        self.assertEqual(read_now(start), b"")
+        self.assertEqual(read_now(client), b"")
         self.now += 0.024
         self.turn()
-        self.assertEqual(read_now(start), b"")
+        self.assertEqual(read_now(client), b"")
         self.now += 0.001
         self.turn()
-        self.assertEqual(read_now(start), b"char 1b\n")
+        self.assertEqual(read_now(client), b"char 1b\n")
         self.type(b"\x1b")
         self.type(b"[A")
         self.now += 1
         self.turn()
-        self.assertEqual(read_now(start), b"key up\n")
+        self.assertEqual(read_now(client), b"key up\n")
 
     def test_silence(self):
         """A silent server is told of in the last row, with the key that leaves, until it is heard."""
-        start = self.connect()
+        client = self.connect()
         self.paints()
-        start.send(record("silent", 10))
+        client.send(record("silent", 10))
         self.turn()
         self.assertIn(b"roam: no answer for 10 s; C-b d leaves", self.shown())
-        start.send(record("heard"))
+        client.send(record("heard"))
         self.turn()
         self.assertIn(b"\x1b[24;1H\x1b[0;7m[1]   ", self.shown())
 
     def test_refused(self):
-        """What a start refuses is told once the pause before another connection is one; a full one is told as such."""
-        self.place.processes["terminals"] = 5
-        self.front.keeper.faults = 1
-        for text, told in ((record("refused", 3, words="bad act"), b"the client start refused a line: bad act"),
+        """What a client refuses is told once the pause before another connection is one; a full one is told as such."""
+        self.place.processes["client"] = 5
+        self.front.reconnector.faults = 1
+        for text, told in ((record("refused", 3, words="bad act"), b"the client process refused a line: bad act"),
                            (b"full\n", b"no more terminals are taken: 16 are there")):
-            start = self.connect()
-            start.send(text)
-            start.close()
+            client = self.connect()
+            client.send(text)
+            client.close()
             self.turn()
             self.assertIn(told + b"; tried anew in ", self.shown())
 
     def test_no_record(self):
         """What is no record ends the connection, as its end does."""
-        start = self.connect()
-        start.send(b"\x1b]0;title\x07\n")
+        client = self.connect()
+        client.send(b"\x1b]0;title\x07\n")
         self.turn()
         self.assertIsNone(self.front.link.peer)
         self.assertNotIn(b"title", self.shown())
@@ -222,19 +222,19 @@ class Loop(Fronts):
     def test_untold(self):
         """Where it isn't told where the panes are, which a line says, all of the session is shown; so it is ten seconds later where nothing
         says so."""
-        start = self.connect()
-        read_now(start)
+        client = self.connect()
+        read_now(client)
         self.place.told = None
         self.front.untold("where panes are isn't told")
         self.turn()
-        self.assertEqual((read_now(start), self.front.display.told), (b"whole\n", "where panes are isn't told"))
+        self.assertEqual((read_now(client), self.front.display.told), (b"whole\n", "where panes are isn't told"))
         self.assertEqual(self.front.loop.due["untold"][0], 110.0)
 
     def test_nobody_there(self):
-        """What is shown is asked of a start that is there, and of each anew."""
+        """What is shown is asked of a client that is there, and of each anew."""
         self.front.commands.show_known()
         self.assertEqual(self.front.link.waiting, b"")
-        self.assertEqual(read_now(self.connect()), b"told\nguess adaptive\npart 23 80\nview -500\n")
+        self.assertEqual(read_now(self.connect()), b"events\npredict adaptive\npart 23 80\nview -500\n")
 
     def test_left(self):
         """Who detaches is told so, and the terminal is as before."""
@@ -267,40 +267,40 @@ class Loop(Fronts):
 
     def test_much_behind_a_paste(self):
         """C-c and the prefix are read however much waits behind a paste."""
-        start = self.connect()
-        read_now(start)
+        client = self.connect()
+        read_now(client)
         waits = self.front.commands.pastes
         for text, lines, left in ((b"x\x03", b"char 3\n", None), (b"x\x02d", b"", "[detached]")):
             waits.wait_for([paste.Paste("text", False), paste.Behind(("char 61",) * paste.MOST_BEHIND)])
             self.type(text)
-            self.assertEqual((read_now(start), self.front.left, bool(waits.waiting)), (lines, left, not lines))
+            self.assertEqual((read_now(client), self.front.left, bool(waits.waiting)), (lines, left, not lines))
 
     def test_much_in_the_link(self):
-        """So they are where the start hasn't taken as much that was pasted; of keys alone no more is read then."""
+        """So they are where the client hasn't taken as much that was pasted; of keys alone no more is read then."""
         link = self.front.link
         self.connect()
-        for piece, text, reads in ((b"char 61\n", b"x", False), (b"paste ; char 61\n", b"x\x03", True)):
+        for chunk, text, reads in ((b"char 61\n", b"x", False), (b"paste ; char 61\n", b"x\x03", True)):
             self.patch_of(client_link, "TYPED_LIMIT", 1000)
             self.front.loop.remove(link)
-            link.waiting[:] = piece * 200
+            link.waiting[:] = chunk * 200
             with mock.patch.object(link, "send", return_value=True):
                 self.type(text)
-            self.assertEqual(bytes(link.waiting), b"char 3\n" if reads else piece * 200)
+            self.assertEqual(bytes(link.waiting), b"char 3\n" if reads else chunk * 200)
 
     def test_outage(self):
-        """There is an outage while the server is silent, or no connection to what keeps the shells is there."""
-        start = self.connect()
+        """There is an outage while the server is silent, or no connection to the pty host is there."""
+        client = self.connect()
         commands = self.front.commands
         self.assertTrue(commands.is_cut())
-        commands.shells.peer = mock.Mock()
+        commands.host.peer = mock.Mock()
         self.assertFalse(commands.is_cut())
-        start.send(record("silent", 10))
+        client.send(record("silent", 10))
         self.turn()
         self.assertTrue(commands.pastes.is_cut())
-        start.send(record("heard"))
+        client.send(record("heard"))
         self.turn()
         self.assertFalse(commands.pastes.is_cut())
-        commands.shells.peer = None
+        commands.host.peer = None
 
     def test_fault(self):
         """What nobody foresaw brings the terminal back too, from the moment on at which it is taken: that is none before it runs."""
@@ -323,24 +323,24 @@ class Loop(Fronts):
 
     def test_colours(self):
         """A terminal is asked for its colours where it is taken; one that watches isn't, nor a console of Linux. What it answers is the
-        keeper's to know, and isn't typed."""
+        host's to know, and isn't typed."""
         outer = self.front.display.outer
-        for watches, is_able, wanted in ((False, True, ASKED), (True, True, b""), (False, False, b"")):
-            self.front.link.watches, outer.aside.is_able = watches, is_able
+        for is_read_only, is_able, wanted in ((False, True, ASKED), (True, True, b""), (False, False, b"")):
+            self.front.link.is_read_only, outer.outer_modes.is_able = is_read_only, is_able
             self.front.ask_colours()
-            self.assertEqual(bytes(outer.waiting), wanted, (watches, is_able))
+            self.assertEqual(bytes(outer.waiting), wanted, (is_read_only, is_able))
             outer.waiting.clear()
 
     def test_colours_told(self):
-        """An answer comes among what is typed, in pieces too, and nothing of it is."""
-        start = self.connect()
-        start.setblocking(False)
-        read_now(start)
+        """An answer comes among what is typed, in chunks too, and nothing of it is."""
+        client = self.connect()
+        client.setblocking(False)
+        read_now(client)
         for text in (b"a\x1b]11;rgb:1e/1e/2e\x1b\\b", b"\x1b]10;rgb:ff", b"ff/ffff/ffff\x07c"):
             self.type(text)
-        told = self.front.commands.shells.colours.known
+        told = self.front.commands.host.colours.known
         self.assertEqual(told, {"background": "1e1e/1e1e/2e2e", "foreground": "ffff/ffff/ffff"})
-        self.assertEqual([line for line in read_now(start).split(b"\n") if line.startswith(b"char")], [b"char 61 ; char 62", b"char 63"])
+        self.assertEqual([line for line in read_now(client).split(b"\n") if line.startswith(b"char")], [b"char 61 ; char 62", b"char 63"])
 
     def test_signals(self):
         """SIGTERM, SIGHUP and SIGINT leave, with 128 and their number; a new size is gone by."""
@@ -404,11 +404,11 @@ class Loop(Fronts):
         self.assertFalse(termios.tcgetattr(self.slave)[3] & termios.ICANON)
 
     def test_lost(self):
-        """A start that ends is connected to again after 0.1 s; in a longer pause that is told, and q leaves."""
-        start = self.connect()
+        """A client that ends is connected to again after 0.1 s; in a longer pause that is told, and q leaves."""
+        client = self.connect()
         self.paints()
-        self.front.session.processes["terminals"] = None
-        start.close()
+        self.front.session.processes["client"] = None
+        client.close()
         self.turn()
         self.assertEqual((self.front.link.peer, self.front.loop.due["connect"][0]), (None, 100.1))
         self.listener.close()
@@ -416,26 +416,26 @@ class Loop(Fronts):
         self.turn()
         self.assertIn(b"no server is in ", self.shown())
         self.assertTrue(self.front.commands.paused)
-        self.assertEqual(self.front.display.cover, f"no server is in {self.place.folder}; tried anew in 1 s; C-c or q leaves")
+        self.assertEqual(self.front.display.notice, f"no server is in {self.place.folder}; tried anew in 1 s; C-c or q leaves")
         self.type(b"q")
         self.assertEqual(self.front.left, "[left]")
 
     def test_back(self):
         """Once it is there again what was lost is told, and all is painted anew."""
-        self.place.processes["terminals"] = 5
-        start = self.connect()
+        self.place.processes["client"] = 5
+        client = self.connect()
         self.paints()
-        self.place.processes["terminals"] = 6
-        start.close()
+        self.place.processes["client"] = 6
+        client.close()
         self.turn()
         self.now += 0.1
         self.turn()
-        start = self.taken(self.listener)
-        self.assertEqual(self.front.display.told, "the client start has ended; what was typed last may be lost")
+        client = self.taken(self.listener)
+        self.assertEqual(self.front.display.told, "the client process has ended; what was typed last may be lost")
         self.assertEqual(self.front.loop.due["told"][0], self.now + 3.0)
         self.shown()
-        start.send(b"old\ntold\n")
-        self.start = start
+        client.send(b"old\nevents\n")
+        self.client = client
         self.paints(text="new")
         shown = self.shown()
         self.assertTrue(b"new" in shown and b"old" not in shown)
@@ -474,12 +474,12 @@ class Loop(Fronts):
             self.front.run()
         self.assertEqual((self.place.looks, self.front.loop.due["probe"][0]), (1, self.now + 2.0))
 
-    def test_shells(self):
+    def test_host(self):
         """What is told of the shells stands three seconds, and bells ring, with what is said beside them."""
         bells = self.listening(self.place.folder / "bells")
         self.connect()
-        with mock.patch.object(self.place, "revive_shells", return_value=True, create=True):
-            self.front.shells.revive()
+        with mock.patch.object(self.place, "revive_host", return_value=True, create=True):
+            self.front.watchdog.revive()
         said = "the shells had ended: new ones are there, and what was typed meanwhile is dropped"
         self.assertEqual((self.front.display.told, self.front.loop.due["told"][0]), (said, 103.0))
         self.shown()
@@ -490,12 +490,12 @@ class Loop(Fronts):
     def test_keypad(self):
         """The keypad goes by the pane in focus, as soon as that is told."""
         bells = self.listening(self.place.folder / "bells")
-        start = self.connect()
+        client = self.connect()
         self.paints()
         self.taken(bells).send(b"keypad 2 application\n")
         self.place.told = Places({1: Rect(1, 1, 23, 39), 2: Rect(1, 41, 23, 40)}, 1)
         self.turn()
-        start.send(record("paint", data=b"\x1b[1;1Hx"))
+        client.send(record("paint", data=b"\x1b[1;1Hx"))
         self.turn()
         self.assertNotIn(b"\x1b=", self.shown())
         self.place.told = self.place.told._replace(focus=2)
@@ -505,16 +505,16 @@ class Loop(Fronts):
         self.assertEqual(self.shown(), b"")
 
     def test_limits(self):
-        """While 65,536 bytes wait for the terminal nothing more is read of the start."""
-        start = self.connect()
-        start.send(b"x")
+        """While 65,536 bytes wait for the terminal nothing more is read of the client."""
+        client = self.connect()
+        client.send(b"x")
         self.front.display.outer.waiting[:] = bytes(65536)
         with mock.patch.object(display, "write", return_value=True):
-            with mock.patch.object(self.front.link, "told") as tells:
+            with mock.patch.object(self.front.link, "read_events") as tells:
                 self.turn(1)
                 tells.assert_not_called()
             del self.front.display.outer.waiting[0]
-            with mock.patch.object(self.front.link, "told", return_value=[]) as tells:
+            with mock.patch.object(self.front.link, "read_events", return_value=[]) as tells:
                 self.turn(1)
                 tells.assert_called_once_with()
         self.front.display.outer.waiting.clear()
@@ -530,39 +530,39 @@ class Loop(Fronts):
 
     def test_sizes(self):
         """What is shown goes by a new size soon, and the session by one that has stood for 0.3 s; a new session by each."""
-        self.front.visit.shells.faults = FEW + 1
-        start = self.connect()
+        self.front.view.host.faults = FEW + 1
+        client = self.connect()
         self.paints()
-        read_now(start)
+        read_now(client)
         tty.set_size(self.slave, 30, 90)
         self.front.resized()
         self.turn()
-        self.assertEqual(read_now(start), b"")
+        self.assertEqual(read_now(client), b"")
         self.now += 0.05
         self.turn()
-        self.assertEqual(read_now(start), b"repaint\n")
+        self.assertEqual(read_now(client), b"repaint\n")
         self.now += 0.25
         self.turn()
-        self.assertEqual(read_now(start), b"size 30 90\npart 29 90\n")
+        self.assertEqual(read_now(client), b"size 30 90\npart 29 90\n")
         self.front.commands.new_until = self.now + 1
         tty.set_size(self.slave, 20, 70)
         self.front.resized()
         self.turn()
-        self.assertEqual(read_now(start), b"size 20 70\npart 19 70\n")
+        self.assertEqual(read_now(client), b"size 20 70\npart 19 70\n")
 
     def test_unknown_size(self):
-        """A session of which nothing is known is fitted once something was painted, 0.3 s later, and no keeper may tell who is there."""
+        """A session of which nothing is known is fitted once something was painted, 0.3 s later, and no host may tell who is there."""
         self.place.told = None
-        start = self.connect()
+        client = self.connect()
         self.paints(20, 70)
-        self.assertEqual(read_now(start), b"told\nguess adaptive\nview -500\n")
+        self.assertEqual(read_now(client), b"events\npredict adaptive\nview -500\n")
         self.now += 0.3
         self.turn()
-        self.assertEqual(read_now(start), b"")
-        self.front.visit.shells.faults = FEW + 1
+        self.assertEqual(read_now(client), b"")
+        self.front.view.host.faults = FEW + 1
         self.now += 0.3
         self.turn()
-        self.assertEqual(read_now(start), b"size 24 80\n")
+        self.assertEqual(read_now(client), b"size 24 80\n")
 
     def test_gone_terminal(self):
         """Of a terminal that has hung up the size that it had is known."""
@@ -666,7 +666,7 @@ class Loop(Fronts):
             self.assertEqual(made.call_args[1], {"is_whole": False, "has_mouse": True, "has_clips": False})
             self.environment(ROAM_MOUSE="no")
             self.assertRaises(Fault, app.follow, self.place, True, "C-a", "never")
-        self.assertEqual(seen, [f"{begun(os.getpid())} watches\n"])
+        self.assertEqual(seen, [f"{begun(os.getpid())} read-only\n"])
         self.assertEqual((list((self.place.folder / "attached").iterdir()), self.place.is_closed), ([], True))
 
 
@@ -680,24 +680,24 @@ class Mouse(Fronts):
     def ask(self, modes):
         """Has the program in focus have these modes, and tells what came to the terminal."""
         self.panes.modes_of = {1: modes}
-        self.front.commands.told()
+        self.front.commands.panes_changed()
         self.turn()
         return self.shown()
 
     def test_asked(self):
         """The terminal is asked for what the program asks for, and what it reports is typed, wherever it is cut."""
-        start = self.connect()
+        client = self.connect()
         self.paints()
         self.assertFalse([mode for mode in (b"?1000", b"?1002", b"?1003", b"?1006") if mode in self.shown()])
         self.assertEqual([self.ask(modes) for modes in ("buttons sgr", "drags", "motion sgr", "paste", "")],
                          [mouse_reports.ASKED["drags"], b"", mouse_reports.ASKED["motion"], mouse_reports.OFF, b""])
         self.ask("drags sgr")
-        read_now(start)
-        for piece in (b"x\x1b", b"[<0;", b"5;7", b"M\x1b[<0;5;7m"):
-            self.type(piece)
+        read_now(client)
+        for chunk in (b"x\x1b", b"[<0;", b"5;7", b"M\x1b[<0;5;7m"):
+            self.type(chunk)
             self.now += 0.02
         text = " ; ".join(f"char {byte:x}" for byte in b"\x1b[<0;5;7")
-        self.assertEqual(read_now(start), f"char 78\nfocus 1 ; {text} ; char 4d\nfocus 1 ; {text} ; char 6d\n".encode())
+        self.assertEqual(read_now(client), f"char 78\nfocus 1 ; {text} ; char 4d\nfocus 1 ; {text} ; char 6d\n".encode())
 
     def test_left(self):
         """However it is left the terminal is asked for no reports any more, before what stood there is back."""
@@ -746,9 +746,9 @@ class Clipboard(Fronts):
         self.environment(TERM="xterm")
         super().setUp()
 
-    def front_of(self, watches=False, has_clips=True):
+    def front_of(self, is_read_only=False, has_clips=True):
         """A front end that sets it, or doesn't, connected and with a painting."""
-        self.front = FrontEnd(self.place, watches, "C-b", "adaptive", lambda places: False, StillLoop(), has_clips=has_clips)
+        self.front = FrontEnd(self.place, is_read_only, "C-b", "adaptive", lambda places: False, StillLoop(), has_clips=has_clips)
         self.addCleanup(lambda: closed(self.front.display.outer.end))
         self.addCleanup(lambda: self.front.link.close())
         self.connect()
@@ -784,7 +784,7 @@ class Clipboard(Fronts):
 
     def test_chosen(self):
         """Where nobody chose it, and at a terminal that watches, texts aren't asked for."""
-        for more in ({"has_clips": False}, {"watches": True}):
+        for more in ({"has_clips": False}, {"is_read_only": True}):
             self.panes.clipped = None
             self.front_of(**more)
             self.assertIsNone(self.panes.clipped)
@@ -831,7 +831,7 @@ class Wishes(Case):
     def tell(self, person, places):
         """Has a person's front end be told where panes are."""
         person.place.told = places
-        person.commands.told()
+        person.commands.panes_changed()
 
     def test_scroll_paint(self):
         """What is asked goes by where this person put the focus until that is told, however long it takes."""
@@ -839,8 +839,8 @@ class Wishes(Case):
         self.assertEqual(person.types(b"\x02\x1b[C\x02\x1b[B"), ["focus 2", "focus 3"])
         self.now += 9
         self.assertEqual(person.commands.places().focus, 3)
-        # That a start came tells nothing of it.
-        self.tell(person, PANES._replace(starts=2))
+        # That a client came tells nothing of it.
+        self.tell(person, PANES._replace(clients=2))
         self.assertEqual(person.commands.places().focus, 3)
         self.tell(person, PANES._replace(focus=3))
         self.assertEqual((person.commands.moved_to, person.types(b"\x02\x1b[D")), (None, ["focus 1"]))
@@ -934,15 +934,15 @@ class Wishes(Case):
 
     def test_unknown_meta(self):
         """Behind the prefix an escape and the key right behind it are one with Meta: nothing of a key that isn't bound is typed, whether it
-        comes at once or in pieces, within the time that an escape waits. A paste is none."""
+        comes at once or in chunks, within the time that an escape waits. A paste is none."""
         person = self.person()
-        for pieces, name in (((b"\x02\x1b1",), "M-1"), ((b"\x02", b"\x1bn"), "M-n"), ((b"\x02\x1b", b"o"), "M-o"),
+        for chunks, name in (((b"\x02\x1b1",), "M-1"), ((b"\x02", b"\x1bn"), "M-n"), ((b"\x02\x1b", b"o"), "M-o"),
                              ((b"\x02", b"\x1b", b"5"), "M-5"), ((b"\x02\x1b[1;3A",), "M-Up"), ((b"\x02\x1b\x1b[A",), "M-Up"),
                              ((b"\x02\x1b\x01",), "C-M-a"), ((b"\x02\x1b\x02",), "C-M-b"), ((b"\x02\x1b[27;3;49~",), "M-1")):
-            for piece in pieces:
+            for chunk in chunks:
                 self.now += 0.02
-                person.types(piece)
-            self.assertEqual((person.link.acts, person.display.told), ([], f"C-b {name} is not bound; C-b ? shows the keys"), pieces)
+                person.types(chunk)
+            self.assertEqual((person.link.acts, person.display.told), ([], f"C-b {name} is not bound; C-b ? shows the keys"), chunks)
         person.types(b"\x02\x1b")
         self.now += 0.03
         person.loop.do_due()
@@ -952,15 +952,15 @@ class Wishes(Case):
         person.types(b"n\x02\x1b\x1b[200~x\x1b[201~y")
         self.assertEqual(person.link.acts[-1], "char 79")
 
-    def test_watches(self):
+    def test_read_only(self):
         """Who only watches types nothing, and may leave, repaint and have the help; where no rows are kept the shared view stays."""
-        person = self.person(watches=True)
+        person = self.person(is_read_only=True)
         self.assertEqual(person.types(b"ls\r\x02%\x02x\x02o\x02q1\x02\x1b[C\x02r"), [])
         self.assertEqual(person.display.told, "")
         self.assertEqual(person.types(b"\x02[\x02]\x02="), [])
         self.assertEqual((person.display.told, person.commands.typing.is_scrolling()), ("no rows are kept that could be shown", False))
         person.types(b"\x02?")
-        self.assertTrue(person.display.cover)
+        self.assertTrue(person.display.notice)
         person.types(b"\x02d")
         self.assertEqual(person.left, "[detached]")
 
@@ -1008,15 +1008,15 @@ class Painted(Case):
         """What a terminal is written of a painting is all of it, but for its reset."""
         person = self.person()
         text = painting(4, 20, "\u00e9")
-        person.display.take(ToldRecord("size", (4, 20)))
-        person.display.take(ToldRecord("anew", (len(text),), text))
+        person.display.take(DisplayRecord("size", (4, 20)))
+        person.display.take(DisplayRecord("anew", (len(text),), text))
         written = bytes(person.display.outer.waiting)
         self.assertTrue(written.startswith(text.replace(b"\x1bc", tty.CLEARED)))
         self.assertEqual(written[len(text) - 2 + len(tty.CLEARED) :],
                          b"\x1b7\x1b[?7l\x1b[5;1H\x1b[0;7m" + b"[1]".ljust(20) + b"\x1b[0m\x1b[?7h\x1b8")
         person.display.outer.waiting.clear()
         for text in (painting(4, 20, "z"), b"\x1b", b"\x1b[", b"\xc3"):
-            person.display.take(ToldRecord("paint", (len(text),), text))
+            person.display.take(DisplayRecord("paint", (len(text),), text))
             self.assertEqual(person.display.outer.waiting, text)
             person.display.outer.waiting.clear()
 
@@ -1077,7 +1077,7 @@ class Painted(Case):
         person.display.resized()
         self.assertIn(b"help", person.display.outer.waiting)
         self.assertEqual(person.loop.due["paint"][0], 100.05)
-        person.display.cover = ""
+        person.display.notice = ""
         self.now += 0.05
         person.loop.do_due()
         self.assertEqual((person.said(), person.display.is_stale), (["repaint"], True))
@@ -1101,7 +1101,7 @@ class Painted(Case):
         person.display.resized()
         person.display.outer.enter_again.assert_called_once_with()
         before = len(person.display.outer.waiting)
-        person.display.take(ToldRecord("paint", (1,), b"x"))
+        person.display.take(DisplayRecord("paint", (1,), b"x"))
         self.now += 0.05
         person.loop.do_due()
         self.assertEqual((person.said(), len(person.display.outer.waiting)), (["repaint"], before))
@@ -1110,12 +1110,12 @@ class Painted(Case):
         """A session has two and a half seconds for a size; then it is told that its panes have no room."""
         person = self.person()
         person.place.told = places(6, 20)
-        person.commands.told()
+        person.commands.panes_changed()
         person.types(b"\x02r")
-        self.assertEqual((person.commands.given, person.loop.due["given"][0]), ((5, 20), 102.5))
+        self.assertEqual((person.commands.requested_size, person.loop.due["requested size"][0]), ((5, 20), 102.5))
         self.now = 102.5
         person.loop.do_due()
-        self.assertEqual((person.display.told, person.commands.given), ("its panes have no room in 5 by 20", None))
+        self.assertEqual((person.display.told, person.commands.requested_size), ("its panes have no room in 5 by 20", None))
         self.assertFalse(person.display.shows_all())
 
 
@@ -1125,13 +1125,13 @@ class Gone(Case):
     def test_left(self):
         """It gives way to another, and isn't connected to again; where there is none it is tried anew."""
         front = mock.Mock(number=2)
-        front.keeper.connect.return_value = 8.0, "no server"
-        front.visit.session.folder = str(self.made_folder() / "2")
+        front.reconnector.connect.return_value = 8.0, "no server"
+        front.view.session.folder = str(self.made_folder() / "2")
         front.is_window_gone = lambda: FrontEnd.is_window_gone(front)
         for is_left in (True, False):
             front.windows.leave.return_value = is_left
             front.loop.later.reset_mock()
             FrontEnd.connect(front)
             self.assertEqual((front.windows.leave.call_args.args, front.loop.later.called), ((2,), not is_left))
-        front.visit.session.folder = str(self.made_folder())
+        front.view.session.folder = str(self.made_folder())
         self.assertFalse(front.is_window_gone())

@@ -1,4 +1,4 @@
-"""A person's front end of a session with windows, whose starts and keeper are played: where what is typed goes, and what is asked for."""
+"""A person's front end of a session with windows, whose starts and host are played: where what is typed goes, and what is asked for."""
 import os
 import pathlib
 import pty
@@ -19,7 +19,7 @@ from roam_live.input.keys import acts_of_bytes
 from test_display import PlayedPanes, painting, places
 from test_app import AnySession
 
-LONG = "a text that is long enough to be handed to the keeper of the shells"
+LONG = "a text that is long enough to be handed to the pty host"
 
 
 class PlayedWindow(AnySession):
@@ -31,7 +31,7 @@ class PlayedWindow(AnySession):
         super().__init__(folder)
         self.number, self.all, self.status = number, all_windows, 1
         all_windows[number] = self
-        self.starts, self.shells = case.listening(self.terminals), case.listening(folder / "shells")
+        self.clients, self.host = case.listening(self.terminals), case.listening(folder / "host")
 
     def windows(self):
         """Those that run."""
@@ -54,7 +54,7 @@ class Windows(Case):
     def setUp(self):
         self.stop_clock()
         self.folder = self.made_folder()
-        self.windows, self.starts, self.typed, self.keepers = {}, {}, {}, []
+        self.windows, self.clients, self.typed, self.hosts = {}, {}, {}, []
         self.place = self.add(1)
         self.add(2)
         self.master, slave = pty.openpty()
@@ -64,15 +64,15 @@ class Windows(Case):
         self.addCleanup(self.give_back, kept, slave)
         os.set_blocking(self.master, False)
         self.patch_of(app, "woken", return_value=self.pipe()[0])
-        self.brings = self.patch_of(app, "brings_to", return_value=[])
-        self.patch_of(app, "PanesFollower", lambda folder, loop, changed, tells: self.played(folder))
+        self.sent_environment = self.patch_of(app, "environment_lines", return_value=[])
+        self.patch_of(app, "PanesSubscriber", lambda folder, loop, changed, tells: self.played(folder))
         self.loop = StillLoop(lambda: self.now)
         self.front = self.front_of()
 
     def front_of(self, **more):
         """A front end that has connected, and was painted something."""
         self.emulated = Emulated(24, 80)
-        front = FrontEnd(self.place, more.pop("watches", False), "C-b", "never", lambda places: False, self.loop, **more)
+        front = FrontEnd(self.place, more.pop("is_read_only", False), "C-b", "never", lambda places: False, self.loop, **more)
         self.addCleanup(self.close, front)
         front.display.outer.enter()
         self.front = front
@@ -84,9 +84,9 @@ class Windows(Case):
         """Closes what a front end has open."""
         closed(front.display.outer.end)
         front.windows.link.end()
-        for visit in (front.visit, *front.parting.visits.values()):
-            visit.bells.close()
-            visit.close(self.loop)
+        for view in (front.view, *front.draining.views.values()):
+            view.bells.close()
+            view.close(self.loop)
 
     def add(self, number):
         """One more window."""
@@ -119,35 +119,35 @@ class Windows(Case):
                 return found
 
     def turn(self, count=4, paints=True):
-        """So many turns that wait for nothing, with a start for each window that takes all and paints what is asked for."""
+        """So many turns that wait for nothing, with a client for each window that takes all and paints what is asked for."""
         for _ in range(count):
             self.front.turn()
             for number, window in self.windows.items():
-                for start in self.accepted(window.starts):
-                    self.starts[start] = number, 0
-                    self.send(start, b"\ntold\n")
-                self.keepers += [(peer, number) for peer in self.accepted(window.shells)]
-            for start in list(self.starts) if paints else []:
-                self.answer(start)
+                for client in self.accepted(window.clients):
+                    self.clients[client] = number, 0
+                    self.send(client, b"\nevents\n")
+                self.hosts += [(peer, number) for peer in self.accepted(window.host)]
+            for client in list(self.clients) if paints else []:
+                self.answer(client)
         self.emulated.fed(read_now(self.master))
 
-    def answer(self, start):
-        """Has a start take lines: what of them is typed is kept by window, and a part is painted."""
-        number, taken = self.starts[start]
+    def answer(self, client):
+        """Has a client take lines: what of them is typed is kept by window, and a part is painted."""
+        number, taken = self.clients[client]
         try:
-            lines = read_now(start).decode().split("\n")[:-1]
+            lines = read_now(client).decode().split("\n")[:-1]
         except OSError:
-            del self.starts[start]
+            del self.clients[client]
             return
-        self.starts[start] = number, taken + len(lines)
+        self.clients[client] = number, taken + len(lines)
         for line in lines:
             acts = line.removeprefix("paste ; ").split(" ; ")
             self.typed[number] += "".join(chr(int(act.split()[1], 16)) for act in acts if act.startswith("char "))
             self.typed[number] += "".join(f"<{act}>" for act in acts if act.split()[0] in ("focus", "close", "size"))
             if line.startswith("part "):
                 size = tuple(map(int, line.split()[-2:]))
-                self.send(start, record("size", *size) + record("anew", data=painting(*size, f"window {number}")))
-        self.send(start, record("taken", taken + len(lines)))
+                self.send(client, record("size", *size) + record("anew", data=painting(*size, f"window {number}")))
+        self.send(client, record("taken", taken + len(lines)))
 
     def send(self, peer, data):
         """Sends to who may have gone."""
@@ -155,23 +155,23 @@ class Windows(Case):
             peer.send(data)
         except OSError:
             # It is gone.
-            self.starts.pop(peer, None)
+            self.clients.pop(peer, None)
 
     def said(self):
-        """The lines that were said to the keeper since they were looked at, in the order of who connected."""
+        """The lines that were said to the host since they were looked at, in the order of who connected."""
         found = []
-        for peer, _ in self.keepers:
+        for peer, _ in self.hosts:
             found += read_now(peer).decode().split("\n")[:-1]
         return found
 
     def tell(self, *lines):
-        """Has the keeper tell lines about windows."""
-        peer = self.keepers[1][0]
+        """Has the host tell lines about windows."""
+        peer = self.hosts[1][0]
         peer.send("".join(f"{line}\n" for line in lines).encode())
         self.turn()
 
     def tell_list(self):
-        """Has the keeper tell which windows there are."""
+        """Has the host tell which windows there are."""
         self.tell(*(f"window {number} -" for number in sorted(self.windows)), f"windows {len(self.windows)}")
 
     def type(self, text, **more):
@@ -208,52 +208,52 @@ class Switches(Windows):
         for cut in range(len(text) + 1):
             self.typed = {1: "", 2: ""}
             self.type(b"\x021")
-            for piece in (text[:cut], text[cut:]):
-                self.type(piece)
+            for chunk in (text[:cut], text[cut:]):
+                self.type(chunk)
             self.assertEqual(self.typed, {1: "ä中", 2: "éü"}, cut)
         self.assertEqual(acts_of_bytes(b"\x1b[A"), ["key up"])
 
     def test_not_taken(self):
-        """What was typed in a window whose start takes nothing waits for it, while the other is typed in; nothing of it is lost."""
+        """What was typed in a window whose client takes nothing waits for it, while the other is typed in; nothing of it is lost."""
         self.type(b"\x022\x021")
         self.type(b"ab\x022cd", paints=False)
         self.type(b"\x021ef\x022gh", paints=False)
-        self.assertEqual((self.typed, list(self.front.parting.visits)), ({1: "", 2: ""}, [1]))
+        self.assertEqual((self.typed, list(self.front.draining.views)), ({1: "", 2: ""}, [1]))
         self.turn()
-        self.assertEqual((self.typed, list(self.front.parting.visits)), ({1: "abef", 2: "cdgh"}, []))
+        self.assertEqual((self.typed, list(self.front.draining.views)), ({1: "abef", 2: "cdgh"}, []))
 
     def test_old_closed(self):
         """The connections to a window that was left are closed once what was typed there is taken, and the other is painted."""
         self.type(b"a\x022")
         self.turn()
-        read_now(self.keepers[0][0])
-        there = [number for number, _ in self.starts.values()]
-        self.assertEqual((there, self.keepers[0][0].recv(99), self.front.parting.visits), ([2], b"", {}))
+        read_now(self.hosts[0][0])
+        there = [number for number, _ in self.clients.values()]
+        self.assertEqual((there, self.hosts[0][0].recv(99), self.front.draining.views), ([2], b"", {}))
 
     def test_lost(self):
-        """Where the start of a window that was left ends, another has what was typed there and hasn't gone; else nothing is waited for."""
+        """Where the client of a window that was left ends, another has what was typed there and hasn't gone; else nothing is waited for."""
         self.type(b"\x022\x021")
         self.type(b"ab\x022", paints=False)
-        visit = self.front.parting.visits[1]
-        self.front.parting.lost(visit)
-        self.assertEqual((visit.link.peer, "connect 1" in self.loop.due), (None, False))
+        view = self.front.draining.views[1]
+        self.front.draining.lost(view)
+        self.assertEqual((view.link.peer, "connect 1" in self.loop.due), (None, False))
         self.turn()
-        self.assertEqual(list(self.front.parting.visits), [])
+        self.assertEqual(list(self.front.draining.views), [])
         self.type(b"\x021")
         self.type(b"d\x022", paints=False)
-        visit = self.front.parting.visits[1]
-        visit.link.waiting += b"char 63\n"
-        self.front.parting.lost(visit)
+        view = self.front.draining.views[1]
+        view.link.waiting += b"char 63\n"
+        self.front.draining.lost(view)
         self.assertIn("connect 1", self.loop.due)
-        self.front.parting.settle()
-        self.assertEqual(list(self.front.parting.visits), [1])
-        with mock.patch.object(visit.keeper, "connect", return_value=(0.5, "no start")) as fails:
+        self.front.draining.settle()
+        self.assertEqual(list(self.front.draining.views), [1])
+        with mock.patch.object(view.reconnector, "connect", return_value=(0.5, "no client")) as fails:
             self.now += 0.5
             self.turn()
-            self.assertEqual((fails.call_count, visit.link.peer), (1, None))
+            self.assertEqual((fails.call_count, view.link.peer), (1, None))
         self.now += 0.5
         self.turn(8)
-        self.assertEqual((self.typed[1], list(self.front.parting.visits), self.loop.due.get("connect 1")), ("abdc", [], None))
+        self.assertEqual((self.typed[1], list(self.front.draining.views), self.loop.due.get("connect 1")), ("abdc", [], None))
 
     def test_there_is_none(self):
         """A window that isn't there is told of, and what stands behind that is typed where the person is."""
@@ -276,7 +276,7 @@ class Switches(Windows):
         with mock.patch.object(window_view, "opened_process", side_effect=Fault("no descriptor is left")):
             self.type(b"a\x022b")
         self.assertEqual((self.front.number, self.typed, self.rows()[1]), (1, {1: "ab", 2: ""}, "no descriptor is left"))
-        self.assertEqual(self.front.parting.visits, {})
+        self.assertEqual(self.front.draining.views, {})
 
     def test_not_painted(self):
         """Until a window is painted nothing of it is shown, and a moment later nothing of the one before."""
@@ -290,12 +290,12 @@ class Switches(Windows):
 
     def test_paste(self):
         """A paste that is handed over goes where it was pasted, and what is typed behind a switch doesn't wait for it."""
-        self.keepers[0][0].send(b"keeper 00112233445566aa\nothers 0\n")
+        self.hosts[0][0].send(b"host 00112233445566aa\nothers 0\n")
         self.turn()
         self.type(b"a\x1b[200~" + LONG.encode() + b"\x1b[201~b\x022c")
         self.assertEqual(self.typed, {1: "a", 2: "c"})
-        name = next(line.split()[1] for line in self.said() if line.startswith("give"))
-        self.keepers[0][0].send(f"held {name}\n".encode())
+        name = next(line.split()[1] for line in self.said() if line.startswith("paste"))
+        self.hosts[0][0].send(f"stored {name}\n".encode())
         self.turn(6)
         self.assertEqual((self.typed[1], self.typed[2]), (f"a\x9f{name}\x9cb", "c"))
 
@@ -313,8 +313,8 @@ class Switches(Windows):
         self.turn()
         for number, wanted in ((2, "<size 20 70>"), (3, "")):
             self.type(b"\x02%d" % number)
-            for peer, _ in self.keepers:
-                self.send(peer, b"keeper 00112233445566aa\nothers 0\n")
+            for peer, _ in self.hosts:
+                self.send(peer, b"host 00112233445566aa\nothers 0\n")
             self.now += 1
             self.turn(8)
             self.assertEqual(self.typed[number], wanted)
@@ -344,7 +344,7 @@ class Opened(Windows):
         self.assertEqual(self.typed, {1: "ab", 2: ""})
 
     def test_late(self):
-        """A keeper that is stopped doesn't stop who types for longer than a moment, and not from going elsewhere; a window that comes later
+        """A host that is stopped doesn't stop who types for longer than a moment, and not from going elsewhere; a window that comes later
         is told of."""
         self.tell_list()
         self.type(b"\x02cab")
@@ -386,15 +386,15 @@ class Opened(Windows):
         self.type(b"e\x1b[201~b")
         self.assertEqual(self.typed, {1: "b", 2: "", 3: "aoneb"})
 
-    def test_keeper_comes(self):
-        """A keeper that isn't connected yet is asked once it is, and nothing that was typed for the window goes elsewhere."""
+    def test_host_comes(self):
+        """A host that isn't connected yet is asked once it is, and nothing that was typed for the window goes elsewhere."""
         self.front.windows.link.lost("not there")
         self.turn()
         self.type(b"\x02cab")
         self.assertEqual(self.typed[1], "")
         self.now += 0.2
         self.turn()
-        peer = self.keepers[-1][0]
+        peer = self.hosts[-1][0]
         self.assertEqual(read_now(peer), b"windows\n")
         self.send(peer, b"window 1 -\nwindow 2 -\nwindows 2\n")
         self.turn()
@@ -414,11 +414,11 @@ class Opened(Windows):
         self.type(b"c")
         self.assertEqual(self.typed[1], "c")
 
-    def test_keeper_ends(self):
-        """So does the end of the keeper."""
+    def test_host_ends(self):
+        """So does the end of the host."""
         self.tell_list()
         self.type(b"\x02cab")
-        self.keepers[1][0].close()
+        self.hosts[1][0].close()
         self.turn()
         self.assertEqual((self.front.windows.is_opening, self.front.display.told.endswith(DROPPED)), (False, True))
 
@@ -434,10 +434,10 @@ class Opened(Windows):
             self.front.windows.link.lost("cut")
             self.now += 1
             self.turn()
-            self.send(self.keepers[-1][0], b"window 1 -\nwindow 2 -\nwindows 2\n")
+            self.send(self.hosts[-1][0], b"window 1 -\nwindow 2 -\nwindows 2\n")
             self.turn()
         self.said()
-        self.send(self.keepers[-1][0], b"opened 3\n")
+        self.send(self.hosts[-1][0], b"opened 3\n")
         self.turn()
         self.front.windows.link.lost("cut")
         self.now += 0.02
@@ -454,16 +454,16 @@ class Opened(Windows):
         self.assertTrue(self.front.commands.is_full())
 
     def test_earlier(self):
-        """A keeper that doesn't know of windows, and a session without a window's number, can have one alone, which is said."""
+        """A host that doesn't know of windows, and a session without a window's number, can have one alone, which is said."""
         self.tell("bad line")
         self.type(b"\x02ca")
         self.assertEqual((self.front.display.told, self.typed[1]), (EARLIER, "a"))
 
     def test_far(self):
-        """A session that is no window of several has one alone, and which of another machine is said so; nothing is asked of its keeper."""
+        """A session that is no window of several has one alone, and which of another machine is said so; nothing is asked of its host."""
         for served, words in (("server", EARLIER), ("relay", FAR)):
-            self.starts.clear()
-            self.keepers.clear()
+            self.clients.clear()
+            self.hosts.clear()
             self.place.number, self.place.served = 0, served
             self.front_of()
             self.type(b"\x02ca\x022b\x02n\x02&")
@@ -471,11 +471,11 @@ class Opened(Windows):
             self.assertNotIn("windows", self.said())
             self.typed[1] = ""
 
-    def test_watches(self):
+    def test_read_only(self):
         """Who only watches goes from one to another, and changes none."""
-        self.starts.clear()
-        self.keepers.clear()
-        self.front_of(watches=True)
+        self.clients.clear()
+        self.hosts.clear()
+        self.front_of(is_read_only=True)
         self.tell_list()
         self.said()
         self.type(b"\x02c\x02,\x02&\x022")
@@ -511,15 +511,15 @@ class Told(Windows):
         del self.windows[1]
         self.tell("gone 1")
         self.assertIsNone(self.front.left)
-        self.front.server_ended(self.front.visit)
+        self.front.server_ended(self.front.view)
         self.assertEqual((self.front.left, self.front.status), ("[the session has ended]", 1))
 
     def test_server(self):
         """So does one whose server ends before that is told, but not to one that is about to end too."""
-        self.front.server_ended(self.front.visit)
+        self.front.server_ended(self.front.view)
         self.assertEqual((self.front.number, self.front.left), (2, None))
         self.windows[1].status = self.windows[2].status = 0
-        self.front.server_ended(self.front.visit)
+        self.front.server_ended(self.front.view)
         self.assertEqual((self.front.left, self.front.status), ("[the session has ended]", 0))
 
     def test_pasting(self):
@@ -559,10 +559,10 @@ class Told(Windows):
         self.said()
         self.type(b"\x02D")
         self.assertEqual(self.said(), ["leave others"])
-        self.keepers[0][0].send(b"left 2\n")
+        self.hosts[0][0].send(b"left 2\n")
         self.turn()
         self.assertEqual(self.front.display.told, "2 other terminals detached")
-        self.keepers[0][0].send(b"leave\n")
+        self.hosts[0][0].send(b"leave\n")
         self.turn()
         self.assertEqual(self.front.left, "[detached from elsewhere]")
 
@@ -620,10 +620,10 @@ class Named(Windows):
     def test_asked(self):
         """A number may be asked for, also by one who only watches."""
         self.add(12)
-        for watches in (False, True):
-            self.starts.clear()
-            self.keepers.clear()
-            self.front_of(watches=watches)
+        for is_read_only in (False, True):
+            self.clients.clear()
+            self.hosts.clear()
+            self.front_of(is_read_only=is_read_only)
             self.tell_list()
             for typed, number in ((b"12\r", 12), (b"7\r", 12), (b"x\r", 12), (b"\r", 12), (b"1\x03", 12), (b"02\r", 2)):
                 self.type(b"\x02'" + typed)
@@ -663,7 +663,7 @@ class Named(Windows):
                 self.assertEqual((self.front.number, self.typed[2], self.front.display.told), (2, "", ""))
                 self.windows[2].told = told if is_told else None
                 self.now += 0 if is_told else LISTS
-                self.front.commands.told()
+                self.front.commands.panes_changed()
                 self.turn()
             self.assertEqual((self.front.number, self.typed), (1, {1: "x", 2: ""}) if is_told else (2, {1: "x", 2: "kx"}))
             self.assertEqual((self.front.display.told, self.front.windows.held), ("" if is_told else NO_ROOM, []))
@@ -687,21 +687,21 @@ class Pointed(Windows):
         self.assertEqual((self.front.number, self.typed[2]), (2, "xy"))
 
 
-class Brought(Windows):
+class PaneEnvironment(Windows):
     """What an attach brings."""
 
     def test_asked(self):
         """It goes by the session, and by whether a person watches alone."""
-        self.brings.assert_called_once_with(self.place, False)
-        self.front_of(watches=True)
-        self.brings.assert_called_with(self.place, True)
+        self.sent_environment.assert_called_once_with(self.place, False)
+        self.front_of(is_read_only=True)
+        self.sent_environment.assert_called_with(self.place, True)
 
 
 class Settings(Windows):
     """A settings file that is read while a person is there."""
 
     def setUp(self):
-        self.environment(XDG_CONFIG_HOME=str(self.made_folder()), ROAM_PREFIX=None, ROAM_GUESS=None, ROAM_MOUSE=None)
+        self.environment(XDG_CONFIG_HOME=str(self.made_folder()), ROAM_PREFIX=None, ROAM_PREDICT=None, ROAM_MOUSE=None)
         self.addCleanup(choose_by_file, {})
         self.patch_of(OWN, "found", None)
         super().setUp()
@@ -757,12 +757,12 @@ class Hidden(Windows):
     def test_hidden(self):
         """The session has the row then, and a line that is told stands over it."""
         self.place.told = places(24, 80)
-        self.keepers[0][0].send(b"keeper 00112233445566aa\nothers 0\n")
+        self.hosts[0][0].send(b"host 00112233445566aa\nothers 0\n")
         self.turn()
         self.type(b"\x02t")
         self.assertIn("<size 25 80>", self.typed[1])
         self.place.told = places(25, 80)
-        self.front.commands.told()
+        self.front.commands.panes_changed()
         self.turn()
         self.assertEqual(self.rows(), ("window 1", "window 1"))
         self.type(b"\x025")

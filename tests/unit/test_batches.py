@@ -1,13 +1,13 @@
-"""Bundles of instructions: cut, lost, repeated and turned round, with bases and without, and what no end should have sent."""
+"""Batches of instructions: cut, lost, repeated and turned round, with bases and without, and what no end should have sent."""
 import itertools
 import random
 import unittest
 import zlib
 
 from roam_live.relay import batches
-from roam_live.relay.batches import (BASE, KEPT_GOING, KEPT_PARTS, LARGE, LARGE_BASE, LONGEST_STATE, LONGEST_TEXT, MOST_BUNDLES, MOST_LARGE,
-                                     MOST_PEERS, NOW, ONCE, ONCE_KIND, PIECE, PIECE_KIND, PIECE_LENGTH, SOON, WHOLE, Bundles, Piece, joined,
-                                     packed_bundle, parted, unpacked_bundle)
+from roam_live.relay.batches import (BASE, CHUNK, CHUNK_KIND, CHUNK_LENGTH, KEPT_GOING, KEPT_PARTS, LARGE, LARGE_BASE, LONGEST_STATE,
+                                     LONGEST_TEXT, MOST_BATCHES, MOST_LARGE, MOST_PEERS, NOW, ONCE, ONCE_KIND, SOON, WHOLE, Batches, Chunk,
+                                     joined, packed_batch, parted, unpacked_batch)
 
 
 def datagrams(number, text, kind=2):
@@ -34,24 +34,24 @@ def noise(length, seed=1):
 
 
 def taken(target, frame):
-    """What a piece's frame brings."""
-    kind, peer, number, index, count, length = PIECE.unpack_from(frame)
-    assert kind in (PIECE_KIND, ONCE_KIND) and length == len(frame) - PIECE.size
-    return target.take(peer, number, index, count, frame[PIECE.size :])
+    """What a chunk's frame brings."""
+    kind, peer, number, index, count, length = CHUNK.unpack_from(frame)
+    assert kind in (CHUNK_KIND, ONCE_KIND) and length == len(frame) - CHUNK.size
+    return target.take(peer, number, index, count, frame[CHUNK.size :])
 
 
 class Two(unittest.TestCase):
     """Two ends, of which one sends."""
 
     def setUp(self):
-        self.near, self.far = Bundles(), Bundles()
+        self.near, self.far = Batches(), Batches()
 
     def frames(self, peer, texts, is_once=False):
-        """The pieces of an instruction that are to go, as they stand in packets."""
-        pieces, _ = self.near.begin(peer, texts, is_once)
-        found = [self.near.frame(piece) for piece in pieces]
-        for piece in pieces:
-            self.near.went(piece)
+        """The chunks of an instruction that are to go, as they stand in packets."""
+        chunks, _ = self.near.begin(peer, texts, is_once)
+        found = [self.near.frame(chunk) for chunk in chunks]
+        for chunk in chunks:
+            self.near.went(chunk)
         return found
 
     def tell(self, peer):
@@ -73,10 +73,10 @@ class Two(unittest.TestCase):
         self.assertLess(self.carried(4, typed(2))[1], first - 8)
 
     def test_numbers(self):
-        """One count numbers the bundles of all peers, and a peer that was forgotten goes on above what the other end has."""
+        """One count numbers the batches of all peers, and a peer that was forgotten goes on above what the other end has."""
         for number, peer in enumerate((1, 2, 1, 9), 1):
-            pieces, is_new = self.near.begin(peer, typed(number))
-            self.assertEqual((pieces, is_new), ([Piece(peer, number, 0)], True))
+            chunks, is_new = self.near.begin(peer, typed(number))
+            self.assertEqual((chunks, is_new), ([Chunk(peer, number, 0)], True))
         for peer in range(10, 10 + MOST_PEERS):
             self.near.begin(peer, typed(1))
         self.assertNotIn(1, self.near.going)
@@ -84,16 +84,16 @@ class Two(unittest.TestCase):
         self.assertEqual(self.near.begin(1, typed(9))[0][0].number, 5 + MOST_PEERS)
 
     def test_end(self):
-        """The last number is below 2^31, and no bundle begins behind it."""
-        self.near.last = MOST_BUNDLES - 2
+        """The last number is below 2^31, and no batch begins behind it."""
+        self.near.last = MOST_BATCHES - 2
         self.assertTrue(self.near.may_begin(1))
         self.assertEqual(self.carried(1, typed(1))[0], typed(1))
         self.assertEqual((self.near.last, self.near.is_spent(), self.near.may_begin(1), self.near.may_begin(2)),
-                         (MOST_BUNDLES - 1, True, False, False))
-        self.assertEqual(self.far.take(1, MOST_BUNDLES, 0, 1, packed_bundle(joined(typed(2)), 0, b"")), [])
+                         (MOST_BATCHES - 1, True, False, False))
+        self.assertEqual(self.far.take(1, MOST_BATCHES, 0, 1, packed_batch(joined(typed(2)), 0, b"")), [])
 
     def test_any_order(self):
-        """Pieces come in any order, again and again, and others not: each instruction comes at most once, and in order."""
+        """Chunks come in any order, again and again, and others not: each instruction comes at most once, and in order."""
         chance, frames = random.Random(3), []
         for number in range(1, 120):
             frames += self.frames(1, datagrams(number, noise(chance.choice((20, 900, 5000)), number)))
@@ -138,7 +138,7 @@ class Two(unittest.TestCase):
         self.assertFalse(self.near.note_whole(77, 1))
 
     def test_base_behind_many(self):
-        """Where other peers had many bundles meanwhile there is a base again with the second that comes."""
+        """Where other peers had many batches meanwhile there is a base again with the second that comes."""
         self.near.last = 1000
         for number in (1, 2, 3):
             self.near.begin(1, typed(number))
@@ -146,40 +146,40 @@ class Two(unittest.TestCase):
         self.assertEqual(self.near.going[1].base, 1002)
 
     def test_drops(self):
-        """A small bundle drops all before it; a large one drops small ones, and two large ones are finished before a third."""
+        """A small batch drops all before it; a large one drops small ones, and two large ones are finished before a third."""
         for length in (9000, 9, 9000, 9001):
             self.near.begin(1, datagrams(1, noise(length, length)))
         self.assertEqual(list(self.near.going[1].going), [3, 4])
         self.assertEqual((MOST_LARGE, self.near.may_begin(1, LARGE + 1), self.near.may_begin(1, LARGE), self.near.may_begin(2, LARGE + 1)),
                          (2, False, True, True))
-        # Those of which each piece has arrived are in nobody's way, also where nothing was told of the whole.
-        for index in range(len(self.near.going[1].going[3].pieces)):
-            self.near.arrived(Piece(1, 3, index))
+        # Those of which each chunk has arrived are in nobody's way, also where nothing was told of the whole.
+        for index in range(len(self.near.going[1].going[3].chunks)):
+            self.near.arrived(Chunk(1, 3, index))
         self.assertTrue(self.near.may_begin(1, LARGE + 1))
         self.near.begin(1, typed(5))
         self.assertEqual(list(self.near.going[1].going), [5])
 
     def test_repeats(self):
         """What is on its way isn't begun again; what came, or may have been lost with its base, is."""
-        pieces, _ = self.near.begin(1, typed(1))
-        self.assertEqual(self.near.begin(1, [one[:20] + bytes(16) + one[36:] for one in typed(1)]), (pieces, False))
-        self.near.arrived(pieces[0])
+        chunks, _ = self.near.begin(1, typed(1))
+        self.assertEqual(self.near.begin(1, [one[:20] + bytes(16) + one[36:] for one in typed(1)]), (chunks, False))
+        self.near.arrived(chunks[0])
         self.assertTrue(self.near.is_said(1))
-        self.assertEqual(self.near.begin(1, typed(1)), ([Piece(1, 2, 0)], True))
+        self.assertEqual(self.near.begin(1, typed(1)), ([Chunk(1, 2, 0)], True))
 
     def test_once(self):
         """What goes once is wanted until it went."""
-        piece = self.near.begin(1, typed(1), True)[0][0]
-        self.assertEqual(self.near.frame(piece)[:1], ONCE_KIND)
-        self.assertEqual(self.near.length(piece), len(self.near.frame(piece)))
-        self.assertFalse(self.near.went(piece))
-        self.assertEqual((self.near.bundle(piece), self.near.length(piece), self.near.is_said(1)), (None, 0, True))
+        chunk = self.near.begin(1, typed(1), True)[0][0]
+        self.assertEqual(self.near.frame(chunk)[:1], ONCE_KIND)
+        self.assertEqual(self.near.length(chunk), len(self.near.frame(chunk)))
+        self.assertFalse(self.near.went(chunk))
+        self.assertEqual((self.near.batch(chunk), self.near.length(chunk), self.near.is_said(1)), (None, 0, True))
         other = self.near.begin(1, typed(2))[0][0]
         self.assertTrue(self.near.went(other))
-        self.assertTrue(self.near.bundle(other))
+        self.assertTrue(self.near.batch(other))
 
-    def test_hostile_pieces(self):
-        """Pieces that no end sends change nothing, raise nothing, and take no memory without bound."""
+    def test_hostile_chunks(self):
+        """Chunks that no end sends change nothing, raise nothing, and take no memory without bound."""
         chance = random.Random(8)
         for _ in range(3000):
             self.far.take(chance.randrange(400), chance.randrange(1 << 32), chance.randrange(1 << 16), chance.randrange(1 << 16),
@@ -187,23 +187,23 @@ class Two(unittest.TestCase):
         self.assertLessEqual(len(self.far.coming), MOST_PEERS)
         for number in range(1, 40):
             for index in range(100):
-                self.far.take(number % 20, number, index, batches.MOST_PIECES, bytes(PIECE_LENGTH) * 9)
+                self.far.take(number % 20, number, index, batches.MOST_CHUNKS, bytes(CHUNK_LENGTH) * 9)
         self.assertTrue(all(len(way.parts) <= batches.MOST_PARTS for way in self.far.coming.values()))
         self.assertLess(sum(way.size() for way in self.far.coming.values()), KEPT_PARTS * 5 // 4)
 
-    def test_empty_pieces(self):
-        """Pieces without bytes count what it takes to know of them."""
+    def test_empty_chunks(self):
+        """Chunks without bytes count what it takes to know of them."""
         for number in range(1, 5):
             for peer in range(1, 101):
                 for index in range(0, 4000, 4):
-                    self.far.take(peer, number, index, batches.MOST_PIECES, b"")
+                    self.far.take(peer, number, index, batches.MOST_CHUNKS, b"")
         kept = sum(len(parts) for way in self.far.coming.values() for parts in way.parts.values())
         self.assertLess(kept * batches.OVERHEAD, KEPT_PARTS * 5 // 4)
         self.assertGreater(kept, 4000)
 
     def test_contradicting_counts(self):
-        """A bundle whose pieces tell several counts comes whole for one that fits, or never."""
-        packed = packed_bundle(joined(typed(1)), 0, b"")
+        """A batch whose chunks tell several counts comes whole for one that fits, or never."""
+        packed = packed_batch(joined(typed(1)), 0, b"")
         self.assertEqual(self.far.take(1, 1, 5, 9, b"x"), [])
         self.assertEqual(self.far.take(1, 1, 0, 1, packed), [])
         self.assertEqual(self.far.take(1, 2, 0, 1, packed), typed(1))
@@ -215,21 +215,21 @@ class Packing(unittest.TestCase):
     def test_bytes(self):
         """The base stands first; then deflate without a header, or LZMA2."""
         text = joined(typed(1))
-        self.assertEqual(packed_bundle(text, 7, b"")[:4], bytes(4))
-        self.assertEqual(packed_bundle(text, 7, text)[:4], b"\0\0\0\7")
-        self.assertEqual(zlib.decompressobj(-15, text).decompress(packed_bundle(text, 7, text)[4:]), text)
-        self.assertEqual(packed_bundle(bytes(LARGE + 1), 7, text)[:4], b"\xff" * 4)
+        self.assertEqual(packed_batch(text, 7, b"")[:4], bytes(4))
+        self.assertEqual(packed_batch(text, 7, text)[:4], b"\0\0\0\7")
+        self.assertEqual(zlib.decompressobj(-15, text).decompress(packed_batch(text, 7, text)[4:]), text)
+        self.assertEqual(packed_batch(bytes(LARGE + 1), 7, text)[:4], b"\xff" * 4)
 
     def test_unpacked(self):
         """What can't be read, has no end, or is too long is nothing."""
-        small, large = packed_bundle(b"text", 0, b""), packed_bundle(bytes(9000), 0, b"")
-        self.assertEqual(unpacked_bundle(small, {}, 4), b"text")
-        self.assertEqual(unpacked_bundle(large, {}, 9000), bytes(9000))
+        small, large = packed_batch(b"text", 0, b""), packed_batch(bytes(9000), 0, b"")
+        self.assertEqual(unpacked_batch(small, {}, 4), b"text")
+        self.assertEqual(unpacked_batch(large, {}, 9000), bytes(9000))
         for packed, longest in ((small, 3), (large, 8999), (small[:-1], 4), (large[:-1], 9000), (b"", 9), (b"\0\0\0", 9), (bytes(4), 9),
                                 (b"\xff" * 4, 9), (BASE.pack(5) + small[4:], 9), (b"\xff" * 30, 9), (bytes(4) + b"\xff" * 30, 9)):
-            self.assertIsNone(unpacked_bundle(packed, {}, longest), packed)
-        self.assertIsNone(unpacked_bundle(packed_bundle(bytes(LONGEST_TEXT + 1), 0, b""), {}, LONGEST_TEXT))
-        self.assertNotIn(LARGE_BASE, (0, MOST_BUNDLES))
+            self.assertIsNone(unpacked_batch(packed, {}, longest), packed)
+        self.assertIsNone(unpacked_batch(packed_batch(bytes(LONGEST_TEXT + 1), 0, b""), {}, LONGEST_TEXT))
+        self.assertNotIn(LARGE_BASE, (0, MOST_BATCHES))
 
     def test_parted(self):
         """Texts stand behind their lengths; none is empty or cut."""
@@ -240,10 +240,10 @@ class Packing(unittest.TestCase):
 
     def test_state(self):
         """What an end tells of itself is short; what claims to be a datagram and is none is dropped."""
-        far = Bundles()
-        self.assertEqual(far.take(0, 1, 0, 1, packed_bundle(joined([b"e", b"p1"]), 0, b"")), [b"e", b"p1"])
-        self.assertEqual(far.take(0, 2, 0, 1, packed_bundle(joined([b"p" * LONGEST_STATE]), 0, b"")), [])
-        self.assertEqual(far.take(5, 3, 0, 1, packed_bundle(joined([b"e", *typed(1), bytes(50)]), 0, b"")), typed(1))
+        far = Batches()
+        self.assertEqual(far.take(0, 1, 0, 1, packed_batch(joined([b"e", b"p1"]), 0, b"")), [b"e", b"p1"])
+        self.assertEqual(far.take(0, 2, 0, 1, packed_batch(joined([b"p" * LONGEST_STATE]), 0, b"")), [])
+        self.assertEqual(far.take(5, 3, 0, 1, packed_batch(joined([b"e", *typed(1), bytes(50)]), 0, b"")), typed(1))
 
     def test_kept(self):
         """The newest texts are kept, so many and so much of them, and the newest whatever its length."""
@@ -252,7 +252,7 @@ class Packing(unittest.TestCase):
         self.assertEqual(sorted(batches.kept_texts(texts, 8, 250)), [7, 8])
         self.assertEqual(sorted(batches.kept_texts(texts, 8, 9)), [8])
         self.assertEqual(batches.kept_texts({}, 3, 9), {})
-        near = Bundles()
+        near = Batches()
         for number in range(1, 30):
             near.begin(1, datagrams(number, noise(40_000, number)))
         self.assertLessEqual(sum(map(len, near.going[1].texts.values())), KEPT_GOING)
@@ -263,7 +263,7 @@ class Hastes(unittest.TestCase):
 
     def haste(self, texts, before=None):
         """How an instruction goes behind another."""
-        near = Bundles()
+        near = Batches()
         if before:
             near.begin(1, before)
         return near.haste(1, texts)
@@ -287,7 +287,7 @@ class Hastes(unittest.TestCase):
 
     def test_state(self):
         """What an end tells of itself goes until it has arrived."""
-        near = Bundles()
+        near = Batches()
         near.begin(0, [b"e"])
         self.assertEqual(near.haste(0, [b"e"]), NOW)
 

@@ -10,7 +10,7 @@ from unittest import mock
 
 from aids import StillLoop
 from roam_live.host.output_scan import Bells as Finder
-from roam_live.protocol.bells import AGAIN, APART, MOST_FOLLOWERS, BellFollower, BellSource
+from roam_live.protocol.bells import AGAIN, APART, MOST_SUBSCRIBERS, BellSource, BellSubscriber
 
 # What a program writes, and whether a bell rings in it.
 BELLS = (
@@ -42,10 +42,10 @@ class Bells(unittest.TestCase):
         self.loop.turns(count)
         return self.loop.found - before
 
-    def follower(self, folder=None):
+    def subscriber(self, folder=None):
         """One who follows, with a loop of its own."""
         rung, words = [], []
-        one = BellFollower(folder or self.folder, StillLoop(), rung.append, words.append)
+        one = BellSubscriber(folder or self.folder, StillLoop(), rung.append, words.append)
         one.rung, one.words = rung, words
         one.connect()
         self.addCleanup(lambda: one.peer and one.peer.close())
@@ -67,12 +67,12 @@ class Bells(unittest.TestCase):
     def test_most(self):
         """Sixty-four are told; one more waits, which costs nobody anything, and is told once another has left."""
         there = []
-        for _ in range(MOST_FOLLOWERS + 1):
-            there.append(self.follower())
+        for _ in range(MOST_SUBSCRIBERS + 1):
+            there.append(self.subscriber())
             self.turns()
         self.turns(4)
         self.source.tell(3)
-        self.assertEqual([self.heard(one) for one in there], [[3]] * MOST_FOLLOWERS + [[]])
+        self.assertEqual([self.heard(one) for one in there], [[3]] * MOST_SUBSCRIBERS + [[]])
         self.assertIsNotNone(there[-1].peer)
         self.assertEqual(self.turns(5), 0)
         there[0].loop.remove(there[0].peer)
@@ -85,11 +85,11 @@ class Bells(unittest.TestCase):
 
     def test_ended(self):
         """Who ends each connection at once is connected to again after a second."""
-        one = self.follower()
+        one = self.subscriber()
         self.turns()
         made = 0
         for _ in range(20):
-            for peer in list(self.source.followers):
+            for peer in list(self.source.subscribers):
                 self.source.drop(peer)
             self.heard(one)
             self.now += AGAIN / 10
@@ -102,10 +102,10 @@ class Bells(unittest.TestCase):
 
     def test_wait_time(self):
         """The moment at which it is connected to again is one to wake for; without an end there is none."""
-        one = self.follower()
+        one = self.subscriber()
         self.assertIsNone(one.loop.wait_time())
         self.turns()
-        self.source.drop(self.source.followers[0])
+        self.source.drop(self.source.subscribers[0])
         self.heard(one)
         self.assertEqual(one.loop.wait_time(), AGAIN)
         self.now += AGAIN / 2
@@ -113,12 +113,12 @@ class Bells(unittest.TestCase):
         self.now += AGAIN / 2
         self.assertIsNone(one.loop.wait_time())
         self.assertIsNotNone(one.peer)
-        self.assertIsNone(self.follower(os.path.join(self.folder, "none")).loop.wait_time())
+        self.assertIsNone(self.subscriber(os.path.join(self.folder, "none")).loop.wait_time())
 
     def test_another_user(self):
         """Neither end takes one of another user."""
         with mock.patch("os.getuid", return_value=os.getuid() + 1):
-            one = self.follower()
+            one = self.subscriber()
             self.assertIsNone(one.peer)
             self.assertEqual(one.loop.wait_time(), AGAIN)
         there = socket.socket(socket.AF_UNIX, socket.SOCK_STREAM)
@@ -127,14 +127,14 @@ class Bells(unittest.TestCase):
         there.connect(str(pathlib.Path(self.folder, "bells")))
         with mock.patch("os.getuid", return_value=os.getuid() + 1):
             self.turns(3)
-        self.assertEqual(self.source.followers, [])
+        self.assertEqual(self.source.subscribers, [])
         self.assertEqual(there.recv(1), b"")
 
     def test_lies(self):
         """What is no line of a bell rings nothing, and is no fault."""
-        one = self.follower()
+        one = self.subscriber()
         self.turns()
-        peer = self.source.followers[0]
+        peer = self.source.subscribers[0]
         for line in ("bell \u00b2", "bell 0", "bell 10", "bell", "bell 1 2", "bell -1", "\udcff", "rung 1"):
             peer.send(f"{line}\n".encode("utf-8", "surrogatepass"))
         peer.send(b"\xff\xfe\nbell 9\n")
@@ -142,18 +142,18 @@ class Bells(unittest.TestCase):
 
     def test_words(self):
         """What is said in words comes in printable ASCII, and no more than the last of what comes at once."""
-        one = self.follower()
+        one = self.subscriber()
         self.turns()
         self.source.say("pane 3 isn't sh\u00f6wn")
         self.assertEqual(self.heard(one), [])
         self.assertEqual((self.said(one), self.said(one)), (["pane 3 isn't sh?wn"], []))
         self.source.standing = "one for who comes"
-        late = self.follower()
+        late = self.subscriber()
         self.turns()
         self.heard(late)
         self.heard(one)
         self.assertEqual((self.said(one), self.said(late)), ([], ["one for who comes"]))
-        self.source.followers[0].send(b"say one\nsay \x1b]0;x\x07\nsay " + b"x" * 300 + b"\nsay two\n")
+        self.source.subscribers[0].send(b"say one\nsay \x1b]0;x\x07\nsay " + b"x" * 300 + b"\nsay two\n")
         self.heard(one)
         self.assertEqual(self.said(one), ["two"])
 
@@ -166,7 +166,7 @@ class Bells(unittest.TestCase):
         self.assertEqual(other.loop.sources, {})
         other.tell(1)
         other.close()
-        self.assertIsNotNone(self.follower().peer)
+        self.assertIsNotNone(self.subscriber().peer)
 
     def test_closed(self):
         """Its own socket's file is removed at the end, and none that took its place."""
@@ -181,13 +181,13 @@ class Bells(unittest.TestCase):
     def test_blocked(self):
         """A source that takes none holds nobody up, and none that reads nothing holds the source up."""
         for _ in range(40):
-            self.follower()
-        self.turns(MOST_FOLLOWERS)
+            self.subscriber()
+        self.turns(MOST_SUBSCRIBERS)
         for pane in range(1, 10):
             for _ in range(2000):
                 self.now += APART
                 self.source.tell(pane)
-        self.assertLessEqual(len(self.source.followers), MOST_FOLLOWERS)
+        self.assertLessEqual(len(self.source.subscribers), MOST_SUBSCRIBERS)
 
 
 class Found(unittest.TestCase):
@@ -207,4 +207,4 @@ class Found(unittest.TestCase):
 
     def test_numbers(self):
         """A pane rings once a second, for sixteen who follow, and who was refused connects again after a second, as docs/LIVE.md has it."""
-        self.assertEqual((APART, MOST_FOLLOWERS, AGAIN), (1.0, 64, 1.0))
+        self.assertEqual((APART, MOST_SUBSCRIBERS, AGAIN), (1.0, 64, 1.0))

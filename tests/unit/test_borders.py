@@ -303,7 +303,7 @@ class Dragged(Pointed):
         self.drag((0, 5, 10))
         self.assertIsNone(person.commands.pointing.border)
         self.drag((0, 5, 40))
-        person.display.cover = "help"
+        person.display.notice = "help"
         self.drag((0, 5, 45, True))
         self.assertEqual((person.commands.pointing.border, session.rects()[1].cols), (None, 39))
 

@@ -1,4 +1,4 @@
-"""`mux capture` of rows, `mux log` and `mux buffer`: what they ask a keeper that is played by hand, and what they print."""
+"""`mux capture` of rows, `mux log` and `mux buffer`: what they ask a host that is played by hand, and what they print."""
 import io
 import sys
 import types
@@ -39,21 +39,21 @@ class Texts(Case):
 
 
 class Asked(Rows):
-    """What is asked of a keeper that takes its turns while an answer is waited for."""
+    """What is asked of a host that takes its turns while an answer is waited for."""
 
     def setUp(self):
         super().setUp()
         self.session = types.SimpleNamespace(name="main", folder=self.folder)
-        self.life = 5
+        self.generation = 5
         self.filter = []
-        self.patch_of(scrollback, "making_of", lambda session, pane: (pane or 1, self.life))
+        self.patch_of(scrollback, "making_of", lambda session, pane: (pane or 1, self.generation))
         self.patch_of(scrollback, "ready", self.ready)
         self.patch_of(scrollback, "ANSWERS", 0.2)
         self.out = io.TextIOWrapper(io.BytesIO())
         self.patch_of(sys, "stdout", self.out)
 
     def ready(self, end, events, seconds):
-        """What can be done at an end, once the keeper took turns, and its filter printed what it is to print next."""
+        """What can be done at an end, once the host took turns, and its filter printed what it is to print next."""
         self.loop.turns(4)
         if self.filter and self.fake.taken():
             self.fake.prints(self.filter.pop(0))
@@ -99,33 +99,33 @@ class Rowed(Asked):
 
     def test_many(self):
         """More rows than are told at once."""
-        rows = self.keeper.panes[1].rows
+        rows = self.scrollback.panes[1].rows
         rows.room.most_rows = 10_000
         for number in range(50):
             rows.add(100, b"".join(b" row %d of some\n" % (number * 100 + one) for one in range(100)))
         self.assertEqual(self.captured("-5000", "-1"), "".join(f"row {number} of some\n" for number in range(5000)))
 
     def test_refused(self):
-        """Words that name no row; a pane of which no rows are kept, and a keeper that doesn't answer, or isn't there."""
+        """Words that name no row; a pane of which no rows are kept, and a host that doesn't answer, or isn't there."""
         self.filter = [b"screen 0 1 3\n s\n"] * 4
         for word in ("x", "--", "-x", "1.5", "", "1" * 10, "+1"):
             self.filter = [b"screen 0 1 3\n s\n"]
             told = f"{word!r} is no row: 0 is the first of the screen, -1 the last above it, and - the outermost"
             self.refuses(told, scrollback.capture_rows, 0, word, None, False, False)
-        self.life = 4
+        self.generation = 4
         for does, words in ((scrollback.capture_rows, ("0", None)), (scrollback.log_rows, ())):
             self.refuses("session main: no rows are kept of pane 1, as where ROAM_HISTORY is 0, or by an earlier roam", does, 0, *words,
                          False, False)
-        self.life = 5
-        self.refuses("session main: what keeps its shells doesn't answer", scrollback.capture_rows, 0, "0", None, False, False)
+        self.generation = 5
+        self.refuses("session main: the pty host doesn't answer", scrollback.capture_rows, 0, "0", None, False, False)
         self.socket.close()
-        self.refuses("session main: nobody keeps its shells", scrollback.capture_rows, 0, "0", None, False, False)
+        self.refuses("session main: its pty host is not running", scrollback.capture_rows, 0, "0", None, False, False)
 
     def test_log(self):
         """Rows as they come, and the last screen; rows that were kept no longer are told."""
         steps = [lambda: None, lambda: self.prints(b"rows 0 2 6\n+c\n d\n"),
-                 lambda: [self.keeper.panes[1].rows.add(100, b" x\n" * 100) for _ in range(2)] and self.keeper.came(),
-                 lambda: self.keeper.drop(1), lambda: self.prints(b"screen 0 2 6\n s\n  \n")]
+                 lambda: [self.scrollback.panes[1].rows.add(100, b" x\n" * 100) for _ in range(2)] and self.scrollback.came(),
+                 lambda: self.scrollback.drop(1), lambda: self.prints(b"screen 0 2 6\n s\n  \n")]
 
         def step(end, events, seconds):
             if not events & scrollback.WRITE and steps:
@@ -138,7 +138,7 @@ class Rowed(Asked):
         self.assertEqual(told, "cd\n[100 rows were kept no longer]\n" + "x\n" * 100 + "s\n")
 
     def test_log_ended(self):
-        """A keeper that ends meanwhile."""
+        """A host that ends meanwhile."""
         def step(end, events, seconds):
             self.loop.turns(4)
             if not events & scrollback.WRITE:
@@ -146,7 +146,7 @@ class Rowed(Asked):
             return ready(end, events, 0.01)
 
         with mock.patch.object(scrollback, "ready", step):
-            self.refuses("session main: what keeps its shells has ended", scrollback.log_rows, 0, False, False)
+            self.refuses("session main: the pty host has ended", scrollback.log_rows, 0, False, False)
 
 
 class Buffered(Asked):
@@ -173,7 +173,7 @@ class Buffered(Asked):
         self.refuses(TOO_LONG, scrollback.set_buffer, "x" * (MOST_BUFFER + 1))
 
     def test_pasted(self):
-        """A buffer's mark is typed once the keeper holds it as a text."""
+        """A buffer's mark is typed once the host holds it as a text."""
         self.socket.buffers.add(b"one\ntwo")
         typed = []
 
@@ -184,26 +184,26 @@ class Buffered(Asked):
             self.assertEqual(text.data, b"one\rtwo")
 
         self.patch_of(paste, "ready", self.ready)
-        self.patch_of(paste, "opened", lambda session, watches: None)
+        self.patch_of(paste, "opened", lambda session, is_read_only: None)
         self.patch_of(paste, "type_lines", type_lines)
         self.assertEqual(scrollback.put_buffer(self.session, None, 0), 0)
         self.assertTrue(typed[0].startswith("paste ; char 9f ; char "), typed)
         self.refuses("session main: no buffer has this number. Nothing was typed", scrollback.put_buffer, "7", 0)
 
     def test_earlier(self):
-        """A keeper of an earlier roam has none."""
+        """A host of an earlier roam has none."""
         with mock.patch.object(self.socket, "take_buffer_line", lambda peer, line: False):
             self.refuses("session main: no buffers are kept there, as by an earlier roam", scrollback.list_buffers)
             self.refuses("session main: the buffer isn't kept", scrollback.set_buffer, "a")
             self.patch_of(paste, "ready", self.ready)
-            told = "session main: what keeps its shells has no buffers, as an earlier roam's, or ended; nothing was typed"
+            told = "session main: the pty host has no buffers, as an earlier roam's, or ended; nothing was typed"
             self.refuses(told, scrollback.put_buffer, "1", 0)
         with mock.patch.object(self.socket, "take_line", lambda peer, line: self.socket.drop(peer)):
             self.refuses(told, scrollback.put_buffer, "1", 0)
         self.socket.close()
-        self.refuses("session main: nobody keeps its shells", paste.paste_buffer, 1, 0)
+        self.refuses("session main: its pty host is not running", paste.paste_buffer, 1, 0)
 
     def test_nonsense(self):
-        """A keeper that tells what can't be."""
+        """A host that tells what can't be."""
         with mock.patch.object(self.socket, "take_line", lambda peer, line: self.socket.send(peer, ["buffers [2J"])):
-            self.refuses("session main: what keeps its shells tells what can't be: buffers ?[2J", scrollback.list_buffers)
+            self.refuses("session main: the pty host tells what can't be: buffers ?[2J", scrollback.list_buffers)

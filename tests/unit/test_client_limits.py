@@ -1,26 +1,26 @@
-"""How new client starts of other machines come to a server: over all far ends together, by a clock that is played."""
+"""How new client processes of other machines come to a server: over all far ends together, by a clock that is played."""
 import itertools
 import os
 import struct
 
 from aids import Case
-from roam_live.relay.client_limits import EDITS, WATCHES, Start, StartLimit, room_at, start_in
+from roam_live.relay.client_limits import READ_ONLY, READ_WRITE, ClientLimit, RemoteClient, remote_client_in, room_at
 
 SESSION = 0x5E55
 
 
-def datagram(name, kind=EDITS, session=SESSION, version=2):
-    """A datagram of a start."""
+def datagram(name, kind=READ_WRITE, session=SESSION, version=2):
+    """A datagram of a client."""
     return struct.pack(">2sBBQQ", b"RM", version, kind, session, name) + bytes(23)
 
 
 class Served(Case):
-    """A window whose server is played: it knows each start whose datagram comes."""
+    """A window whose server is played: it knows each client whose datagram comes."""
 
     def setUp(self):
         self.folder, self.now = self.made_folder(), 1000.0
         (self.folder / "session").write_text(f"{SESSION:x}\n", encoding="ascii")
-        self.known = {EDITS: set(), WATCHES: set()}
+        self.known = {READ_WRITE: set(), READ_ONLY: set()}
         self.tells = True
 
     def counts(self, folder):
@@ -30,10 +30,10 @@ class Served(Case):
 
     def far_end(self, folder=None):
         """What a far end, a process of its own, lets through."""
-        return StartLimit(str(folder or self.folder), lambda: self.now, self.counts)
+        return ClientLimit(str(folder or self.folder), lambda: self.now, self.counts)
 
-    def says(self, far, name, kind=EDITS):
-        """Whether a start's datagram comes to the server."""
+    def says(self, far, name, kind=READ_WRITE):
+        """Whether a client's datagram comes to the server."""
         if far.passes(datagram(name, kind)):
             self.known[kind].add(name)
             return True
@@ -59,19 +59,19 @@ class Passes(Served):
     def test_spent(self):
         """One connection that brings starts without end leaves the last 16 of 64, and those that are known go on."""
         names = itertools.count(1)
-        self.known[EDITS].update(range(1000, 1010))
+        self.known[READ_WRITE].update(range(1000, 1010))
         for _ in range(500):
             far = self.far_end()
             for _ in range(5):
                 self.says(far, next(names))
             self.now += 10
-        self.assertEqual(len(self.known[EDITS]), 48)
+        self.assertEqual(len(self.known[READ_WRITE]), 48)
         self.assertTrue(self.says(self.far_end(), 1))
         self.assertFalse(self.says(self.far_end(), 9999))
 
     def test_late(self):
         """A server that hasn't counted yet what was let through just now counts as if it had."""
-        self.known[EDITS].update(range(1000, 1047))
+        self.known[READ_WRITE].update(range(1000, 1047))
         self.assertEqual([self.far_end().passes(datagram(name)) for name in (1, 2)], [True, False])
 
     def test_untold(self):
@@ -80,15 +80,15 @@ class Passes(Served):
         for name in range(100):
             self.says(self.far_end(), name)
             self.now += 10
-        self.assertEqual(len(self.known[EDITS]), 48)
+        self.assertEqual(len(self.known[READ_WRITE]), 48)
 
     def test_watchers(self):
         """Those that watch are counted by themselves, and 4 of 16 are left."""
         self.assertEqual([self.says(self.far_end(), name) for name in (1, 2, 3)], [True, True, False])
         for name in range(1, 50):
-            self.says(self.far_end(), name, WATCHES)
+            self.says(self.far_end(), name, READ_ONLY)
             self.now += 5
-        self.assertEqual(len(self.known[WATCHES]), 12)
+        self.assertEqual(len(self.known[READ_ONLY]), 12)
 
     def test_refused(self):
         """What the server refuses in any case passes, and uses nothing up."""
@@ -107,22 +107,22 @@ class Noted(Served):
         (self.folder / "session").write_text("abc\n", encoding="ascii")
         far = self.far_end()
         self.assertEqual([far.passes(datagram(name, session=0xABC)) for name in (1, 2, 3)], [True, True, False])
-        self.assertEqual((self.folder / "starts").read_text(encoding="ascii").count("5e55"), 0)
+        self.assertEqual((self.folder / "remote_clients").read_text(encoding="ascii").count("5e55"), 0)
 
     def test_cut(self):
         """A line that was cut, or can't be one, is passed over, and the next is whole."""
-        note = self.folder / "starts"
+        note = self.folder / "remote_clients"
         note.write_bytes(b"5e55 2 1 5.0 0\n\xff\n5e55 2 1 nan\n5e55 2 7 9")
         self.assertEqual([self.says(self.far_end(), name) for name in (1, 7, 8, 9)], [True, True, True, False])
-        self.assertEqual([one.name for one in map(start_in, note.read_text(encoding="ascii", errors="replace").split("\n")) if one],
+        self.assertEqual([one.name for one in map(remote_client_in, note.read_text(encoding="ascii", errors="replace").split("\n")) if one],
                          [1, 7, 8])
         for line in ("", "5e55 2 1 5.0", "x 2 1 5.0 0", "5e55 2 1 5.0 0 ", "5e55 a 1 5.0 0"):
-            self.assertIsNone(start_in(line), line)
-        self.assertEqual(start_in(str(Start(1, 2, 3, 4.5, 6))), Start(1, 2, 3, 4.5, 6))
+            self.assertIsNone(remote_client_in(line), line)
+        self.assertEqual(remote_client_in(str(RemoteClient(1, 2, 3, 4.5, 6))), RemoteClient(1, 2, 3, 4.5, 6))
 
     def test_unnoted(self):
         """Where nothing can be noted an end counts for itself."""
-        (self.folder / "starts").mkdir()
+        (self.folder / "remote_clients").mkdir()
         far = self.far_end()
         self.assertEqual([self.says(far, name) for name in (1, 2, 3, 1)], [True, True, False, True])
         self.now += 10
@@ -130,7 +130,7 @@ class Noted(Served):
 
     def test_no_folder(self):
         """At a port there is no file."""
-        far = StartLimit("", lambda: self.now, lambda folder: None)
+        far = ClientLimit("", lambda: self.now, lambda folder: None)
         self.assertEqual([far.passes(datagram(name)) for name in (1, 2, 3, 1)], [True, True, False, True])
         self.assertFalse(far.passes(datagram(3, session=8)))
 
@@ -152,13 +152,13 @@ class Nights(Case):
     """Two machines at a session of 40 windows, for ten days."""
 
     def test_nights(self):
-        """A start that comes back under its id after each night uses nothing up, and one anew for each window and night is had at once."""
+        """A client that comes back under its id after each night uses nothing up, and one anew for each window and night is had at once."""
         for is_new in (False, True):
             windows = [Served() for _ in range(40)]
             for window in windows:
                 window.setUp()
                 self.addCleanup(window.doCleanups)
-                window.known[EDITS].add(99)
+                window.known[READ_WRITE].add(99)
             for night in range(10):
                 for machine in (1, 2):
                     for window in windows:
@@ -167,4 +167,4 @@ class Nights(Case):
                         name = 100 * machine + (night if is_new else 0)
                         # The command breaks, and another far end takes its place.
                         self.assertEqual([window.says(one, name) for one in (far, far, window.far_end())], [True] * 3)
-            self.assertEqual({len(window.known[EDITS]) for window in windows}, {1 + 2 * (10 if is_new else 1)})
+            self.assertEqual({len(window.known[READ_WRITE]) for window in windows}, {1 + 2 * (10 if is_new else 1)})

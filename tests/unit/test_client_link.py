@@ -1,4 +1,4 @@
-"""A terminal's connection to the client start, and how it is had again."""
+"""A terminal's connection to the client process, and how it is had again."""
 import contextlib
 import errno
 import os
@@ -9,19 +9,19 @@ from aids import Case, read_now, record
 from roam_live.cli.connection import opened
 from roam_live.common.errors import Fault
 from roam_live.common.event_loop import READ, WRITE
-from roam_live.protocol.client_link import EARLIER, FIRST_WAIT, LET_GO, LOST, MOST_ACTS, NO_MORE, PAUSES, SILENT, Keeper, StartLink
+from roam_live.protocol.client_link import EARLIER, FIRST_WAIT, LET_GO, LOST, MOST_ACTS, NO_MORE, PAUSES, SILENT, ClientLink, Reconnector
 
 
 class SocketPeer:
-    """The start's end, which takes so many bytes each time, or refuses with an error's number, below 0."""
+    """The client's end, which takes so many bytes each time, or refuses with an error's number, below 0."""
 
     def __init__(self, *answers):
         self.answers, self.taken = list(answers), []
 
-    def send(self, piece):
+    def send(self, chunk):
         """Takes what is the next answer."""
         answer = self.answers.pop(0)
-        self.taken.append(len(piece))
+        self.taken.append(len(chunk))
         if answer < 0:
             raise OSError(-answer, "refused")
         return answer
@@ -37,21 +37,21 @@ class Linked(Case):
 
     def link(self, *words):
         """A link that is connected, and its other end."""
-        link = StartLink(self.path, *words)
+        link = ClientLink(self.path, *words)
         link.connect()
         self.addCleanup(link.close)
         return link, self.taken(self.listener)
 
 
 class Lines(Linked):
-    """What goes to the start."""
+    """What goes to the client."""
 
     def test_greeting(self):
-        """Records are asked for first; then a watcher says so, another how guesses are shown, but where they never are; all anew at each
-        connection."""
-        for words, more in (((True,), b"watch\n"), ((False,), b""), ((False, "adaptive"), b"guess adaptive\n"),
-                            ((False, "always"), b"guess always\n"), ((True, "always"), b"watch\n")):
-            said = b"told\n" + more
+        """Records are asked for first; then a watcher says so, another how predictions are shown, but where they never are; all anew at
+        each connection."""
+        for words, more in (((True,), b"watch\n"), ((False,), b""), ((False, "adaptive"), b"predict adaptive\n"),
+                            ((False, "always"), b"predict always\n"), ((True, "always"), b"watch\n")):
+            said = b"events\n" + more
             link, other = self.link(*words)
             self.assertTrue(link.send())
             self.assertEqual((read_now(other), link.waiting, link.lines), (said, b"", said.count(b"\n")))
@@ -63,18 +63,18 @@ class Lines(Linked):
 
     def test_kept(self):
         """What wasn't sent goes to the next connection, behind one greeting; a watcher's doesn't."""
-        link = StartLink(self.path, False, "always")
+        link = ClientLink(self.path, False, "always")
         link.type("char 61")
         for _ in range(2):
             link.connect()
             self.addCleanup(link.close)
             other = self.taken(self.listener)
         link.send()
-        self.assertEqual((read_now(other), link.lines), (b"told\nguess always\nchar 61\n", 3))
-        watcher = StartLink(self.path, True)
+        self.assertEqual((read_now(other), link.lines), (b"events\npredict always\nchar 61\n", 3))
+        watcher = ClientLink(self.path, True)
         watcher.say("repaint")
         watcher.connect()
-        self.assertEqual((watcher.waiting, watcher.lines), (b"told\nwatch\n", 2))
+        self.assertEqual((watcher.waiting, watcher.lines), (b"events\nwatch\n", 2))
         watcher.close()
 
     def test_joined(self):
@@ -116,72 +116,72 @@ class Lines(Linked):
         link.say("repaint")
         whole = bytes(link.waiting)
         for cut in range(1, len(whole)):
-            link.waiting[:], link.given = whole, 0
+            link.waiting[:], link.sent = whole, 0
             with mock.patch.object(link, "peer", SocketPeer(cut)):
                 self.assertTrue(link.send())
             rest = whole[whole.rfind(b"\n", 0, cut) + 1 :]
-            self.assertEqual((bytes(link.waiting), link.given), (rest, cut - (len(whole) - len(rest))), cut)
+            self.assertEqual((bytes(link.waiting), link.sent), (rest, cut - (len(whole) - len(rest))), cut)
             link.connect()
             self.taken(self.listener)
-            again = rest if rest.startswith(b"told\n") else b"told\n" + rest
-            self.assertEqual((link.given, bytes(link.waiting), link.lines), (0, again, again.count(b"\n")))
+            again = rest if rest.startswith(b"events\n") else b"events\n" + rest
+            self.assertEqual((link.sent, bytes(link.waiting), link.lines), (0, again, again.count(b"\n")))
 
     def test_full(self):
-        """What isn't taken waits, in pieces of 65,536 bytes; where the other end has gone that is told."""
+        """What isn't taken waits, in chunks of 65,536 bytes; where the other end has gone that is told."""
         link, other = self.link(False)
         link.waiting[:] = b"x" * 100_000 + b"\n"
         peer = SocketPeer(65536, -errno.EAGAIN, 34465, -errno.EPIPE)
         with mock.patch.object(link, "peer", peer):
             self.assertTrue(link.send())
-            self.assertEqual((link.given, peer.taken), (65536, [65536]))
+            self.assertEqual((link.sent, peer.taken), (65536, [65536]))
             self.assertTrue(link.send())
-            self.assertEqual(link.given, 65536)
+            self.assertEqual(link.sent, 65536)
             self.assertTrue(link.send())
-            self.assertEqual((link.given, link.waiting), (0, b""))
+            self.assertEqual((link.sent, link.waiting), (0, b""))
             self.assertFalse(link.send())
 
     def test_told(self):
         """Records, what they tell of the connection, and its end; what is no record is the end too."""
         link, other = self.link(False)
-        self.assertEqual((link.told(), link.has_come, link.is_done()), ([], False, False))
+        self.assertEqual((link.read_events(), link.has_come, link.is_done()), ([], False, False))
         link.type("char 61")
-        other.send(b"painted\ntold\n" + record("taken", 1) + record("paint", data=b"x"))
-        self.assertEqual([one.word for one in link.told()], ["told", "taken", "paint"])
+        other.send(b"painted\nevents\n" + record("taken", 1) + record("paint", data=b"x"))
+        self.assertEqual([one.word for one in link.read_events()], ["events", "taken", "paint"])
         self.assertEqual((link.has_come, link.taken, link.lines, link.is_done(), link.fileno()), (True, 1, 2, False, link.peer.fileno()))
         other.send(record("taken", 2))
-        link.told()
+        link.read_events()
         self.assertTrue(link.is_done())
         other.close()
-        self.assertEqual((link.told(), link.has_ended, link.loss()), (None, True, LET_GO))
+        self.assertEqual((link.read_events(), link.has_ended, link.loss()), (None, True, LET_GO))
         link.close()
         link.close()
         self.assertIsNone(link.peer)
-        for text, why in ((b"\ntold\nwhat\n", LET_GO), (b"full\n", NO_MORE), (b"", NO_MORE), (b"\x1bcroam: line 1: bad act", EARLIER),
-                          (b"\ntold\nrefused 3 bad act\n", "the client start refused a line: bad act")):
+        for text, why in ((b"\nevents\nwhat\n", LET_GO), (b"full\n", NO_MORE), (b"", NO_MORE), (b"\x1bcroam: line 1: bad act", EARLIER),
+                          (b"\nevents\nrefused 3 bad act\n", "the client process refused a line: bad act")):
             link, other = self.link(False)
             other.send(text)
             other.close()
-            while link.told() is not None:
+            while link.read_events() is not None:
                 pass
             self.assertEqual((link.loss(), link.has_ended), (why, True), text)
             link.close()
 
     def test_begins(self):
-        """A start has five seconds for its first record, and what waits is given meanwhile."""
+        """A client has five seconds for its first record, and what waits is given meanwhile."""
         link, other = self.link(True)
-        other.send(b"\ntold\n")
+        other.send(b"\nevents\n")
         self.assertTrue(link.begins(5.0))
         self.assertTrue(link.records.begun)
         link, other = self.link(True)
         with mock.patch("roam_live.protocol.client_link.ready", lambda *_: self.pass_time(0.1) or WRITE):
             self.assertFalse(link.begins(5.0))
-        self.assertEqual((105 <= self.now < 105.2, read_now(other), link.has_ended), (True, b"told\nwatch\n", False))
+        self.assertEqual((105 <= self.now < 105.2, read_now(other), link.has_ended), (True, b"events\nwatch\n", False))
         other.close()
         self.assertFalse(link.begins(5.0))
         self.assertTrue(link.has_ended)
 
     def test_part(self):
-        """Who leaves gives what was typed, and says that no more comes; that the start has taken it is known by its end."""
+        """Who leaves gives what was typed, and says that no more comes; that the client has taken it is known by its end."""
         link, other = self.link(False)
         link.type("char 61")
         answers = iter([WRITE, 0, READ])
@@ -190,7 +190,7 @@ class Lines(Linked):
             self.assertEqual((end, events, seconds), (link.peer, READ | WRITE if link.waiting else READ, 0.1))
             found = next(answers)
             if found == READ:
-                self.assertEqual(other.recv(64), b"told\nchar 61\n")
+                self.assertEqual(other.recv(64), b"events\nchar 61\n")
                 self.assertEqual(other.recv(64), b"")
                 other.close()
             return found
@@ -201,7 +201,7 @@ class Lines(Linked):
         self.assertTrue(link.part())
 
     def test_part_late(self):
-        """A start that doesn't take it in time is left, and that is told."""
+        """A client that doesn't take it in time is left, and that is told."""
         link, _ = self.link(False)
         link.type("char 61")
         with mock.patch("roam_live.protocol.client_link.ready", lambda *_: self.pass_time(0.5) or 0):
@@ -212,12 +212,12 @@ class Lines(Linked):
 
 
 class AnySession:
-    """A session with a start, as it is told."""
+    """A session with a client, as it is told."""
 
     name = "main"
 
     def __init__(self):
-        self.start = self.noted = 1
+        self.client = self.noted = 1
         self.served, self.full = True, False
         self.revived, self.fault, self.reads = 0, None, 0
         self.earlier = []
@@ -228,11 +228,11 @@ class AnySession:
     def read(self):
         """Reads what is noted."""
         self.reads += 1
-        self.noted = self.start
+        self.noted = self.client
 
     def process(self, role):
-        """The start's process."""
-        assert role == "terminals"
+        """The client's process."""
+        assert role == "client"
         return self.noted
 
     def runs(self, role):
@@ -244,7 +244,7 @@ class AnySession:
         return self.served
 
     def is_full(self):
-        """Whether the server hears no other start."""
+        """Whether the server hears no other client."""
         return self.full
 
     def revive(self, earlier=None):
@@ -259,8 +259,8 @@ class AnySession:
         """Its lock."""
         return contextlib.nullcontext()
 
-    def demand_terminals(self, earlier=None):
-        """Sees that a start is there."""
+    def demand_client(self, earlier=None):
+        """Sees that a client is there."""
         self.earlier.append(earlier)
 
 
@@ -268,7 +268,7 @@ class Dropped(Linked):
     """What is dropped by a C-c."""
 
     def test_pastes(self):
-        """Pastes go that wait for the start, and the keys behind them; not those before them, nor what is no key, nor a line that is half
+        """Pastes go that wait for the client, and the keys behind them; not those before them, nor what is no key, nor a line that is half
         sent, and the lines are counted as they are given then."""
         link, other = self.link(False)
         link.send()
@@ -279,27 +279,27 @@ class Dropped(Linked):
         link.type("key return")
         link.say("part 23 80")
         link.type("size 24 80")
-        given = link.lines
+        sent = link.lines
         self.assertEqual(link.drop_pasted(), ["paste ; char 62", "paste ; focus 2 ; char 9f ; char 61 ; char 9c ; focus 1",
                                               "char 63 ; next ; char 64 ; key return"])
         link.type("char 3")
         link.send()
-        self.assertEqual(read_now(other), b"told\nchar 61 ; key up\nnext\npart 23 80\nsize 24 80\nchar 3\n")
-        self.assertEqual((link.lines, link.drop_pasted()), (given - 2 + 1, []))
+        self.assertEqual(read_now(other), b"events\nchar 61 ; key up\nnext\npart 23 80\nsize 24 80\nchar 3\n")
+        self.assertEqual((link.lines, link.drop_pasted()), (sent - 2 + 1, []))
 
     def test_half_sent(self):
         """Of a paste that is half sent the line goes whole, and the others are dropped."""
         link, _ = self.link(False)
         link.waiting[:] = b"paste ; char 61\npaste ; char 62\nchar 63\n"
-        link.given, link.lines = 4, 3
+        link.sent, link.lines = 4, 3
         self.assertEqual(link.drop_pasted(), ["paste ; char 62", "char 63"])
-        self.assertEqual((link.waiting, link.lines, link.given), (b"paste ; char 61\n", 1, 4))
+        self.assertEqual((link.waiting, link.lines, link.sent), (b"paste ; char 61\n", 1, 4))
 
     def test_none(self):
         """Where nothing was pasted nothing is dropped."""
         link, _ = self.link(False)
         link.type("char 61", "char 62")
-        self.assertEqual((link.drop_pasted(), link.waiting), ([], b"told\nchar 61 ; char 62\n"))
+        self.assertEqual((link.drop_pasted(), link.waiting), ([], b"events\nchar 61 ; char 62\n"))
 
 
 class Kept(Linked):
@@ -308,8 +308,8 @@ class Kept(Linked):
     def setUp(self):
         super().setUp()
         self.place = AnySession()
-        self.link = StartLink(self.path, False)
-        self.keeper = Keeper(self.place, self.link, lambda: self.place.is_full())
+        self.link = ClientLink(self.path, False)
+        self.reconnector = Reconnector(self.place, self.link, lambda: self.place.is_full())
         self.addCleanup(self.link.close)
 
     def gone(self):
@@ -318,46 +318,46 @@ class Kept(Linked):
         os.unlink(self.path)
 
     def test_there(self):
-        self.assertIsNone(self.keeper.connect())
-        self.assertEqual((self.keeper.connected(), self.keeper.start), ("", 1))
+        self.assertIsNone(self.reconnector.connect())
+        self.assertEqual((self.reconnector.connected(), self.reconnector.client), ("", 1))
 
     def test_losses(self):
-        """What was lost is told: with the start, or with this terminal alone, or that no more are taken."""
-        self.keeper.connect()
-        self.keeper.connected()
-        self.place.start = None
-        self.assertEqual(self.keeper.lost(), LOST)
+        """What was lost is told: with the client, or with this terminal alone, or that no more are taken."""
+        self.reconnector.connect()
+        self.reconnector.connected()
+        self.place.client = None
+        self.assertEqual(self.reconnector.lost(), LOST)
         self.assertIsNone(self.link.peer)
-        self.place.start = 3
-        self.assertEqual((self.keeper.connect(), self.keeper.connected()), (None, LOST))
-        self.assertEqual(self.keeper.lost(), NO_MORE)
+        self.place.client = 3
+        self.assertEqual((self.reconnector.connect(), self.reconnector.connected()), (None, LOST))
+        self.assertEqual(self.reconnector.lost(), NO_MORE)
         self.link.connect()
-        self.assertEqual(self.keeper.connected(), LET_GO)
+        self.assertEqual(self.reconnector.connected(), LET_GO)
         self.link.has_come = self.link.records.begun = True
-        self.assertEqual(self.keeper.lost(), LET_GO)
+        self.assertEqual(self.reconnector.lost(), LET_GO)
 
     def test_earlier(self):
-        """In place of a start that knows no records another is launched at once, of which no loss is told."""
-        self.keeper.connect()
-        self.keeper.connected()
+        """In place of a client that knows no records another is launched at once, of which no loss is told."""
+        self.reconnector.connect()
+        self.reconnector.connected()
         self.link.has_come = True
-        self.assertEqual((self.keeper.lost(), self.keeper.pause()), (EARLIER, 0.1))
-        self.assertEqual(self.keeper.connect(), (0.02, ""))
+        self.assertEqual((self.reconnector.lost(), self.reconnector.pause()), (EARLIER, 0.1))
+        self.assertEqual(self.reconnector.connect(), (0.02, ""))
         self.assertEqual((self.place.revived, self.place.earlier), (1, [os.getpid()]))
-        self.assertEqual((self.keeper.connect(), self.keeper.connected()), (None, ""))
+        self.assertEqual((self.reconnector.connect(), self.reconnector.connected()), (None, ""))
 
     def test_pauses(self):
         """0.1 s, and longer with each end that comes soon; a connection that lasted 5 s had no fault."""
-        self.assertEqual(self.keeper.pause(), 0.0)
+        self.assertEqual(self.reconnector.pause(), 0.0)
         found = []
         for _ in range(8):
             self.link.since = self.now - 5.0
-            self.keeper.lost()
-            found.append(self.keeper.pause())
+            self.reconnector.lost()
+            found.append(self.reconnector.pause())
         self.assertEqual(found, [0.1, 1, 2, 4, 8, 15, 15, 15])
         self.link.since = self.now - 5.01
-        self.keeper.lost()
-        self.assertEqual((self.keeper.pause(), self.keeper.faults), (0.1, 1))
+        self.reconnector.lost()
+        self.assertEqual((self.reconnector.pause(), self.reconnector.faults), (0.1, 1))
 
     def test_full(self):
         """On a full disk it is tried each second."""
@@ -365,45 +365,45 @@ class Kept(Linked):
         found = []
         for _ in range(8):
             self.link.since = self.now - 1
-            self.keeper.lost()
-            found.append(self.keeper.pause())
+            self.reconnector.lost()
+            found.append(self.reconnector.pause())
         full.return_value = False
-        self.assertEqual((found, self.keeper.pause()), ([0.1, *[1.0] * 7], 15))
+        self.assertEqual((found, self.reconnector.pause()), ([0.1, *[1.0] * 7], 15))
         full.assert_called_with(self.link.path)
 
     def test_revived(self):
-        """Where nobody listens a start is started, which has ten seconds; then why it can't be had is told."""
+        """Where nobody listens a client is started, which has ten seconds; then why it can't be had is told."""
         self.gone()
-        self.assertEqual(self.keeper.connect(), (0.02, ""))
-        self.assertEqual((self.place.revived, self.keeper.begun_at), (1, 100.0))
+        self.assertEqual(self.reconnector.connect(), (0.02, ""))
+        self.assertEqual((self.place.revived, self.reconnector.begun_at), (1, 100.0))
         self.now += 9.9
-        self.assertEqual(self.keeper.connect(), (0.02, ""))
+        self.assertEqual(self.reconnector.connect(), (0.02, ""))
         self.now += 0.1
-        self.assertEqual(self.keeper.connect(), (0.1, "no client start is ready: No such file or directory"))
-        self.assertEqual((self.place.revived, self.keeper.begun_at), (1, 0.0))
-        self.assertEqual(self.keeper.connect(), (0.02, ""))
+        self.assertEqual(self.reconnector.connect(), (0.1, "no client process is ready: No such file or directory"))
+        self.assertEqual((self.place.revived, self.reconnector.begun_at), (1, 0.0))
+        self.assertEqual(self.reconnector.connect(), (0.02, ""))
         self.place.noted = None
-        self.assertEqual(self.keeper.connect(), (1, "no client start is ready: No such file or directory"))
+        self.assertEqual(self.reconnector.connect(), (1, "no client process is ready: No such file or directory"))
         self.listener = self.listening(self.path)
-        self.assertIsNone(self.keeper.connect())
-        self.keeper.begun_at = 5.0
-        self.keeper.connected()
-        self.assertEqual(self.keeper.begun_at, 0.0)
+        self.assertIsNone(self.reconnector.connect())
+        self.reconnector.begun_at = 5.0
+        self.reconnector.connected()
+        self.assertEqual(self.reconnector.begun_at, 0.0)
 
     def test_refused(self):
-        """Why none is started is told: no server, its 64 starts, a fault, another's socket."""
+        """Why none is started is told: no server, its 64 clients, a fault, another's socket."""
         self.gone()
         self.place.served = False
-        self.assertEqual(self.keeper.connect()[1], "no server is in /folder")
+        self.assertEqual(self.reconnector.connect()[1], "no server is in /folder")
         self.place.served, self.place.full = True, True
-        self.assertEqual(self.keeper.connect()[1], "the server has had the 64 client starts of its life, and hears no other")
+        self.assertEqual(self.reconnector.connect()[1], "the server has had the 64 clients of its life, and hears no other")
         self.place.full = False
         for fault in (Fault("session main: no room"), OSError(28, "no room")):
             self.place.fault = fault
-            self.assertEqual(self.keeper.connect()[1], "no room")
-        self.assertEqual((self.place.revived, self.keeper.faults), (0, 4))
+            self.assertEqual(self.reconnector.connect()[1], "no room")
+        self.assertEqual((self.place.revived, self.reconnector.faults), (0, 4))
         with mock.patch.object(self.link, "connect", side_effect=PermissionError(1, "user 7 listens there, and not you")):
-            self.assertEqual(self.keeper.connect(), (8, f"{self.path}: user 7 listens there, and not you"))
+            self.assertEqual(self.reconnector.connect(), (8, f"{self.path}: user 7 listens there, and not you"))
         self.assertEqual(PAUSES, (0.1, 1, 2, 4, 8, 15))
 
 
@@ -416,7 +416,7 @@ class Opened(Linked):
         self.place.terminals = self.path
 
     def opened(self, *texts):
-        """The connection to a start that tells these texts, one each time that it is connected to; their ends follow them."""
+        """The connection to a client that tells these texts, one each time that it is connected to; their ends follow them."""
         texts = list(texts)
 
         def waits(end, events, seconds):
@@ -436,12 +436,12 @@ class Opened(Linked):
 
     def test_there(self):
         self.assertEqual(FIRST_WAIT, 5.0)
-        link = self.opened(b"\x1bc\ntold\n")
-        self.assertEqual((link.records.begun, link.watches, self.place.earlier), (True, True, []))
+        link = self.opened(b"\x1bc\nevents\n")
+        self.assertEqual((link.records.begun, link.is_read_only, self.place.earlier), (True, True, []))
 
     def test_earlier(self):
-        """In place of a start of an earlier roam another is demanded, once."""
-        self.assertTrue(self.opened(b"\x1bc", b"\ntold\n").records.begun)
+        """In place of a client of an earlier roam another is demanded, once."""
+        self.assertTrue(self.opened(b"\x1bc", b"\nevents\n").records.begun)
         self.assertEqual(self.place.earlier, [os.getpid()])
         with self.assertRaisesRegex(Fault, f"^{EARLIER}$"):
             self.opened(b"\x1bc", b"\x1bc")

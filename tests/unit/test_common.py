@@ -189,14 +189,15 @@ class Notes(Case):
     def test_noted(self):
         """Its file is named by the process, and has its begin and what it does; who was killed isn't counted."""
         note = attached.noted_front_end(self.folder)
-        self.assertEqual((note.name, note.read_text(encoding="utf-8")), (str(os.getpid()), f"{common_process.begun(os.getpid())} edits\n"))
+        self.assertEqual((note.name, note.read_text(encoding="utf-8")),
+                         (str(os.getpid()), f"{common_process.begun(os.getpid())} read-write\n"))
         self.assertEqual((attached.count_front_ends(self.folder), attached.has_others(self.folder)), (1, False))
-        watcher = self.other("watches")
+        watcher = self.other("read-only")
         self.assertEqual((attached.count_front_ends(self.folder), attached.has_others(self.folder)), (2, False))
-        self.other("edits")
+        self.other("read-write")
         self.assertEqual((attached.count_front_ends(self.folder), attached.has_others(self.folder)), (3, True))
-        watcher.write_text("1 watches\n", encoding="utf-8")
-        for name, text in (("1073741824", "5 edits\n"), ("1073741825", ""), ("x", "1 edits\n"), ("1073741826", "x")):
+        watcher.write_text("1 read-only\n", encoding="utf-8")
+        for name, text in (("1073741824", "5 read-write\n"), ("1073741825", ""), ("x", "1 read-write\n"), ("1073741826", "x")):
             (self.folder / "attached" / name).write_text(text, encoding="utf-8")
         self.assertEqual(attached.count_front_ends(self.folder), 2)
         self.assertEqual(len(list((self.folder / "attached").iterdir())), 2)
@@ -344,7 +345,8 @@ class Ends(Case):
         lines = io.Lines()
         self.assertEqual((lines.fed(b"x" * 65535), lines.fed(b"\n")), ([], ["x" * 65535]))
         self.assertEqual((lines.fed(b"x" * 65536), lines.fed(b"y\nz\n")), ([], ["z"]))
-        self.assertEqual((lines.fed(b"x" * 65535), lines.fed(b"y"), lines.fed(b"y" * 70000), lines.fed(b"\n\nz\n")), ([], [], [], ["", "z"]))
+        self.assertEqual((lines.fed(b"x" * 65535), lines.fed(b"y"), lines.fed(b"y" * 70000), lines.fed(b"\n\nz\n")),
+                         ([], [], [], ["", "z"]))
         self.assertEqual(lines.fed(b"a\n" + b"x" * 65536 + b"\nb\n"), ["a", "b"])
 
 
@@ -433,7 +435,7 @@ class Running(Case):
         self.patch_of(pathlib.Path, "read_bytes", lambda path: (lambda text: text.encode() if isinstance(text, str) else text)(read(path)))
 
     def test_busy(self):
-        """The panes in which something else than a shell has the terminal, by what the keeper of shells started."""
+        """The panes in which something else than a shell has the terminal, by what the pty host started."""
         stat = "({0}) S 1 {1} {1} 34816 {2} 4194304"
         panes = {f"{one}0/environ": f"A=b\0ROAM_PANE=/x:y/main:{one}\0" for one in range(1, 5)}
         self.proc({"7/task/7/children": "10 20 30 40 50 ", **panes,
@@ -476,7 +478,7 @@ class Running(Case):
             self.assertEqual(foreground.running("10", [f"a{place}" for place in range(count)]), told)
         self.assertEqual(foreground.running("11", ["vi"]), "")
 
-    def test_shells(self):
+    def test_host(self):
         self.environment(SHELL="/opt/mine")
         found = [foreground.is_shell(name) for name in ("sh", "-bash", "fish", "mine", "vi", "shx", "")]
         self.assertEqual(found, [True, True, True, True, False, False, False])
@@ -523,19 +525,20 @@ class Numbers(Case):
     def test_limits(self):
         self.assertEqual((unix_socket.LONGEST_WAIT, unix_socket.SAID_AFTER, io.UNREAD_LIMIT, io.LONGEST_LINE), (10.0, 0.5, 65536, 65536))
         self.assertEqual((common_files.LOG_LIMIT, common_files.KEPT, common_text.SAID_LIMIT), (1 << 20, 1 << 19, 64 * 1024))
-        self.assertEqual((environment.PREFIX, environment.GUESSING), ("C-b", ("adaptive", "always", "never")))
+        self.assertEqual((environment.PREFIX, environment.PREDICTION), ("C-b", ("adaptive", "always", "never")))
         codes = {"C-a": 1, "C-z": 26, "C-]": 29, "C-\\": 28, "C-^": 30, "C-_": 31}
         self.assertEqual({name: ord(environment.PREFIXES[name]) for name in codes}, codes)
 
     def test_pauses(self):
-        """A start follows another after 0.1 s, a keeper of shells after 0.3 s, and then after pauses that grow; a folder is used each six hours."""
+        """A client follows another after 0.1 s, a pty host after 0.3 s, and then after pauses that grow; a folder is used each six
+        hours."""
         self.assertEqual((client_link.PAUSES, panes_client.PAUSES), ((0.1, 1, 2, 4, 8, 15),) * 2)
         self.assertEqual((host_watchdog.PAUSES, host_watchdog.SOUND, panes_client.QUIET), ((0.3, 1, 2, 4, 8, 15), 5.0, 3.0))
         self.assertEqual((tmp_keepalive.USED_EACH, tmp_keepalive.LOOKS), (6 * 60 * 60, 60))
 
     def test_relay(self):
         """A relay is alone for an hour, its far end half a minute; seven seconds are silence; `ls` tells of more than 32 starts."""
-        self.assertEqual((remote.ALONE, session_folder.MANY_STARTS), (3600, 32))
+        self.assertEqual((remote.ALONE, session_folder.MANY_CLIENTS), (3600, 32))
         self.assertEqual((near.SILENT, far.ALONE, common.PEER_LIMIT, frames.HEARTBEAT), (7.0, 30.0, 256, 3.0))
         self.assertEqual((frames.VERSION, frames.NOISE_LIMIT, frames.MOST_TOLD, frames.WAITING_LIMIT), (2, 65536, 4097, 4 << 20))
 

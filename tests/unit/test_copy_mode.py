@@ -163,11 +163,11 @@ class Asked(unittest.TestCase):
     def test_not_found(self):
         """What stands nowhere is told, and the cursor stays; a text of none searches for nothing."""
         mode = mode_of(TEXT, True, SIZE)
-        before = mode.view.spot
+        before = mode.view.position
         typed(mode, [b"/nowhere\r"])
-        self.assertEqual((mode.told, mode.view.spot), ("'nowhere' isn't found", before))
+        self.assertEqual((mode.told, mode.view.position), ("'nowhere' isn't found", before))
         typed(mode, [b"/\r", b"n"])
-        self.assertEqual(mode.view.spot, before)
+        self.assertEqual(mode.view.position, before)
 
     def test_too_much(self):
         """What has more bytes than the bound isn't copied, and what has as many is."""
@@ -317,11 +317,11 @@ class Lines(unittest.TestCase):
         """Up and down go line by line, and come back to their column."""
         mode = mode_of("abcdefghij\nxy", False, (6, 40))
         answer_all(mode, lambda: mode.resize(6, 4))
-        spots = []
+        positions = []
         for keys in (b"\x1b<", b"\x06\x06\x06", b"\x0e", b"\x0e", b"\x0e", b"\x10", b"\x10", b"\x05"):
             typed(mode, [keys])
-            spots.append(mode.view.spot)
-        self.assertEqual(spots, [(0, 0), (0, 3), (0, 7), (0, 10), (1, 2), (0, 10), (0, 7), (0, 10)])
+            positions.append(mode.view.position)
+        self.assertEqual(positions, [(0, 0), (0, 3), (0, 7), (0, 10), (1, 2), (0, 10), (0, 7), (0, 10)])
 
     def test_copied_whole(self):
         """What is wrapped for a narrower pane is copied as one line."""
@@ -334,14 +334,14 @@ class Lines(unittest.TestCase):
         for rows, cols in ((3, 5), (1, 4), (40, 200), (12, 40), (6, 7)):
             mode = mode_of(TEXT, True, SIZE)
             typed(mode, [b"15k"])
-            spot, top = mode.view.spot, mode.view.top
+            position, top = mode.view.position, mode.view.top
             answer_all(mode, lambda: mode.resize(rows, cols))
-            self.assertEqual(mode.view.spot, spot)
+            self.assertEqual(mode.view.position, position)
             self.assertIn(mode.view.line(), mode.view.lines())
             row, col = mode.view.cursor()
             self.assertTrue(0 <= row < rows and 0 <= col < cols)
             answer_all(mode, lambda: mode.resize(*SIZE))
-            self.assertEqual(mode.view.spot, spot)
+            self.assertEqual(mode.view.position, position)
             self.assertLessEqual(mode.view.top, mode.view.lowest_top())
             del top
         mode = mode_of(TEXT, True, SIZE)
@@ -385,55 +385,58 @@ class Moved(unittest.TestCase):
 
     def holds(self, move, cases):
         """Holds where places move to."""
-        for spot, wanted in cases:
-            self.assertEqual(move(spot), wanted, spot)
+        for position, wanted in cases:
+            self.assertEqual(move(position), wanted, position)
 
     def test_characters(self):
-        self.holds(lambda spot: motions.right(self.rows, spot), (((0, 0), (0, 1)), ((0, 9), (0, 10)), ((0, 10), (1, 0)), ((4, 0), (4, 0))))
-        self.holds(lambda spot: motions.left(self.rows, spot), (((0, 1), (0, 0)), ((0, 0), (0, 0)), ((1, 0), (0, 10)), ((4, 0), (3, 3))))
-        self.holds(lambda spot: motions.left(self.rows, spot, False), (((1, 0), (0, 10)), ((2, 0), (2, 0)), ((3, 0), (2, 9))))
+        self.holds(lambda position: motions.right(self.rows, position),
+                   (((0, 0), (0, 1)), ((0, 9), (0, 10)), ((0, 10), (1, 0)), ((4, 0), (4, 0))))
+        self.holds(lambda position: motions.left(self.rows, position),
+                   (((0, 1), (0, 0)), ((0, 0), (0, 0)), ((1, 0), (0, 10)), ((4, 0), (3, 3))))
+        self.holds(lambda position: motions.left(self.rows, position, False), (((1, 0), (0, 10)), ((2, 0), (2, 0)), ((3, 0), (2, 9))))
 
     def test_words(self):
         """A word goes on in the next row where its row does."""
-        self.holds(lambda spot: motions.next_word(self.rows, spot, motions.SEPARATORS),
+        self.holds(lambda position: motions.next_word(self.rows, position, motions.SEPARATORS),
                    (((0, 0), (0, 4)), ((0, 5), (0, 7)), ((0, 7), (0, 8)), ((0, 8), (1, 4)), ((1, 4), (2, 0)), ((3, 2), (4, 1))))
-        self.holds(lambda spot: motions.next_word(self.rows, spot, ""), (((0, 4), (1, 4)), ((2, 0), (2, 3))))
-        self.holds(lambda spot: motions.word_end(self.rows, spot, motions.SEPARATORS),
+        self.holds(lambda position: motions.next_word(self.rows, position, ""), (((0, 4), (1, 4)), ((2, 0), (2, 3))))
+        self.holds(lambda position: motions.word_end(self.rows, position, motions.SEPARATORS),
                    (((0, 0), (0, 3)), ((0, 3), (0, 7)), ((0, 8), (1, 3)), ((1, 3), (1, 8)), ((2, 7), (2, 8)), ((4, 0), (4, 1))))
-        self.holds(lambda spot: motions.last_of_word(self.rows, spot, motions.SEPARATORS),
+        self.holds(lambda position: motions.last_of_word(self.rows, position, motions.SEPARATORS),
                    (((0, 0), (0, 2)), ((0, 2), (0, 6)), ((0, 8), (1, 2)), ((1, 2), (1, 7))))
-        self.holds(lambda spot: motions.previous_word(self.rows, spot, motions.SEPARATORS),
+        self.holds(lambda position: motions.previous_word(self.rows, position, motions.SEPARATORS),
                    (((0, 2), (0, 0)), ((0, 4), (0, 0)), ((1, 2), (0, 8)), ((1, 4), (0, 8)), ((2, 0), (1, 4)), ((0, 0), (0, 0))))
-        self.holds(lambda spot: motions.previous_word(self.rows, spot, motions.SEPARATORS, False), (((0, 2), (0, 0)), ((1, 2), (0, 8))))
+        self.holds(lambda position: motions.previous_word(self.rows, position, motions.SEPARATORS, False),
+                   (((0, 2), (0, 0)), ((1, 2), (0, 8))))
 
     def test_lines(self):
-        self.holds(lambda spot: motions.line_begin(self.rows, spot), (((1, 3), (0, 0)), ((0, 3), (0, 0)), ((3, 1), (2, 0))))
-        self.holds(lambda spot: motions.line_end(self.rows, spot), (((0, 3), (1, 8)), ((2, 0), (3, 3)), ((4, 0), (4, 0))))
-        self.holds(lambda spot: motions.indentation(self.rows, spot), (((1, 3), (0, 0)), ((3, 1), (2, 0)), ((4, 0), (4, 0))))
+        self.holds(lambda position: motions.line_begin(self.rows, position), (((1, 3), (0, 0)), ((0, 3), (0, 0)), ((3, 1), (2, 0))))
+        self.holds(lambda position: motions.line_end(self.rows, position), (((0, 3), (1, 8)), ((2, 0), (3, 3)), ((4, 0), (4, 0))))
+        self.holds(lambda position: motions.indentation(self.rows, position), (((1, 3), (0, 0)), ((3, 1), (2, 0)), ((4, 0), (4, 0))))
 
     def test_jumps(self):
         """A jump goes on in rows that go on, and no further."""
-        self.holds(lambda spot: motions.jumped(self.rows, spot, "f", "e"),
+        self.holds(lambda position: motions.jumped(self.rows, position, "f", "e"),
                    (((0, 0), (0, 2)), ((0, 2), (1, 1)), ((1, 2), (1, 2)), ((2, 0), (3, 2))))
-        self.holds(lambda spot: motions.jumped(self.rows, spot, "t", "e"), (((0, 0), (0, 1)), ((0, 1), (1, 0)), ((2, 0), (3, 1))))
-        self.holds(lambda spot: motions.jumped(self.rows, spot, "F", "o"),
+        self.holds(lambda position: motions.jumped(self.rows, position, "t", "e"), (((0, 0), (0, 1)), ((0, 1), (1, 0)), ((2, 0), (3, 1))))
+        self.holds(lambda position: motions.jumped(self.rows, position, "F", "o"),
                    (((1, 2), (0, 6)), ((0, 6), (0, 0)), ((1, 6), (1, 5)), ((2, 5), (2, 5))))
-        self.holds(lambda spot: motions.jumped(self.rows, spot, "T", "o"), (((1, 2), (0, 7)), ((0, 6), (0, 1)), ((2, 5), (2, 5))))
+        self.holds(lambda position: motions.jumped(self.rows, position, "T", "o"), (((1, 2), (0, 7)), ((0, 6), (0, 1)), ((2, 5), (2, 5))))
 
     def test_brackets(self):
         """A bracket's other one, of this or the next here; with emacs' keys a word where none is."""
-        self.holds(lambda spot: motions.matched_forward(self.rows, spot, True),
+        self.holds(lambda position: motions.matched_forward(self.rows, position, True),
                    (((2, 0), (2, 8)), ((2, 8), (2, 0)), ((2, 1), (2, 5)), ((2, 5), (2, 3)), ((2, 9), (2, 9)), ((0, 0), (0, 0)),
                     ((4, 0), (4, 0))))
-        self.holds(lambda spot: motions.matched_forward(self.rows, spot, False),
+        self.holds(lambda position: motions.matched_forward(self.rows, position, False),
                    (((2, 0), (2, 8)), ((2, 1), (2, 2)), ((0, 4), (1, 3)), ((4, 0), (4, 0))))
-        self.holds(lambda spot: motions.matched_back(self.rows, spot),
+        self.holds(lambda position: motions.matched_back(self.rows, position),
                    (((2, 8), (2, 0)), ((2, 9), (2, 0)), ((2, 6), (2, 3)), ((2, 5), (2, 3)), ((3, 2), (3, 0)), ((2, 0), (1, 4)),
                     ((4, 0), (4, 0))))
 
     def test_paragraphs(self):
-        self.holds(lambda spot: motions.paragraph_above(self.rows, spot), (((4, 0), (0, 0)), ((2, 5), (0, 0))))
-        self.holds(lambda spot: motions.paragraph_below(self.rows, spot), (((0, 0), (4, 0)), ((4, 0), (4, 0))))
+        self.holds(lambda position: motions.paragraph_above(self.rows, position), (((4, 0), (0, 0)), ((2, 5), (0, 0))))
+        self.holds(lambda position: motions.paragraph_below(self.rows, position), (((0, 0), (4, 0)), ((4, 0), (4, 0))))
 
 
 class Missed(unittest.TestCase):
@@ -447,10 +450,10 @@ class Missed(unittest.TestCase):
         for row in range(20):
             mode.rows.lines.pop(row)
         mode.rows.celled.clear()
-        before = (mode.view.spot, mode.view.top, mode.view.selection.begin, mode.view.selection.end, mode.count.digits)
+        before = (mode.view.position, mode.view.top, mode.view.selection.begin, mode.view.selection.end, mode.count.digits)
         with self.assertRaises(Missing):
             mode.attempt(lambda: mode.take(Key("K", "K")))
-        self.assertEqual((mode.view.spot, mode.view.top, mode.view.selection.begin, mode.view.selection.end, mode.count.digits), before)
+        self.assertEqual((mode.view.position, mode.view.top, mode.view.selection.begin, mode.view.selection.end, mode.count.digits), before)
         mode.rows.put(0, [whole[row] for row in range(20)])
         top = mode.view.top
         mode.attempt(lambda: mode.take(Key("K", "K")))
@@ -496,9 +499,9 @@ class Selected(unittest.TestCase):
                                         (2, 4, False, "\u6f22\u5b57"), (3, 3, False, "")):
             for is_block in (False, True):
                 mode = mode_of("a\u6f22\u5b57b", is_vi, (3, 20))
-                mode.view.spot, mode.view.is_block = (0, begin), is_block
+                mode.view.position, mode.view.is_block = (0, begin), is_block
                 mode.begin_selection()
-                mode.view.spot = (0, end)
+                mode.view.position = (0, end)
                 mode.view.follow()
                 if is_block and begin == end and not is_vi:
                     continue
@@ -517,7 +520,7 @@ class Selected(unittest.TestCase):
                 (False, 26, b"\x1bb\x1bb", ", number")):
             mode = mode_of(TEXT, is_vi, SIZE)
             typed(mode, [b"g" if is_vi else b"\x1b<"])
-            mode.view.spot = (0, col)
+            mode.view.position = (0, col)
             mode.attempt(lambda mode=mode: mode.perform("select-word"))
             found = typed(mode, [keys, b"\r" if is_vi else b"\x1bw"])
             self.assertEqual(copies(found), [text], (is_vi, col, keys))
@@ -527,9 +530,9 @@ class Selected(unittest.TestCase):
         for is_block in (False, True):
             mode = mode_of("abcdef\nab\nabcdef", True, (3, 20))
             typed(mode, [b"gllll", *([b"v "] if is_block else [b""]), b"j"])
-            self.assertEqual(mode.view.spot, (1, 4 if is_block else 2))
+            self.assertEqual(mode.view.position, (1, 4 if is_block else 2))
             typed(mode, [b"j"])
-            self.assertEqual(mode.view.spot, (2, 4))
+            self.assertEqual(mode.view.position, (2, 4))
 
     def test_lines_turn(self):
         """Lines that are selected are whole where the cursor goes over the first of them, by a line or to the top or bottom."""
@@ -553,10 +556,10 @@ class Selected(unittest.TestCase):
         """A block's columns are the same in each row, whichever end was first."""
         for first, last, text in (((0, 1), (2, 3), "bc\nfg\njk"), ((2, 1), (0, 3), "bc\nfg\njk"), ((0, 3), (2, 1), "bcd\nfgh\njkl")):
             mode = mode_of("abcd\nefgh\nijkl", False, (5, 20))
-            mode.view.spot = first
+            mode.view.position = first
             mode.toggle_block()
             mode.begin_selection()
-            mode.view.spot = last
+            mode.view.position = last
             mode.view.follow()
             mode.copy(True)
             self.assertEqual(copies(mode.asked), [text])
@@ -585,7 +588,7 @@ class Searches(unittest.TestCase):
         """Round the end even the first row is found, at which no row is before."""
         mode = mode_of("needle\n" + "x\n" * 30, True, (5, 20))
         typed(mode, [b"G", b"/needle\r"])
-        self.assertEqual(mode.view.spot, (0, 0))
+        self.assertEqual(mode.view.position, (0, 0))
 
 
 class Painted(unittest.TestCase):

@@ -1,32 +1,32 @@
-"""Copy mode at a person's terminal, with a keeper that is played: how it is opened, drawn, fed and closed, what becomes of what is copied,
+"""Copy mode at a person's terminal, with a host that is played: how it is opened, drawn, fed and closed, what becomes of what is copied,
 and which buffer is pasted."""
 import base64
 from unittest import mock
 
 from aids import Case
-from scrollback_played import PlayedKept
+from scrollback_played import PlayedScrollback
 from roam_live.frontend import choose_list
 from roam_live.frontend.copymode import selection
 from roam_live.frontend.copymode.clipboard import MOST_COPIED
 from roam_live.frontend.copymode.controller import LENDS, MOST_WAITING, NO_ROOM
 from roam_live.frontend.copymode.row_requests import GONE, MOST_ASKED, WAITING, WAITS
-from roam_live.protocol.display_records import ToldRecord
+from roam_live.protocol.display_records import DisplayRecord
 from roam_live.protocol.panes import Places, Rect
-from roam_live.protocol.paste_text import mark_acts
+from roam_live.protocol.paste_text import placeholder_acts
 from roam_live.protocol.scrollback_client import Snapshot
-from test_display import Person, PlayedShells
+from test_display import Person, PlayedHost
 from test_mouse import PANES, report
 
 TEXT = "\n".join(f"row {number} of many, the {number}th" for number in range(1, 101))
 ONE = Places({1: Rect(1, 1, 23, 80)}, 1, 1)
 
 
-class CopyShells(PlayedShells):
-    """A keeper that lends rows, and takes texts and buffers to be pasted."""
+class CopyHost(PlayedHost):
+    """A host that lends rows, and takes texts and buffers to be pasted."""
 
-    def __init__(self, kept):
+    def __init__(self, scrollback):
         super().__init__()
-        self.kept, self.gave, self.answers, self.cancelled = kept, [], None, []
+        self.scrollback, self.stored, self.answers, self.cancelled = scrollback, [], None, []
         self.connects = False
 
     def takes_texts(self):
@@ -41,9 +41,9 @@ class CopyShells(PlayedShells):
         """Whether so many bytes more may wait."""
         return True
 
-    def give(self, name, data):
+    def store(self, name, data):
         """Keeps what is given: bytes, or the number of a buffer."""
-        self.gave.append((name, data))
+        self.stored.append((name, data))
 
     def cancel(self, name):
         """Keeps what isn't given any more."""
@@ -60,10 +60,10 @@ class Copied(Case):
     def person(self, text=TEXT, told=ONE, size=(24, 80), opens=True, **more):
         """A person, who has opened copy mode in the pane in focus."""
         rect = told.rects[told.focus]
-        self.kept = PlayedKept(text, (rect.rows, rect.cols), first=1000)
-        self.shells = CopyShells(self.kept)
-        person = Person(*size, told=told, shells=self.shells, **more)
-        person.commands.told()
+        self.scrollback = PlayedScrollback(text, (rect.rows, rect.cols), first=1000)
+        self.host = CopyHost(self.scrollback)
+        person = Person(*size, told=told, host=self.host, **more)
+        person.commands.panes_changed()
         self.settle(person)
         if opens:
             person.types(b"\x02[")
@@ -86,9 +86,9 @@ class Copied(Case):
         """The copy mode that is open."""
         return person.commands.copying.mode
 
-    def spot(self, person):
+    def position(self, person):
         """The place of its cursor."""
-        return self.mode(person).view.spot
+        return self.mode(person).view.position
 
 
 class Opened(Copied):
@@ -99,7 +99,7 @@ class Opened(Copied):
         person = self.person(opens=False)
         person.display.outer.waiting.clear()
         self.assertEqual(person.types(b"\x02["), [])
-        self.assertEqual(self.kept.asked, [("snapshot", 1, 1)])
+        self.assertEqual(self.scrollback.asked, [("snapshot", 1, 1)])
         self.assertEqual(person.said(), ["part 0 0 23 80", "mask 0 0 23 80"])
         self.assertNotIn(b"row 100", person.display.outer.waiting)
         person.paints(23, 80, "session")
@@ -114,7 +114,7 @@ class Opened(Copied):
         outer = person.display.outer
         self.assertTrue(bytes(outer.waiting).endswith(b"\x1b[1;5H\x1b[?25h"))
         before = len(outer.waiting)
-        person.display.take(ToldRecord("paint", (3,), b"abc"))
+        person.display.take(DisplayRecord("paint", (3,), b"abc"))
         self.assertEqual(bytes(outer.waiting[before:]), b"\x1b8abc\x1b7\x1b[1;5H\x1b[?25h")
         before = len(outer.waiting)
         person.display.tell("a bell")
@@ -127,7 +127,7 @@ class Opened(Copied):
         person.types(b"\x02[")
         person.said()
         before = len(person.display.outer.waiting)
-        person.display.take(ToldRecord("paint", (3,), b"abc"))
+        person.display.take(DisplayRecord("paint", (3,), b"abc"))
         person.types(b"k")
         self.assertNotIn(b"abc", person.display.outer.waiting[before:])
         self.assertNotIn(b"row 99", person.display.outer.waiting[before:])
@@ -138,7 +138,7 @@ class Opened(Copied):
         """q lets the snapshot go and has all painted again, the part with the cursor; what is typed goes to the pane then."""
         person = self.person()
         self.assertEqual(person.types(b"q"), [])
-        self.assertEqual((person.said(), self.kept.released), (["unmask", "part 23 80"], [(1, 1)]))
+        self.assertEqual((person.said(), self.scrollback.released), (["unmask", "part 23 80"], [(1, 1)]))
         person.paints(23, 80, "session")
         self.assertEqual(person.shown()[22:], ["session", "[1]"])
         self.assertEqual(person.types(b"q"), ["char 71"])
@@ -146,12 +146,12 @@ class Opened(Copied):
     def test_ahead(self):
         """What is typed before the snapshot is lent is done behind that, in order."""
         person = self.person(opens=False)
-        self.kept.is_quick = False
+        self.scrollback.is_quick = False
         self.assertEqual(person.types(b"\x02[g3j"), [])
-        self.kept.answers()
-        self.kept.is_quick = True
-        self.kept.answers()
-        self.assertEqual(self.spot(person), (1003, 0))
+        self.scrollback.answers()
+        self.scrollback.is_quick = True
+        self.scrollback.answers()
+        self.assertEqual(self.position(person), (1003, 0))
 
     def test_page_and_search(self):
         """C-b PgUp opens it a page up, and C-b / in its search; where it is open these do the same there."""
@@ -167,16 +167,16 @@ class Opened(Copied):
         person.types(b"\r")
         self.assertIn("'The 5th' isn't found", person.display.line())
         person.types(b"\x02/the 5th\r")
-        self.assertEqual(self.spot(person), (1004, 15))
+        self.assertEqual(self.position(person), (1004, 15))
         person.types(b"\x02[k")
-        self.assertEqual(self.spot(person), (1003, 15))
-        for keys, spot in (("vi", (1008, 15)), ("emacs", (1008, 15))):
+        self.assertEqual(self.position(person), (1003, 15))
+        for keys, position in (("vi", (1008, 15)), ("emacs", (1008, 15))):
             self.environment(VISUAL=keys)
             other = self.person(opens=False)
             other.types(b"\x02/the 9th")
-            self.assertEqual(self.spot(other) == spot, keys == "emacs")
+            self.assertEqual(self.position(other) == position, keys == "emacs")
             other.types(b"\r")
-            self.assertEqual(self.spot(other), spot)
+            self.assertEqual(self.position(other), position)
 
     def test_searched(self):
         """What was searched for last is searched on for once it is opened again."""
@@ -184,16 +184,16 @@ class Opened(Copied):
         person.types(b"?the 7th\rq")
         self.settle(person)
         person.types(b"\x02[n")
-        self.assertEqual(self.spot(person), (1006, 15))
+        self.assertEqual(self.position(person), (1006, 15))
 
     def test_not_lent(self):
         """Where nothing lends rows, or not in two seconds, the view that all share scrolls, by what was typed meanwhile too."""
-        for change in ("none", "no keeper", "late", "no making"):
+        for change in ("none", "no host", "late", "no making"):
             person = self.person(opens=False)
-            self.kept.lends = change != "none"
-            self.kept.is_quick = change != "late"
-            if change == "no keeper":
-                person.commands.shells = None
+            self.scrollback.lends = change != "none"
+            self.scrollback.is_quick = change != "late"
+            if change == "no host":
+                person.commands.host = None
             if change == "no making":
                 person.panes.making = lambda pane: ""
             acts = person.types(b"\x02[kk")
@@ -206,46 +206,46 @@ class Opened(Copied):
                 acts = person.link.acts[before:]
             self.assertEqual(acts, ["view 1", "view 1"], change)
             self.assertEqual(person.display.told, "2 rows back: PgUp PgDn up down g G scroll, q ends it")
-            self.kept.answers()
+            self.scrollback.answers()
             self.assertFalse(person.commands.copying.is_on())
             self.assertEqual(person.types(b"q"), ["view -500"])
             self.assertEqual(person.types(b"\x02\x1b[5~"), ["view 12"] if change != "late" else [])
         person = self.person(opens=False)
-        self.kept.lends = False
+        self.scrollback.lends = False
         self.assertEqual(person.types(b"\x02/ab"), ["char 61", "char 62"])
         self.assertEqual(person.display.told, "no rows are kept that could be shown")
 
     def test_not_lent_late(self):
         """What was typed for a search that can't be is typed nowhere, and neither is what waited for a snapshot anew."""
         person = self.person(opens=False)
-        self.kept.is_quick = self.kept.lends = False
+        self.scrollback.is_quick = self.scrollback.lends = False
         person.types(b"\x02/secret\r")
-        self.kept.answers()
+        self.scrollback.answers()
         self.assertEqual((person.link.acts, person.commands.copying.is_on()), ([], False))
         person = self.person()
-        self.kept.is_quick = self.kept.lends = False
+        self.scrollback.is_quick = self.scrollback.lends = False
         person.types(b"rjjj")
-        self.kept.answers()
+        self.scrollback.answers()
         self.assertEqual((person.link.acts, person.commands.copying.is_on(), person.display.told), ([], False, GONE))
 
     def test_connecting(self):
-        """A keeper that may be connected soon, as one that was launched just before, is waited for; not longer than for a snapshot."""
+        """A host that may be connected soon, as one that was launched just before, is waited for; not longer than for a snapshot."""
         person = self.person(opens=False)
-        self.shells.connects = True
-        self.assertEqual((person.types(b"\x02[gj"), self.kept.asked), ([], []))
+        self.host.connects = True
+        self.assertEqual((person.types(b"\x02[gj"), self.scrollback.asked), ([], []))
         self.passes(person, 0.1)
-        self.assertEqual(self.kept.asked, [])
-        self.shells.connects = False
+        self.assertEqual(self.scrollback.asked, [])
+        self.host.connects = False
         self.passes(person, 0.1)
-        self.assertEqual(self.spot(person), (1001, 0))
+        self.assertEqual(self.position(person), (1001, 0))
         person = self.person(opens=False)
-        self.shells.connects = True
+        self.host.connects = True
         person.types(b"\x02[k")
         before = len(person.link.acts)
         self.passes(person, LENDS)
         self.assertEqual((person.link.acts[before:], person.commands.copying.is_on()), (["view 1"], False))
         self.passes(person, 1)
-        self.assertEqual(self.kept.asked, [])
+        self.assertEqual(self.scrollback.asked, [])
 
     def test_focus_awaited(self):
         """Where it isn't told yet where the panes are that is waited for; not longer than for a snapshot."""
@@ -257,74 +257,74 @@ class Opened(Copied):
             self.passes(person, LENDS if is_late else 0.3)
             self.assertEqual(person.commands.copying.is_on(), not is_late)
             person.panes.place.told = told
-            person.commands.told()
+            person.commands.panes_changed()
             self.passes(person, 0.3)
             if is_late:
                 self.assertEqual((person.link.acts[before:], person.commands.copying.is_on()), (["view 500", "view -1"], False))
             else:
-                self.assertEqual((self.spot(person), person.link.acts[before:]), ((1001, 0), []))
+                self.assertEqual((self.position(person), person.link.acts[before:]), ((1001, 0), []))
 
     def test_connection_cut(self):
         """Where the connection is lost before a snapshot is lent it is asked for again once there is another; not longer than for one."""
         for is_late in (False, True):
             person = self.person(opens=False)
-            self.kept.is_quick = self.kept.lends = False
+            self.scrollback.is_quick = self.scrollback.lends = False
             person.types(b"\x02[gj")
             before = len(person.link.acts)
-            self.shells.connects = True
-            self.kept.answers()
+            self.host.connects = True
+            self.scrollback.answers()
             self.passes(person, LENDS if is_late else 0.3)
             self.assertEqual(person.commands.copying.is_on(), not is_late)
-            self.kept.is_quick = self.kept.lends = True
-            self.shells.connects = False
+            self.scrollback.is_quick = self.scrollback.lends = True
+            self.host.connects = False
             self.passes(person, 0.3)
             if is_late:
                 self.assertEqual((person.link.acts[before:], person.commands.copying.is_on()), (["view 500", "view -1"], False))
             else:
-                self.assertEqual(self.spot(person), (1001, 0))
+                self.assertEqual(self.position(person), (1001, 0))
 
     def test_odd_snapshot(self):
         """A snapshot without a screen, or with one that no pane can have, is none."""
         for screen in ([], [b" x"] * 201):
             person = self.person(opens=False)
-            self.kept.snapshot = lambda pane, life, told, screen=screen: told(Snapshot(pane, life, 0, 5, screen))
+            self.scrollback.snapshot = lambda pane, generation, told, screen=screen: told(Snapshot(pane, generation, 0, 5, screen))
             self.assertEqual(person.types(b"\x02[k"), ["view 1"])
             self.assertFalse(person.commands.copying.is_on())
 
     def test_late_answer(self):
         """An answer that comes after that, or for what was closed meanwhile, opens nothing."""
         person = self.person(opens=False)
-        self.kept.is_quick = False
+        self.scrollback.is_quick = False
         person.types(b"\x02[")
         person.types(b"\x03")
         self.assertFalse(person.commands.copying.is_on())
-        self.kept.answers()
+        self.scrollback.answers()
         self.assertFalse(person.commands.copying.is_on())
         self.assertEqual(person.types(b"x"), ["char 78"])
 
-    def test_watches(self):
+    def test_read_only(self):
         """Who only watches has it too: nothing of it is an act, and what is copied is no buffer."""
-        person = self.person(watches=True)
+        person = self.person(is_read_only=True)
         self.assertEqual(person.types(b"g ey"), [])
-        self.assertEqual((self.kept.texts, person.display.outer.clips), ([], [base64.b64encode(b"row").decode()]))
+        self.assertEqual((self.scrollback.texts, person.display.outer.clips), ([], [base64.b64encode(b"row").decode()]))
         self.assertEqual(person.display.told, "3 characters copied for the clipboard")
 
     def test_refreshed(self):
         """r has a new snapshot."""
         person = self.person()
-        self.kept.lines.append(b" the newest")
+        self.scrollback.lines.append(b" the newest")
         person.types(b"r")
         self.settle(person)
         self.assertIn("the newest", person.shown())
-        self.assertEqual(self.kept.asked, [("snapshot", 1, 1), ("snapshot", 1, 1)])
+        self.assertEqual(self.scrollback.asked, [("snapshot", 1, 1), ("snapshot", 1, 1)])
 
     def test_more(self):
         """How many rows came since is told in the last row; of another pane nothing is."""
         person = self.person()
-        self.kept.on_more(1, 1, 1)
+        self.scrollback.on_more(1, 1, 1)
         self.assertEqual(person.shown()[23], "[0/77] copy mode; 1 row came since")
-        self.kept.on_more(1, 1, 2000)
-        self.kept.on_more(2, 1, 5)
+        self.scrollback.on_more(1, 1, 2000)
+        self.scrollback.on_more(2, 1, 5)
         self.assertEqual(person.shown()[23], "[0/77] copy mode; 2000 rows came since")
         person.types(b"12")
         self.assertEqual(person.shown()[23], "[0/77] copy mode; 2000 rows came since; (repeat) 12")
@@ -337,106 +337,107 @@ class Fed(Copied):
         """Rows are asked for once they are needed, with a page ahead, and no row twice."""
         person = self.person("\n".join(f"row {number}" for number in range(1, 1001)))
         person.types(b"\x1b[5~")
-        self.assertEqual(self.kept.asked[1:], [("rows", 1931, 46)])
+        self.assertEqual(self.scrollback.asked[1:], [("rows", 1931, 46)])
         person.types(b"\x1b[5~")
-        self.assertEqual(len(self.kept.asked), 2)
+        self.assertEqual(len(self.scrollback.asked), 2)
         person.types(b"\x1b[5~")
-        self.assertEqual(self.kept.asked[2:], [("rows", 1885, 46)])
+        self.assertEqual(self.scrollback.asked[2:], [("rows", 1885, 46)])
         person.types(b"g")
-        self.assertEqual(self.kept.asked[3:], [("rows", 1000, 46)])
+        self.assertEqual(self.scrollback.asked[3:], [("rows", 1000, 46)])
         self.assertEqual(person.shown()[0], "row 1")
 
     def test_ever_more(self):
         """One key that needs many rows asks for ever more of them at once, 2,000 at most."""
         person = self.person("x\n" * 9000 + "x")
         person.types(b"{")
-        counts = [count for word, _, count in self.kept.asked[1:]]
+        counts = [count for word, _, count in self.scrollback.asked[1:]]
         self.assertEqual(counts, [46, 92, 184, 368, 736, 1472, MOST_ASKED, MOST_ASKED, MOST_ASKED, 80])
-        self.assertEqual(self.spot(person), (1000, 0))
+        self.assertEqual(self.position(person), (1000, 0))
 
     def test_cut_answer(self):
         """Where fewer rows come than were asked for the rest is asked for."""
         person = self.person("\n".join(f"row {number}" for number in range(1, 1001)))
-        self.kept.most = 10
+        self.scrollback.most = 10
         person.types(b"\x1b[5~")
-        self.assertEqual(self.kept.asked[1:], [("rows", 1931, 46), *(("rows", 1931 + 10 * cut, 46 - 10 * cut) for cut in range(1, 5))])
+        self.assertEqual(self.scrollback.asked[1:],
+                         [("rows", 1931, 46), *(("rows", 1931 + 10 * cut, 46 - 10 * cut) for cut in range(1, 5))])
         self.assertIn("row 957", person.shown())
 
     def test_waits(self):
         """Keys wait behind what waits for rows, in order; after half a second that is told."""
         person = self.person("\n".join(f"row {number}" for number in range(1, 1001)))
-        self.kept.is_quick = False
+        self.scrollback.is_quick = False
         person.types(b"\x1b[5~\x1b[5~jj0 $y")
-        self.assertEqual((self.kept.texts, len(self.kept.waiting)), ([], 1))
+        self.assertEqual((self.scrollback.texts, len(self.scrollback.waiting)), ([], 1))
         self.passes(person, WAITS)
         self.assertEqual(person.display.told, WAITING)
-        while self.kept.waiting:
-            self.kept.answers(1)
-        self.assertEqual(self.kept.texts, [b"row 960\n"])
+        while self.scrollback.waiting:
+            self.scrollback.answers(1)
+        self.assertEqual(self.scrollback.texts, [b"row 960\n"])
         self.assertNotEqual(person.display.told, WAITING)
 
     def test_leaves(self):
         """C-c leaves at once while rows are awaited, whatever waits before it, and what comes then is nothing."""
         person = self.person("\n".join(f"row {number}" for number in range(1, 1001)))
-        self.kept.is_quick = False
+        self.scrollback.is_quick = False
         person.types(b"\x1b[5~kkk\x03")
         self.assertFalse(person.commands.copying.is_on())
-        self.kept.answers()
+        self.scrollback.answers()
         self.assertEqual(person.types(b"x"), ["char 78"])
         self.assertNotIn("copy waits", person.loop.due)
 
     def test_gone(self):
-        """Where the rows aren't there any more, as where the keeper has ended, it is closed with a line."""
+        """Where the rows aren't there any more, as where the host has ended, it is closed with a line."""
         person = self.person("\n".join(f"row {number}" for number in range(1, 1001)))
-        self.kept.lends = False
+        self.scrollback.lends = False
         person.types(b"\x1b[5~k")
         self.assertEqual((person.commands.copying.is_on(), person.display.told), (False, GONE))
 
     def test_connection_lost(self):
-        """Where the connection to the keeper is lost rows are asked for again once there is another."""
+        """Where the connection to the host is lost rows are asked for again once there is another."""
         person = self.person("\n".join(f"row {number}" for number in range(1, 1001)))
-        self.kept.lends, self.shells.connects = False, True
+        self.scrollback.lends, self.host.connects = False, True
         person.types(b"gj")
         self.passes(person, 0.3)
         self.assertTrue(person.commands.copying.is_on())
-        self.kept.lends, self.shells.connects = True, False
+        self.scrollback.lends, self.host.connects = True, False
         self.passes(person, 0.3)
-        self.assertEqual((self.spot(person), person.shown()[0]), ((1001, 0), "row 1"))
-        find, self.kept.find = self.kept.find, lambda pane, life, first, back, text, told: told(None)
-        self.shells.connects = True
+        self.assertEqual((self.position(person), person.shown()[0]), ((1001, 0), "row 1"))
+        find, self.scrollback.find = self.scrollback.find, lambda pane, generation, first, back, text, told: told(None)
+        self.host.connects = True
         person.types(b"/row 7\r")
         self.passes(person, 0.3)
-        self.kept.find, self.shells.connects = find, False
+        self.scrollback.find, self.host.connects = find, False
         self.passes(person, 0.3)
-        self.assertEqual(self.spot(person), (1006, 0))
-        self.kept.lends, self.shells.connects = False, True
+        self.assertEqual(self.position(person), (1006, 0))
+        self.scrollback.lends, self.host.connects = False, True
         person.types(b"500j")
-        self.shells.connects = False
+        self.host.connects = False
         self.passes(person, 0.3)
         self.assertEqual((person.commands.copying.is_on(), person.display.told), (False, GONE))
 
     def test_full(self):
         """No more is read while too much waits."""
         person = self.person(opens=False)
-        self.kept.is_quick = False
+        self.scrollback.is_quick = False
         person.types(b"\x02[" + b"k" * (MOST_WAITING - 1))
         self.assertFalse(person.commands.is_full())
         person.types(b"k")
         self.assertTrue(person.commands.is_full())
-        self.kept.is_quick = True
-        self.kept.answers()
+        self.scrollback.is_quick = True
+        self.scrollback.answers()
         self.assertFalse(person.commands.is_full())
-        self.assertEqual(self.spot(person)[0], 1000)
+        self.assertEqual(self.position(person)[0], 1000)
 
     def test_finds(self):
         """A search asks where its text is next, behind what waits, and is done once that is told."""
         person = self.person()
-        self.kept.is_quick = False
+        self.scrollback.is_quick = False
         person.types(b"?row 7 of\rk")
-        self.assertEqual(self.kept.asked[-1], ("find", 1099, True, "row 7 of"))
-        while self.kept.waiting:
-            self.kept.answers(1)
-        self.assertEqual(self.spot(person), (1005, 0))
+        self.assertEqual(self.scrollback.asked[-1], ("find", 1099, True, "row 7 of"))
+        while self.scrollback.waiting:
+            self.scrollback.answers(1)
+        self.assertEqual(self.position(person), (1005, 0))
 
 
 class Keeps(Copied):
@@ -446,7 +447,7 @@ class Keeps(Copied):
         """A text is a buffer, and on the clipboard; that is told."""
         person = self.person()
         person.types(b"gw e\r")
-        self.assertEqual((self.kept.texts, person.display.outer.clips), ([b"1 of"], [base64.b64encode(b"1 of").decode()]))
+        self.assertEqual((self.scrollback.texts, person.display.outer.clips), ([b"1 of"], [base64.b64encode(b"1 of").decode()]))
         self.assertEqual((person.display.told, person.commands.copying.is_on()), ("4 characters copied; C-b ] pastes", False))
 
     def test_clipboard(self):
@@ -455,14 +456,14 @@ class Keeps(Copied):
             self.environment(ROAM_CLIPBOARD=word)
             person = self.person()
             person.types(b"gVj\r")
-            self.assertEqual(self.kept.texts, [b"row 1 of many, the 1th\nrow 2 of many, the 2th\n"])
+            self.assertEqual(self.scrollback.texts, [b"row 1 of many, the 1th\nrow 2 of many, the 2th\n"])
             self.assertEqual(len(person.display.outer.clips), count, word)
             self.assertEqual(person.display.told, "2 lines copied; C-b ] pastes")
 
     def test_not_kept(self):
         """Where no buffer is kept the clipboard is set all the same, and that is told."""
         person = self.person()
-        self.kept.keeps = False
+        self.scrollback.keeps = False
         person.types(b"g e\r")
         self.assertEqual(person.display.told, "3 characters copied for the clipboard alone: no buffer is kept")
         self.assertEqual(len(person.display.outer.clips), 1)
@@ -471,27 +472,27 @@ class Keeps(Copied):
         """All rows are copied, which are asked for as they are needed; with more than 1 MB nothing is, which is told."""
         person = self.person("\n".join(["yes"] * 3000))
         person.types(b"g G$\r")
-        self.assertEqual(self.kept.texts[0], b"yes\n" * 3000)
+        self.assertEqual(self.scrollback.texts[0], b"yes\n" * 3000)
         self.patch_of(selection, "MOST_COPIED", 4 * 3000 - 1)
         person = self.person("\n".join(["yes"] * 3000))
         person.types(b"g G$\r")
-        self.assertEqual((self.kept.texts, person.display.told), ([], "nothing is copied: it has more than 1 MB"))
+        self.assertEqual((self.scrollback.texts, person.display.told), ([], "nothing is copied: it has more than 1 MB"))
 
     def test_appended(self):
         """A puts a text behind the newest buffer, which stays as it was; where there is none it is one."""
         person = self.person()
         person.types(b"g eA")
         person.types(b"\x02[gw eA")
-        self.assertEqual(self.kept.texts, [b"row", b"row1 of"])
-        self.kept.texts.append(b"z" * (MOST_COPIED - 1))
+        self.assertEqual(self.scrollback.texts, [b"row", b"row1 of"])
+        self.scrollback.texts.append(b"z" * (MOST_COPIED - 1))
         person.types(b"\x02[g eA")
-        self.assertEqual((len(self.kept.texts), person.display.told), (3, "nothing is copied: it has more than 1 MB"))
+        self.assertEqual((len(self.scrollback.texts), person.display.told), (3, "nothing is copied: it has more than 1 MB"))
 
     def test_nothing(self):
         """Where nothing is selected nothing is copied."""
         person = self.person()
         person.types(b"\r")
-        self.assertEqual((self.kept.texts, person.display.outer.clips, person.commands.copying.is_on()), ([], [], False))
+        self.assertEqual((self.scrollback.texts, person.display.outer.clips, person.commands.copying.is_on()), ([], [], False))
 
 
 class Meanwhile(Copied):
@@ -506,7 +507,7 @@ class Meanwhile(Copied):
         self.assertEqual(person.types(b"?\x1b[200~the 7th\nmore\x1b[201~"), [])
         self.assertEqual(person.display.line(), "(search up) the 7th")
         person.types(b"\r")
-        self.assertEqual(self.spot(person), (1006, 15))
+        self.assertEqual(self.position(person), (1006, 15))
         person.types(b"?\x1b[200~half")
         person.tell(Places({2: Rect(1, 1, 23, 80)}, 2, 1))
         self.assertEqual((person.types(b" of it\x1b[201~x"), person.commands.copying.is_on()), (["char 78"], False))
@@ -532,9 +533,9 @@ class Meanwhile(Copied):
         person = self.person("a (b c) d\n" * 30)
         person.types(b"\x1b<\x05")
         self.assertEqual(person.types(b"\x1b\x02"), [])
-        self.assertEqual(self.spot(person), (1000, 8))
+        self.assertEqual(self.position(person), (1000, 8))
         self.assertEqual(person.types(b"\x02\x02\x1b\x02"), [])
-        self.assertEqual(self.spot(person), (1000, 2))
+        self.assertEqual(self.position(person), (1000, 2))
         person.types(b"\x1b")
         self.assertTrue(person.commands.copying.is_on())
         self.passes(person, 0.03)
@@ -547,14 +548,14 @@ class Meanwhile(Copied):
         self.assertIn("copy mode", "\n".join(person.shown()))
         self.assertEqual(person.types(b"j"), [])
         self.settle(person)
-        self.assertEqual((self.spot(person), person.shown()[0]), ((1000, 0), "row 1 of many, the 1th"))
+        self.assertEqual((self.position(person), person.shown()[0]), ((1000, 0), "row 1 of many, the 1th"))
 
     def test_focus(self):
         """It goes on where somebody else puts another pane in focus, and ends where this person does."""
         person = self.person(told=PANES)
         person.tell(PANES._replace(focus=2))
         self.settle(person)
-        self.assertEqual((person.types(b"gj"), self.spot(person)), ([], (1001, 0)))
+        self.assertEqual((person.types(b"gj"), self.position(person)), ([], (1001, 0)))
         self.assertEqual(person.types(b"\x02q3"), ["focus 3"])
         self.assertFalse(person.commands.copying.is_on())
         for keys in (b"\x02o", b"\x02\x1b[C", b"\x02%"):
@@ -569,7 +570,7 @@ class Meanwhile(Copied):
         self.assertFalse(person.commands.copying.is_on())
         person = self.person(told=PANES)
         person.panes.making = lambda pane: f"{pane} 2"
-        person.commands.told()
+        person.commands.panes_changed()
         self.assertFalse(person.commands.copying.is_on())
 
     def test_pane_resized(self):
@@ -582,7 +583,7 @@ class Meanwhile(Copied):
         self.assertEqual(self.mode(person).view.height, 10)
         self.assertEqual([row[:20].rstrip() for row in person.shown()[:4]], ["1 " + "x" * 18, "x" * 16 + " yy", "y" * 18, "2 " + "x" * 18])
         self.assertEqual(person.types(b" $y"), [])
-        self.assertEqual(self.kept.texts[0].count(b"x"), 34)
+        self.assertEqual(self.scrollback.texts[0].count(b"x"), 34)
 
     def test_terminal_resized(self):
         """A terminal of another size shows it in what is shown of the pane then; where nothing is it ends."""
@@ -596,20 +597,20 @@ class Meanwhile(Copied):
     def test_part(self):
         """On a small terminal it is drawn on what is shown of the pane, and the part stays where it was."""
         person = self.person(told=PANES._replace(focus=2), size=(12, 50), opens=False)
-        person.display.take(ToldRecord("part", (4, 30)))
+        person.display.take(DisplayRecord("part", (4, 30)))
         person.types(b"\x02[")
         self.assertEqual(person.said(), ["part 4 30 11 50", "mask 0 10 7 40"])
         person.paints(11, 50, "z" * 50)
         shown = person.shown()
         self.assertEqual(shown[6], "z" * 10 + "row 100 of many, the 100th")
         self.assertEqual(shown[7], "z" * 50)
-        person.display.take(ToldRecord("part", (20, 0)))
+        person.display.take(DisplayRecord("part", (20, 0)))
         self.assertEqual((person.commands.copying.is_on(), person.display.told), (False, NO_ROOM))
 
-    def test_start_lost(self):
+    def test_client_lost(self):
         """Another connection to a start is told of the mask, and the part is the same."""
         person = self.person(told=PANES._replace(focus=2), size=(12, 50), opens=False)
-        person.display.take(ToldRecord("part", (4, 30)))
+        person.display.take(DisplayRecord("part", (4, 30)))
         person.types(b"\x02[")
         person.paints(11, 50)
         person.said()
@@ -690,9 +691,9 @@ class Pointed(Copied):
     def test_wheel_not_lent(self):
         """Where no rows are lent the wheel scrolls the view that all share, each notch that came meanwhile too."""
         person = self.person(opens=False)
-        self.kept.is_quick, self.kept.lends = False, False
+        self.scrollback.is_quick, self.scrollback.lends = False, False
         self.points(person, (64, 5, 5), (64, 5, 5))
-        self.kept.answers()
+        self.scrollback.answers()
         self.assertEqual(person.display.told.split(":")[0], "6 rows back")
 
     def test_drag(self):
@@ -701,7 +702,7 @@ class Pointed(Copied):
         self.assertEqual(self.points(person, (0, 23, 5), (32, 23, 6)), [])
         self.settle(person)
         self.points(person, (32, 23, 8), (0, 23, 11, True))
-        self.assertEqual((self.kept.texts, person.commands.copying.is_on()), ([b"100 of "], False))
+        self.assertEqual((self.scrollback.texts, person.commands.copying.is_on()), ([b"100 of "], False))
 
     def test_drag_out(self):
         """What is dragged above the pane has rows shown, one more each twentieth of a second, until it is let go."""
@@ -716,7 +717,7 @@ class Pointed(Copied):
         self.passes(person, 1.0)
         self.assertEqual(self.mode(person).view.back()[0], 6)
         self.points(person, (32, 1, 45), (0, 1, 45, True))
-        self.assertEqual(self.kept.texts[0].count(b"\n"), 9)
+        self.assertEqual(self.scrollback.texts[0].count(b"\n"), 9)
         self.assertNotIn("copy drag", person.loop.due)
 
     def test_clicks(self):
@@ -727,20 +728,20 @@ class Pointed(Copied):
                 self.points(person, (0, 23, 14), (0, 23, 14, True))
                 self.settle(person)
                 self.passes(person, 0.1)
-            self.assertEqual(self.kept.texts, [])
+            self.assertEqual(self.scrollback.texts, [])
             self.passes(person, 0.3)
-            self.assertEqual((self.kept.texts, person.commands.copying.is_on()), ([text], False))
+            self.assertEqual((self.scrollback.texts, person.commands.copying.is_on()), ([text], False))
         person = self.person(opens=False)
         for _ in range(3):
             self.points(person, (0, 23, 14), (0, 23, 14, True))
             self.passes(person, 0.4)
-        self.assertEqual((self.kept.texts, person.commands.copying.is_on()), ([], False))
+        self.assertEqual((self.scrollback.texts, person.commands.copying.is_on()), ([], False))
 
     def test_click(self):
         """A click puts the cursor there; one in another pane puts that in focus, which ends it."""
         person = self.person(told=PANES)
         self.points(person, (0, 3, 6), (0, 3, 6, True))
-        self.assertEqual(self.spot(person), (1079, 5))
+        self.assertEqual(self.position(person), (1079, 5))
         self.assertEqual(self.points(person, (0, 3, 50)), ["focus 2"])
         self.assertFalse(person.commands.copying.is_on())
 
@@ -762,58 +763,58 @@ class Chosen(Copied):
         """C-b ] pastes the newest buffer, by a mark; where none is that is told."""
         person = self.person(opens=False)
         person.types(b"\x02]")
-        self.assertEqual((self.shells.gave, person.display.told), ([], "no buffer is kept"))
-        self.kept.texts = [b"one", b"two"]
+        self.assertEqual((self.host.stored, person.display.told), ([], "no buffer is kept"))
+        self.scrollback.texts = [b"one", b"two"]
         person.types(b"\x02]x")
-        (name, number), = self.shells.gave
+        (name, number), = self.host.stored
         self.assertEqual(number, 1)
         person.said()
-        person.commands.pastes.answered(name, "held", "")
-        self.assertEqual((person.said(), person.link.acts[-1]), ([" ; ".join(["paste", *mark_acts(name)])], "char 78"))
+        person.commands.pastes.answered(name, "stored", "")
+        self.assertEqual((person.said(), person.link.acts[-1]), ([" ; ".join(["paste", *placeholder_acts(name)])], "char 78"))
 
     def test_cut(self):
         """Where the connection is cut as it is asked for it is asked for again, while that may be there soon; else it says so."""
         person = self.person(opens=False)
-        self.kept.texts = [b"one"]
-        self.shells.connects = True
-        with mock.patch.object(self.kept, "buffers", lambda told: told(None)):
+        self.scrollback.texts = [b"one"]
+        self.host.connects = True
+        with mock.patch.object(self.scrollback, "buffers", lambda told: told(None)):
             person.types(b"\x02]")
             self.pass_time(0.1)
             person.loop.do_due()
-        self.assertEqual((self.shells.gave, person.display.told), ([], ""))
+        self.assertEqual((self.host.stored, person.display.told), ([], ""))
         self.pass_time(0.1)
         person.loop.do_due()
-        self.assertEqual([number for _, number in self.shells.gave], [0])
-        with mock.patch.object(self.kept, "buffers", lambda told: told(None)):
+        self.assertEqual([number for _, number in self.host.stored], [0])
+        with mock.patch.object(self.scrollback, "buffers", lambda told: told(None)):
             person.types(b"\x02]")
-            self.shells.connects = False
+            self.host.connects = False
             self.pass_time(0.1)
             person.loop.do_due()
-        self.assertEqual((len(self.shells.gave), person.display.told), (1, choose_list.UNTOLD))
+        self.assertEqual((len(self.host.stored), person.display.told), (1, choose_list.UNTOLD))
 
     def test_refused(self):
         """What is refused, or not taken, is told, and what waits behind it is dropped."""
         for word, more, told in (("refused", "it isn't kept", "nothing is pasted: it isn't kept"),
-                                 ("untold", "", "nothing is pasted: what keeps the shells takes nothing")):
+                                 ("untold", "", "nothing is pasted: the pty host takes nothing")):
             person = self.person(opens=False)
-            self.kept.texts = [b"one"]
+            self.scrollback.texts = [b"one"]
             person.types(b"\x02]x")
-            person.commands.pastes.answered(self.shells.gave[0][0], word, more)
+            person.commands.pastes.answered(self.host.stored[0][0], word, more)
             self.assertEqual((person.display.told, person.link.acts), (f"{told}; what was typed behind it is dropped", []))
 
     def test_ends_copy_mode(self):
         """A paste of a buffer ends copy mode."""
         person = self.person()
-        self.kept.texts = [b"one"]
+        self.scrollback.texts = [b"one"]
         person.types(b"\x02]")
-        self.assertEqual((person.commands.copying.is_on(), len(self.shells.gave)), (False, 1))
+        self.assertEqual((person.commands.copying.is_on(), len(self.host.stored)), (False, 1))
 
-    def test_watches(self):
+    def test_read_only(self):
         """Who only watches pastes nothing."""
-        person = self.person(watches=True, opens=False)
-        self.kept.texts = [b"one"]
+        person = self.person(is_read_only=True, opens=False)
+        self.scrollback.texts = [b"one"]
         person.types(b"\x02]\x02=")
-        self.assertEqual((self.shells.gave, person.commands.choosing.is_on()), ([], False))
+        self.assertEqual((self.host.stored, person.commands.choosing.is_on()), ([], False))
 
     def test_read(self):
         """Lines that are only read scroll, until q, Return or the prefix; in the midst of something else they aren't shown."""
@@ -836,7 +837,7 @@ class Chosen(Copied):
     def test_list(self):
         """C-b = lists the buffers over the pane, the newest first; the one that is chosen is pasted."""
         person = self.person(opens=False)
-        self.kept.texts = [b"first", "\u6f22 \x1b[31m".encode(), b"third"]
+        self.scrollback.texts = [b"first", "\u6f22 \x1b[31m".encode(), b"third"]
         person.types(b"\x02=")
         self.settle(person)
         self.assertEqual(person.shown()[:4], ["2: 5 bytes: third", "1: 9 bytes: \u6f22 ?[31m", "0: 5 bytes: first", ""])
@@ -845,9 +846,9 @@ class Chosen(Copied):
             self.assertEqual(person.types(keys), [])
             self.assertTrue(person.display.line().startswith(f"buffer {number} of 3"), keys)
         self.assertEqual(person.types(b"\r"), [])
-        self.assertEqual((self.shells.gave[0][1], person.commands.choosing.is_on()), (1, False))
+        self.assertEqual((self.host.stored[0][1], person.commands.choosing.is_on()), (1, False))
         self.assertEqual(self.settle(person), ["unmask", "part 23 80"])
-        person.commands.pastes.answered(self.shells.gave[0][0], "held", "")
+        person.commands.pastes.answered(self.host.stored[0][0], "stored", "")
         person.types(b"\x02=")
         self.settle(person)
         self.assertEqual(person.types(b"Gkkkq"), [])
@@ -859,14 +860,14 @@ class Chosen(Copied):
         for ends in (lambda person: person.tell(Places({2: Rect(1, 1, 23, 80)}, 2, 1)), lambda person: person.types(b"\x02q2"),
                      lambda person: person.types(b"\x1b[200~x\x1b[201~"), lambda person: person.types(b"\x02[")):
             person = self.person(told=PANES, opens=False)
-            self.kept.texts = [b"one"]
+            self.scrollback.texts = [b"one"]
             person.types(b"\x02=")
             self.settle(person)
             self.assertTrue(person.commands.choosing.is_on())
             ends(person)
             self.assertFalse(person.commands.choosing.is_on())
         person = self.person(told=PANES, opens=False)
-        self.kept.texts = [b"one"]
+        self.scrollback.texts = [b"one"]
         person.types(b"\x02=")
         self.settle(person)
         person.tell(Places({1: Rect(1, 1, 10, 20), 2: Rect(1, 22, 23, 59)}, 1, 1))
@@ -875,8 +876,8 @@ class Chosen(Copied):
     def test_late_list(self):
         """A list that comes after the person went on isn't opened."""
         person = self.person(opens=False)
-        self.kept.texts, self.kept.is_quick = [b"one"], False
+        self.scrollback.texts, self.scrollback.is_quick = [b"one"], False
         person.types(b"\x02=")
         person.types(b"\x02]")
-        self.kept.answers()
-        self.assertEqual((person.commands.choosing.is_on(), len(self.shells.gave)), (False, 1))
+        self.scrollback.answers()
+        self.assertEqual((person.commands.choosing.is_on(), len(self.host.stored)), (False, 1))

@@ -1,7 +1,7 @@
-"""Copy mode at the keeper's socket `shells`: what it asks and what it makes of the answers, with a filter that is played."""
+"""Copy mode at the host's socket `host`: what it asks and what it makes of the answers, with a filter that is played."""
 from aids import Case
 from roam_live.frontend.copymode.row_requests import GONE
-from roam_live.protocol.host_client import ShellsLink
+from roam_live.protocol.host_client import HostClient
 from roam_live.protocol.panes import Places, Rect
 from test_display import Person
 from test_scrollback_queries import Rows
@@ -10,7 +10,7 @@ SCREEN = b"".join(b" screen %d\n" % row for row in range(1, 24))
 
 
 class Connected(Rows):
-    """A person whose front end is connected to a keeper."""
+    """A person whose front end is connected to a host."""
 
     def setUp(self):
         super().setUp()
@@ -18,9 +18,9 @@ class Connected(Rows):
         Case.environment(self, VISUAL="vi", EDITOR=None, ROAM_CLIPBOARD=None)
         self.person = Person(24, 80, told=Places({1: Rect(1, 1, 23, 80)}, 1, 1))
         self.person.panes.making = lambda pane: f"{pane} 5"
-        self.link = ShellsLink(self.folder, self.loop, lambda: (24, 80), False, lambda: None)
+        self.link = HostClient(self.folder, self.loop, lambda: (24, 80), False, lambda: None)
         self.addCleanup(self.link.leave)
-        self.person.commands.shells = self.person.commands.pastes.shells = self.link
+        self.person.commands.host = self.person.commands.pastes.host = self.link
         self.link.answers = self.person.commands.pastes.answered
         self.person.paints(23, 80)
         self.loop.turns(4)
@@ -50,28 +50,28 @@ class Connected(Rows):
         self.types(b"g")
         self.assertEqual(self.person.shown()[:4], ["Alpha", "be", "ta", "screen 1"])
         self.assertEqual(self.types(b"q"), [])
-        self.assertEqual(self.keeper.room.snapshots, [])
+        self.assertEqual(self.scrollback.room.snapshots, [])
 
     def test_found(self):
         """A text is found in rows that went on, and round the end."""
         self.opened()
         self.types(b"?beta\r")
-        self.assertEqual(self.person.commands.copying.mode.view.spot, (1, 0))
+        self.assertEqual(self.person.commands.copying.mode.view.position, (1, 0))
         self.types(b"/screen 9\r")
-        self.assertEqual(self.person.commands.copying.mode.view.spot, (11, 0))
+        self.assertEqual(self.person.commands.copying.mode.view.position, (11, 0))
         self.types(b"/alph\r")
-        self.assertEqual(self.person.commands.copying.mode.view.spot, (0, 0))
+        self.assertEqual(self.person.commands.copying.mode.view.position, (0, 0))
 
     def test_copied(self):
-        """What is copied is the newest buffer, which C-b ] has put where its mark is typed."""
+        """What is copied is the newest buffer, which C-b ] has put where its placeholder is typed."""
         self.opened()
         self.types(b"gjV\r")
         self.assertEqual(self.socket.buffers.texts, {1: b"beta\n"})
         self.assertEqual(self.person.display.told, "5 characters copied; C-b ] pastes")
         before = len(self.person.link.lines)
         self.types(b"\x02]")
-        marks = [line for line in self.person.link.lines[before:] if line.startswith("paste ; char 9f")]
-        self.assertEqual(len(marks), 1)
+        placeholders = [line for line in self.person.link.lines[before:] if line.startswith("paste ; char 9f")]
+        self.assertEqual(len(placeholders), 1)
 
     def test_more(self):
         """How many rows came since is told, and what was there stays."""
@@ -91,7 +91,7 @@ class Connected(Rows):
         self.assertEqual(self.types(b"k"), ["view 1"])
 
     def test_lost(self):
-        """Where the keeper goes what was had is shown on, and it is closed once more is needed."""
+        """Where the host goes what was had is shown on, and it is closed once more is needed."""
         self.prints(b"rows 0 500 2000\n" + b" ab\n" * 500)
         self.opened()
         self.types(b"\x1b[5~")

@@ -17,7 +17,7 @@ from roam_live.frontend.bindings import HELP, help_with
 from roam_live.frontend.commands import Commands
 from roam_live.frontend.display import Display, wrapped
 from roam_live.input.keys import BRACKETS
-from roam_live.protocol.display_records import ToldRecord
+from roam_live.protocol.display_records import DisplayRecord
 from roam_live.protocol.panes import Places, Rect
 from roam_live.session.attached import noted_front_end
 
@@ -31,15 +31,15 @@ class OuterTerminal:
         self.rows, self.cols = rows, cols
         self.waiting = bytearray()
         self.is_application = False
-        self.aside, self.reports, self.clips = ("", 0), "", []
+        self.title_and_shape, self.reports, self.clips = ("", 0), "", []
 
     def size(self):
         """Its rows and columns."""
         return self.rows, self.cols
 
-    def give(self, title, shape):
+    def set_title_and_shape(self, title, shape):
         """Keeps a title and a shape."""
-        self.aside = title, shape
+        self.title_and_shape = title, shape
 
     def ask(self, reports):
         """Keeps which reports of the mouse it is asked for."""
@@ -56,11 +56,11 @@ class OuterTerminal:
         return [line.rstrip() for line in emulated.lines()]
 
 
-class StartLink:
+class ClientLink:
     """What is said and typed."""
 
-    def __init__(self, watches=False):
-        self.watches, self.has_taken = watches, True
+    def __init__(self, is_read_only=False):
+        self.is_read_only, self.has_taken = is_read_only, True
         self.acts, self.lines = [], []
 
     def is_done(self):
@@ -107,7 +107,7 @@ class PlayedPanes:
 
     awaited = full = brackets = False
     knows = True
-    aside = ("", 0)
+    title_and_shape = ("", 0)
 
     def __init__(self, place):
         self.place = place
@@ -130,7 +130,7 @@ class PlayedPanes:
         return self.places is None and not self.awaited
 
     def is_full(self):
-        """Whether the server hears no other start."""
+        """Whether the server hears no other client."""
         return self.full
 
     def knows_modes(self):
@@ -164,8 +164,8 @@ def painting(rows, cols, text="x"):
     return b"\x1bc\x1b[?25l\x1b[2J" + b"".join(f"\x1b[{row};1H{text[:cols]}".encode() for row in range(1, rows + 1)) + b"\x1b[1;1H\x1b[?25h"
 
 
-class PlayedShells:
-    """What the keeper of the shells tells of who else is at the session."""
+class PlayedHost:
+    """What the pty host tells of who else is at the session."""
 
     def __init__(self, types=None, awaited=False):
         self.types, self.awaited, self.said = types, awaited, 0
@@ -193,16 +193,16 @@ class PlayedShells:
 class Person:
     """A person at a terminal, without the processes. The session shows a text, by the size that it has, where the front end asks for it."""
 
-    def __init__(self, rows, cols, watches=False, is_new=False, told=None, folder=None, is_whole=False, shells=None):
-        self.loop, self.link, self.place = Loop(), StartLink(watches), AnySession(folder)
+    def __init__(self, rows, cols, is_read_only=False, is_new=False, told=None, folder=None, is_whole=False, host=None):
+        self.loop, self.link, self.place = Loop(), ClientLink(is_read_only), AnySession(folder)
         self.place.told = told
         self.left, self.heard = None, 0
         with mock.patch.object(display, "OuterTerminal", lambda: OuterTerminal(rows, cols)):
             self.display = Display(self.loop, self.link.say)
         self.panes = PlayedPanes(self.place)
-        self.shells = shells
+        self.host = host
         self.commands = Commands(self.place, self.panes, self.link, self.display, self.loop, self.leave, lambda places: is_new, is_whole,
-                                 shells)
+                                 host)
         self.commands.choose("C-b")
         self.display.begin()
         self.commands.show_known()
@@ -231,8 +231,8 @@ class Person:
     def paints(self, rows, cols, text="x", word="anew"):
         """Has so many rows and columns be painted."""
         data = painting(rows, cols, text)
-        self.display.take(ToldRecord("size", (rows, cols)))
-        self.display.take(ToldRecord(word, (len(data),), data))
+        self.display.take(DisplayRecord("size", (rows, cols)))
+        self.display.take(DisplayRecord(word, (len(data),), data))
 
     def answers(self, text="x"):
         """Has the session paint what the front end asked for since it was looked at last."""
@@ -248,7 +248,7 @@ class Person:
     def tell(self, told):
         """Has it be told where the panes are."""
         self.place.told = told
-        self.commands.told()
+        self.commands.panes_changed()
 
     def resize(self, rows, cols):
         """Gives the terminal another size, which stands."""
@@ -342,15 +342,15 @@ class Sizes(unittest.TestCase):
     def test_smaller_anew(self):
         """Once a session has a smaller size that it was given what is shown of it is asked for anew, where that began further on."""
         person = Person(12, 60, told=places(13, 60))
-        person.commands.given = 12, 60
+        person.commands.requested_size = 12, 60
         person.commands.show_known()
         person.answers()
         person.display.place = 1, 0
         person.tell(places(12, 60))
-        self.assertEqual((person.said(), person.commands.given), (["part 0 0 11 60"], None))
+        self.assertEqual((person.said(), person.commands.requested_size), (["part 0 0 11 60"], None))
 
     def test_chosen_before(self):
-        """The start may choose the part that has all panes over an earlier, larger screen: whatever it says, and whenever the smaller size
+        """The client may choose the part that has all panes over an earlier, larger screen: whatever it says, and whenever the smaller size
         is told, the first row is the first one shown. Once the session is larger the part goes with the cursor again."""
         for is_told_before in (True, False):
             person = Person(24, 80, told=places(65, 80))
@@ -358,35 +358,35 @@ class Sizes(unittest.TestCase):
             if is_told_before:
                 person.tell(places(24, 80))
                 person.said()
-            person.display.take(ToldRecord("part", (41, 0)))
-            person.display.take(ToldRecord("part", (1, 0)))
+            person.display.take(DisplayRecord("part", (41, 0)))
+            person.display.take(DisplayRecord("part", (1, 0)))
             person.tell(places(24, 80))
             self.assertEqual(person.said(), ["part 0 0 23 80"], is_told_before)
-            person.display.take(ToldRecord("part", (0, 0)))
+            person.display.take(DisplayRecord("part", (0, 0)))
             person.tell(places(24, 80))
             self.assertEqual(person.said(), [])
             person.tell(places(40, 80))
             self.assertEqual(person.said(), ["part 23 80"])
-            person.display.take(ToldRecord("part", (16, 0)))
+            person.display.take(DisplayRecord("part", (16, 0)))
             self.assertEqual((person.said(), person.loop.due.get("part")), ([], None))
 
     def test_chosen_again(self):
-        """Of a session that is larger than the terminal a part with its status row is chosen again by the start, until it has the screen of
-        the smaller size, or that was tried often enough."""
+        """Of a session that is larger than the terminal a part with its status row is chosen again by the client, until it has the screen
+        of the smaller size, or that was tried often enough."""
         clock = mock.Mock(return_value=100.0)
         for tries in (0, 3, 20):
             person = Person(12, 40, told=places(60, 100))
             person.loop.clock = clock
             person.answers()
-            person.display.take(ToldRecord("part", (40, 0)))
+            person.display.take(DisplayRecord("part", (40, 0)))
             person.tell(places(24, 100))
             self.assertEqual((person.said(), "part" in person.loop.due), (["part 11 40"], False))
             for _ in range(tries):
-                person.display.take(ToldRecord("part", (13, 0)))
+                person.display.take(DisplayRecord("part", (13, 0)))
                 clock.return_value += 30
                 person.loop.do_due()
             self.assertEqual(len(person.said()), min(tries, display.MOST_CHOSEN))
-            person.display.take(ToldRecord("part", (12, 0)))
+            person.display.take(DisplayRecord("part", (12, 0)))
             clock.return_value += 30
             person.loop.do_due()
             self.assertEqual((person.said(), person.display.chosen), ([], 0))
@@ -427,7 +427,7 @@ class Sizes(unittest.TestCase):
                 other_one = Person(24, 80, told=places(24, 80), folder=folder)
                 other_one.resize(20, 70)
                 self.assertEqual((other_one.sizes(), other_one.display.line().endswith(FITS)), ([], True))
-                note.write_text(note.read_text(encoding="utf-8").replace("edits", "watches"), encoding="utf-8")
+                note.write_text(note.read_text(encoding="utf-8").replace("read-write", "read-only"), encoding="utf-8")
                 self.assertEqual(Person(50, 132, told=places(24, 80), folder=folder).sizes(), ["size 50 132"])
             finally:
                 os.kill(other, 9)
@@ -461,47 +461,47 @@ class Sizes(unittest.TestCase):
         self.assertEqual(small.sizes(), ["size 30 90"])
 
     def test_resized_as_told(self):
-        """Where the keeper of the shells tells who else types that alone is gone by, of another machine's session too."""
+        """Where the pty host tells who else types that alone is gone by, of another machine's session too."""
         for types, sizes in ((False, ["size 20 70"]), (True, []), (None, [])):
-            person = Person(24, 80, told=places(24, 80), shells=PlayedShells(types))
+            person = Person(24, 80, told=places(24, 80), host=PlayedHost(types))
             person.place.served = "relay"
             person.answers()
             person.resize(20, 70)
-            self.assertEqual((person.sizes(), person.shells.said > 1), (sizes, True), types)
+            self.assertEqual((person.sizes(), person.host.said > 1), (sizes, True), types)
             # Nor does it grow where that isn't known, since somebody may be there whom no note of this machine tells.
-            person = Person(24, 80, told=places(24, 80), shells=PlayedShells(types))
+            person = Person(24, 80, told=places(24, 80), host=PlayedHost(types))
             person.place.served = "relay"
             person.answers()
             person.resize(30, 90)
             self.assertEqual(person.sizes(), ["size 30 90"] if types is False else [], types)
         with mock.patch("roam_live.frontend.commands.has_others", return_value=True):
-            self.assertEqual(Person(50, 132, told=places(24, 80), shells=PlayedShells(False)).sizes(), ["size 50 132"])
-            self.assertEqual(Person(50, 132, told=places(24, 80), shells=PlayedShells(None)).sizes(), [])
-        person = Person(50, 132, told=places(24, 80), shells=PlayedShells(True))
+            self.assertEqual(Person(50, 132, told=places(24, 80), host=PlayedHost(False)).sizes(), ["size 50 132"])
+            self.assertEqual(Person(50, 132, told=places(24, 80), host=PlayedHost(None)).sizes(), [])
+        person = Person(50, 132, told=places(24, 80), host=PlayedHost(True))
         self.assertEqual((person.sizes(), person.display.told), ([], "24 by 80, as another terminal has it; C-b r fits this one"))
-        small = Person(12, 40, told=places(24, 80), shells=PlayedShells(False))
+        small = Person(12, 40, told=places(24, 80), host=PlayedHost(False))
         small.answers()
         small.resize(10, 30)
         self.assertEqual(small.sizes(), [])
 
     def test_resized_before_told(self):
         """What hangs on who else is there waits until that is told, but for a new session, and for no longer than it may be."""
-        shells = PlayedShells(awaited=True)
-        person = Person(24, 80, told=places(24, 80), shells=shells)
+        host = PlayedHost(awaited=True)
+        person = Person(24, 80, told=places(24, 80), host=host)
         person.answers()
         person.resize(20, 70)
         self.assertEqual((person.sizes(), "others" in person.loop.due), ([], True))
         person.resize(18, 60)
-        shells.awaited, shells.types = False, False
+        host.awaited, host.types = False, False
         person.commands.others_told()
         self.assertEqual((person.sizes(), "others" in person.loop.due), (["size 18 60"], False))
         person.commands.others_told()
         self.assertEqual(person.sizes(), ["size 18 60"])
-        shells.awaited = True
-        self.assertEqual(Person(20, 60, is_new=True, shells=shells).sizes(), ["size 20 60"])
-        late = Person(50, 132, told=places(24, 80), shells=shells)
+        host.awaited = True
+        self.assertEqual(Person(20, 60, is_new=True, host=host).sizes(), ["size 20 60"])
+        late = Person(50, 132, told=places(24, 80), host=host)
         self.assertEqual(late.sizes(), [])
-        shells.awaited, shells.types = False, None
+        host.awaited, host.types = False, None
         late.loop.due["others"][1]()
         self.assertEqual(late.sizes(), ["size 50 132"])
 
@@ -526,29 +526,29 @@ class Sizes(unittest.TestCase):
         """A session that has no room for its panes in a size goes on with the one that it has, and that is told."""
         person = Person(5, 8, told=places(24, 80))
         person.types(b"\x02r")
-        self.assertEqual((person.sizes(), person.commands.given), (["size 5 8"], (5, 8)))
+        self.assertEqual((person.sizes(), person.commands.requested_size), (["size 5 8"], (5, 8)))
         # A session that hasn't taken it yet may still have it.
         person.link.has_taken = False
         person.commands.refused()
-        self.assertEqual((person.display.told, person.commands.given, "given" in person.loop.due), ("", (5, 8), True))
+        self.assertEqual((person.display.told, person.commands.requested_size, "requested size" in person.loop.due), ("", (5, 8), True))
         person.link.has_taken = True
         person.commands.refused()
-        self.assertEqual((person.display.told, person.commands.given), ("its panes have no room in 5 by 8", None))
+        self.assertEqual((person.display.told, person.commands.requested_size), ("its panes have no room in 5 by 8", None))
         person.display.end_told()
         self.assertTrue(person.display.shows_all() is False)
 
     def test_given_and_had(self):
         """A size that was had isn't told as refused, when another makes the session larger later."""
         person = Person(24, 100, is_new=True, told=places(24, 80))
-        self.assertIn("given", person.loop.due)
+        self.assertIn("requested size", person.loop.due)
         person.tell(places(24, 100))
-        self.assertNotIn("given", person.loop.due)
+        self.assertNotIn("requested size", person.loop.due)
         person.answers()
         person.tell(places(40, 120))
         self.assertEqual((person.display.told, person.display.line()), ("", "[1]" + " " * 87 + FITS))
 
     def test_watcher(self):
-        person = Person(12, 40, watches=True, told=places(24, 100))
+        person = Person(12, 40, is_read_only=True, told=places(24, 100))
         self.assertEqual((person.said(), person.display.line().rstrip()), (["part 11 40"], "[1]"))
         person.types(b"\x02r")
         self.assertEqual(person.link.acts, [])
@@ -559,7 +559,7 @@ class Sizes(unittest.TestCase):
         """What is larger for a moment isn't shown, while a size that was given is on its way."""
         person = Person(20, 60, is_new=True, told=places(24, 80))
         person.paints(24, 80, "early")
-        self.assertEqual(person.display.cover, "")
+        self.assertEqual(person.display.notice, "")
         self.assertNotIn(b"early", person.display.outer.waiting)
         self.assertEqual(person.types(b"ls"), ["char 6c", "char 73"])
         person.tell(places(20, 60))
@@ -590,27 +590,27 @@ class Parts(unittest.TestCase):
             for size in ((14, 60), (14, 100), (24, 60), (23, 100), (24, 99), (14, 120), (30, 60)):
                 person = Person(12, 40, told=places(24, 100))
                 person.answers()
-                person.display.take(ToldRecord("part", place))
+                person.display.take(DisplayRecord("part", place))
                 person.tell(places(*size))
                 self.assertEqual(person.said(), ["part 11 40"], (place, size))
-        person.display.take(ToldRecord("part", (0, 0)))
+        person.display.take(DisplayRecord("part", (0, 0)))
         person.tell(places(13, 50))
         self.assertEqual(person.said(), [])
         # One that is larger now, or has its size, goes on as it was.
         for size in ((24, 100), (24, 101), (25, 100), (60, 200)):
             person = Person(12, 40, told=places(24, 100))
             person.answers()
-            person.display.take(ToldRecord("part", (12, 50)))
+            person.display.take(DisplayRecord("part", (12, 50)))
             person.tell(places(*size))
             self.assertEqual(person.said(), [], size)
-        # A start that is connected to anew knows nothing of where it began.
+        # A client that is connected to anew knows nothing of where it began.
         person.display.begin()
         person.commands.show_known()
         self.assertEqual((person.said(), person.display.place, person.display.silent), (["part 11 40"], (0, 0), 0))
 
     def test_larger_terminal(self):
         """One that has more room than the session has no more of it than its panes, and blanks beside these."""
-        person = Person(50, 200, watches=True, told=places(24, 80))
+        person = Person(50, 200, is_read_only=True, told=places(24, 80))
         self.assertEqual(person.said(), ["part 23 80"])
         person.paints(23, 80, "here")
         self.assertEqual(person.shown(), ["here"] * 23 + [""] * 26 + ["[1]"])
@@ -619,7 +619,7 @@ class Parts(unittest.TestCase):
         """Whatever is told of a session's size, what is asked for is a part that can be."""
         for told, part in ((Rect(0, 0, 0, 0), (2, 4)), (Rect(1, 1, 1, 1), (2, 4)), (Rect(9999, 9999, 9999, 9999), (199, 500)),
                            (Rect(1, 1, 9999, 3), (199, 4)), (Rect(1, 1, 2, 9999), (2, 500))):
-            person = Person(300, 600, watches=True, told=Places({1: told}, 1, 1))
+            person = Person(300, 600, is_read_only=True, told=Places({1: told}, 1, 1))
             self.assertEqual(person.said(), ["part {} {}".format(*part)], told)
 
     def test_whole(self):
@@ -632,7 +632,7 @@ class Parts(unittest.TestCase):
             self.assertEqual(person.said(), ["part 11 40"])
             person.paints(11, 40, "part")
             self.assertEqual(person.shown()[:11], ["part"] * 11)
-            person.display.take(ToldRecord("part", (3, 0)))
+            person.display.take(DisplayRecord("part", (3, 0)))
             person.resize(24, 80)
             self.assertEqual(person.said(), ["whole"])
             person.paints(24, 80, "all")
@@ -640,13 +640,13 @@ class Parts(unittest.TestCase):
 
     def test_whole_of_a_parts_size(self):
         """A session that has come to have the size of the part that was shown is known to have it, though that isn't told again."""
-        person = Person(12, 40, watches=True)
+        person = Person(12, 40, is_read_only=True)
         person.paints(24, 80)
         self.assertEqual(person.said(), ["part 11 40"])
         person.paints(11, 40)
         person.resize(30, 100)
         self.assertEqual(person.said(), ["whole"])
-        person.display.take(ToldRecord("anew", (1,), painting(11, 40, "all")))
+        person.display.take(DisplayRecord("anew", (1,), painting(11, 40, "all")))
         self.assertEqual((person.display.whole_size, person.shown()[:11]), ((11, 40), ["all"] * 11))
 
     def test_told_later(self):
@@ -667,19 +667,19 @@ class Parts(unittest.TestCase):
         """What was painted before the part that was asked for is dropped, and so are changes until all is painted anew."""
         person = Person(24, 80, told=places(24, 80))
         person.paints(24, 80, "whole")
-        person.display.take(ToldRecord("size", (23, 80)))
-        person.display.take(ToldRecord("paint", (1,), b"change"))
+        person.display.take(DisplayRecord("size", (23, 80)))
+        person.display.take(DisplayRecord("paint", (1,), b"change"))
         self.assertEqual(person.shown()[:23], [""] * 23)
         person.paints(23, 80, "anew")
-        person.display.take(ToldRecord("paint", (1,), b"\x1b[2;1Hmore"))
+        person.display.take(DisplayRecord("paint", (1,), b"\x1b[2;1Hmore"))
         self.assertEqual(person.shown(), ["anew", "more", *["anew"] * 21, "[1]"])
 
     def test_size_within(self):
         """A painting of another size that isn't anew may erase the last row, whose line is written behind it."""
         person = Person(24, 80, told=places(24, 80))
         person.answers()
-        person.display.take(ToldRecord("size", (20, 60)))
-        person.display.take(ToldRecord("paint", (1,), b"\x1b[2J"))
+        person.display.take(DisplayRecord("size", (20, 60)))
+        person.display.take(DisplayRecord("paint", (1,), b"\x1b[2J"))
         self.assertEqual(person.shown(), [""] * 23 + ["[1]"])
 
     def test_drawn(self):
@@ -688,7 +688,7 @@ class Parts(unittest.TestCase):
         person.answers()
         person.display.outer.cols = 90
         person.display.resized()
-        person.display.take(ToldRecord("paint", (1,), b"still"))
+        person.display.take(DisplayRecord("paint", (1,), b"still"))
         self.assertTrue(b"still" in person.display.outer.waiting and not person.display.is_stale)
         person.loop.due.clear()
         person.display.outer.cols = 80
@@ -696,19 +696,19 @@ class Parts(unittest.TestCase):
             person.display.outer.rows = rows
             person.display.resized()
         before = len(person.display.outer.waiting)
-        person.display.take(ToldRecord("paint", (1,), b"x"))
+        person.display.take(DisplayRecord("paint", (1,), b"x"))
         self.assertEqual((person.said(), len(person.display.outer.waiting), "paint" in person.loop.due), ([], before, True))
         person.loop.due.pop("paint")[1]()
         self.assertEqual(person.said(), ["part 10 80"])
 
 
-class UnderCover(unittest.TestCase):
+class UnderNotice(unittest.TestCase):
     """Nothing is typed where nobody would see it."""
 
     def covered(self):
         """A person whose terminal is too small."""
         person = Person(2, 40, told=places(24, 100))
-        self.assertTrue(person.display.cover.startswith("too small"))
+        self.assertTrue(person.display.notice.startswith("too small"))
         return person
 
     def test_nothing_is_typed(self):
@@ -722,9 +722,9 @@ class UnderCover(unittest.TestCase):
         self.assertEqual(person.left, "[detached]")
         person = self.covered()
         person.types(b"\x02?")
-        self.assertEqual(person.display.cover, HELP)
+        self.assertEqual(person.display.notice, HELP)
         person.types(b"q")
-        self.assertTrue(person.display.cover.startswith("too small"))
+        self.assertTrue(person.display.notice.startswith("too small"))
 
     def test_help_stays(self):
         """The help stays while the session gets another size."""
@@ -732,12 +732,12 @@ class UnderCover(unittest.TestCase):
         person.types(b"\x02?")
         person.tell(places(12, 40))
         person.answers("behind")
-        self.assertEqual(person.display.cover, HELP)
+        self.assertEqual(person.display.notice, HELP)
         self.assertNotIn(b"behind", person.display.outer.waiting)
         person.types(b"q")
         self.assertEqual(person.said(), ["repaint"])
         person.paints(11, 40, "here")
-        self.assertEqual(person.display.cover, "")
+        self.assertEqual(person.display.notice, "")
         self.assertEqual(person.shown(), ["here"] * 11 + ["[1]"])
 
     def test_scrolled(self):
@@ -755,7 +755,7 @@ class UnderCover(unittest.TestCase):
         person.types(b"\x1b[200~pas")
         person.resize(24, 100)
         person.answers()
-        self.assertEqual((person.display.cover, person.types(b"\x1b[201~x")), ("", ["char 78"]))
+        self.assertEqual((person.display.notice, person.types(b"\x1b[201~x")), ("", ["char 78"]))
 
     def test_brackets(self):
         """A paste stands between brackets where the program in focus wants that as it ends, and nothing in it ends them."""
@@ -791,7 +791,7 @@ class UnderCover(unittest.TestCase):
         person.answers()
         person.types(b"\x02?")
         self.assertEqual(person.types(b"x"), [])
-        self.assertEqual(person.display.cover, "")
+        self.assertEqual(person.display.notice, "")
         person.types(b"\x02?")
         person.types(b"\x02d")
         self.assertEqual((person.left, person.link.acts), ("[detached]", []))
@@ -876,19 +876,19 @@ class Lines(Case):
         """From 48 starts on their number stands at the end."""
         person = Person(24, 80, told=places(24, 80))
         ends = []
-        for starts in (47, 48, 64):
-            person.tell(places(24, 80)._replace(starts=starts))
+        for clients in (47, 48, 64):
+            person.tell(places(24, 80)._replace(clients=clients))
             ends.append(person.display.line()[3:].strip())
-        person.tell(places(24, 100)._replace(starts=50))
-        self.assertEqual([*ends, person.display.line()[-27:]], ["", "48 of 64 starts", "64 of 64 starts", f" 50 of 64 starts {FITS}"])
+        person.tell(places(24, 100)._replace(clients=50))
+        self.assertEqual([*ends, person.display.line()[-28:]], ["", "48 of 64 clients", "64 of 64 clients", f" 50 of 64 clients {FITS}"])
 
     def test_same(self):
         """What stands there isn't written again."""
         person = Person(24, 80, told=places(24, 80))
         person.answers()
         before = len(person.display.outer.waiting)
-        person.tell(places(24, 80)._replace(starts=2))
-        person.display.take(ToldRecord("paint", (1,), b"x"))
+        person.tell(places(24, 80)._replace(clients=2))
+        person.display.take(DisplayRecord("paint", (1,), b"x"))
         self.assertEqual(len(person.display.outer.waiting), before + 1)
 
     def test_silent(self):
@@ -896,19 +896,19 @@ class Lines(Case):
         person = Person(24, 80, told=places(24, 80))
         person.answers("here")
         for seconds in (10, 11):
-            person.display.take(ToldRecord("silent", (seconds,)))
+            person.display.take(DisplayRecord("silent", (seconds,)))
             self.assertEqual(person.shown(), ["here"] * 23 + [f"roam: no answer for {seconds} s; C-b d leaves"])
-        person.display.take(ToldRecord("heard"))
+        person.display.take(DisplayRecord("heard"))
         self.assertEqual((person.shown(), person.said()), (["here"] * 23 + ["[1]"], []))
 
     def test_silent_whole(self):
         """Over a session's own status row it is written behind each painting, and all is painted anew then."""
         person = Person(24, 80)
         person.paints(24, 80, "here")
-        person.display.take(ToldRecord("silent", (10,)))
-        person.display.take(ToldRecord("paint", (1,), b"\x1b[24;1Hrow"))
+        person.display.take(DisplayRecord("silent", (10,)))
+        person.display.take(DisplayRecord("paint", (1,), b"\x1b[24;1Hrow"))
         self.assertEqual(person.shown()[22:], ["here", "roam: no answer for 10 s; C-b d leaves"])
-        person.display.take(ToldRecord("heard"))
+        person.display.take(DisplayRecord("heard"))
         self.assertEqual(person.said(), ["repaint"])
 
     def test_silent_and_told(self):
@@ -916,12 +916,12 @@ class Lines(Case):
         person = Person(24, 80, told=places(24, 80))
         person.answers()
         person.display.tell("told", 1.0)
-        person.display.take(ToldRecord("silent", (10,)))
+        person.display.take(DisplayRecord("silent", (10,)))
         self.assertEqual(person.shown()[23], "told")
         person.display.end_told()
         self.assertTrue(person.shown()[23].startswith("roam: no answer for 10 s"))
         person.display.show("help")
-        person.display.take(ToldRecord("silent", (12,)))
+        person.display.take(DisplayRecord("silent", (12,)))
         self.assertEqual(person.shown()[:1], ["help"])
         person.display.uncover()
         person.answers()
@@ -935,7 +935,7 @@ class Lines(Case):
                 person = Person(24, 80, told=places(24, 80))
                 person.answers()
                 before = len(person.display.outer.waiting)
-                person.display.take(ToldRecord("paint", (len(text),), text))
+                person.display.take(DisplayRecord("paint", (len(text),), text))
                 self.assertEqual(person.display.outer.waiting[before:], text)
 
 

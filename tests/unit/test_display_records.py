@@ -2,14 +2,14 @@
 import unittest
 
 from roam_live.protocol import display_records
-from roam_live.protocol.display_records import NoRecord, Records, ToldRecord, screen_of
+from roam_live.protocol.display_records import DisplayRecord, NoRecord, Records, screen_of
 
-STREAM = (b"\x1bc painted\n before\ntold\nsize 24 80\npart 0 3\nanew 5\n\x1bc\na\npaint 3\n\n\ntrefused 3 bad act\ntaken 2\n"
+STREAM = (b"\x1bc painted\n before\nevents\nsize 24 80\npart 0 3\nanew 5\n\x1bc\na\npaint 3\n\n\ntrefused 3 bad act\ntaken 2\n"
           b"silent 11\nheard\nscreen 0\nfull\n")
 RECORDS = [
-    ToldRecord("told"), ToldRecord("size", (24, 80)), ToldRecord("part", (0, 3)), ToldRecord("anew", (5,), b"\x1bc\na\n"),
-    ToldRecord("paint", (3,), b"\n\nt"), ToldRecord("refused", (3,), b"", "bad act"), ToldRecord("taken", (2,)),
-    ToldRecord("silent", (11,)), ToldRecord("heard"), ToldRecord("screen", (0,)), ToldRecord("full"),
+    DisplayRecord("events"), DisplayRecord("size", (24, 80)), DisplayRecord("part", (0, 3)), DisplayRecord("anew", (5,), b"\x1bc\na\n"),
+    DisplayRecord("paint", (3,), b"\n\nt"), DisplayRecord("refused", (3,), b"", "bad act"), DisplayRecord("taken", (2,)),
+    DisplayRecord("silent", (11,)), DisplayRecord("heard"), DisplayRecord("screen", (0,)), DisplayRecord("full"),
 ]
 
 
@@ -27,7 +27,7 @@ class TestRecords(unittest.TestCase):
         """A start without room says so before anything else."""
         records = Records()
         self.assertEqual(records.came(b"fu"), [])
-        self.assertEqual(records.came(b"ll\n"), [ToldRecord("full")])
+        self.assertEqual(records.came(b"ll\n"), [DisplayRecord("full")])
 
     def test_bounded(self) -> None:
         """What comes before the first record is dropped, however much it is."""
@@ -35,7 +35,7 @@ class TestRecords(unittest.TestCase):
         for _ in range(100):
             self.assertEqual(records.came(b"full\n" * 1000), [])
             self.assertLess(len(records.kept), 64)
-        self.assertEqual(records.came(display_records.BEGIN), [ToldRecord("told")])
+        self.assertEqual(records.came(display_records.BEGIN), [DisplayRecord("events")])
 
     def test_none(self) -> None:
         """What is no record is told, and never waited for."""

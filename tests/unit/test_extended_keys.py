@@ -6,7 +6,7 @@ from lived import Attached, Lived
 from roam_live.config.environment import choose_by_file
 from roam_live.config.loader import Binding
 from roam_live.frontend.bindings import Typing
-from roam_live.frontend.outer_modes import GivenAside
+from roam_live.frontend.outer_modes import OuterModes
 from roam_live.input.extended_keys import ANSWERED, BACK_TAB, QUERY, WANTED, answered, extended_key, form_for
 from roam_live.input.key_names import named, named_key, names_of_key
 from roam_live.input.keys import Key, Keys, acts_of, key_of
@@ -75,8 +75,8 @@ class Forms(unittest.TestCase):
         for _ in range(60):
             text = "".join(chance.choice(parts) for _ in range(8)).encode()
             cuts, keys, bytewise = sorted(chance.sample(range(len(text)), 5)), Keys(), Keys()
-            pieces = [text[begin:end] for begin, end in zip([0, *cuts], [*cuts, len(text)])]
-            whole = [key for piece in pieces for key in keys.fed(piece)]
+            chunks = [text[begin:end] for begin, end in zip([0, *cuts], [*cuts, len(text)])]
+            whole = [key for chunk in chunks for key in keys.fed(chunk)]
             self.assertEqual(whole, Keys().fed(text))
             self.assertEqual([key for place in range(len(text)) for key in bytewise.fed(text[place : place + 1])], whole)
             self.assertEqual({key.text for key in whole if key.name == "unknown"} - {BACK_TAB}, set())
@@ -116,20 +116,20 @@ class Given(unittest.TestCase):
     def test_given_back(self):
         """It is asked how it told keys, and tells them so again, as it answered, or by its own default; one of Linux is asked nothing."""
         for answer, back in ((None, b"\x1b[>4m"), ("\x1b[>4;0m", b"\x1b[>4m"), ("\x1b[>4;1m", b"\x1b[>4;1m")):
-            aside = GivenAside()
-            aside.is_able = True
-            self.assertEqual(aside.keys_asked(is_first=True), QUERY + WANTED)
+            modes = OuterModes()
+            modes.is_able = True
+            self.assertEqual(modes.keys_asked(is_first=True), QUERY + WANTED)
             if answer:
-                aside.take_answer(answer)
-            aside.take_answer("\x1b[>4;3m") if answer else None
-            self.assertEqual((aside.taken_back(), aside.taken_back()), (back, b""))
-            self.assertEqual((aside.keys_asked(), aside.taken_back()), (WANTED, back))
+                modes.take_answer(answer)
+            modes.take_answer("\x1b[>4;3m") if answer else None
+            self.assertEqual((modes.taken_back(), modes.taken_back()), (back, b""))
+            self.assertEqual((modes.keys_asked(), modes.taken_back()), (WANTED, back))
         choose_by_file({"extended-keys": "off"})
         self.addCleanup(choose_by_file, {})
-        self.assertEqual((aside.keys_asked(is_first=True), aside.taken_back()), (b"", b""))
+        self.assertEqual((modes.keys_asked(is_first=True), modes.taken_back()), (b"", b""))
         choose_by_file({})
-        aside.is_able = False
-        self.assertEqual((aside.keys_asked(is_first=True), aside.taken_back()), (b"", b""))
+        modes.is_able = False
+        self.assertEqual((modes.keys_asked(is_first=True), modes.taken_back()), (b"", b""))
 
 
 class Typed(Attached):
@@ -149,7 +149,7 @@ class Typed(Attached):
         self.types(told("27;5;9").encode() + b"\t")
         self.assertEqual(self.heard, ["char 9", "next", *form.split(" ; "), "char 9"])
         self.heard.clear()
-        commands.link.guess = lambda word: None
+        commands.link.predict = lambda word: None
         commands.grant("synchronize", None)
         self.types(told("27;5;9").encode())
         self.assertEqual(self.heard, [f"{form} ; focus 2 ; char 9 ; focus 1"])

@@ -6,7 +6,7 @@ import types
 from aids import Case, StillLoop, read_now
 from roam_live.common.listener import Listener
 from roam_live.relay.far_windows import FarWindows, windows_in, windows_text
-from roam_live.relay.forwarding import Carried, Streams
+from roam_live.relay.forwarding import ForwardedConnection, Streams
 from roam_live.relay.near import Peers
 from roam_live.relay.near_windows import NearWindows
 
@@ -42,22 +42,22 @@ class Far(Case):
 
     def test_asked(self):
         """Nothing is told before it is asked; then all, the relay's own first, and each change once."""
-        listener = self.listening(self.window(1).folder / "shells")
+        listener = self.listening(self.window(1).folder / "host")
         self.windows.tell()
-        self.assertEqual((self.told, self.windows.folder(1), self.windows.path("w/1/shells")), ([], str(self.place.folder), ""))
+        self.assertEqual((self.told, self.windows.folder(1), self.windows.path("w/1/host")), ([], str(self.place.folder), ""))
         self.windows.use()
         self.assertEqual(self.told, [b"n3 a3 1 a1"])
-        keeper = self.taken(listener)
+        host = self.taken(listener)
         self.loop.turns(2)
-        self.assertEqual(read_now(keeper), b"windows\n")
+        self.assertEqual(read_now(host), b"windows\n")
         self.here[2] = "a2"
-        keeper.send(b"window 2 -\nopened 2\nactivity 2\n")
+        host.send(b"window 2 -\nopened 2\nactivity 2\n")
         self.loop.turns(2)
-        keeper.send(b"activity 2\nbell 2 1\nwindow 2 6162\n")
+        host.send(b"activity 2\nbell 2 1\nwindow 2 6162\n")
         self.loop.turns(2)
         self.assertEqual(self.told[1:], [b"n3 a3 1 a1 2 a2"])
-        self.assertEqual([self.windows.path(name) for name in ("w/2/shells", "panes")],
-                         [str(self.folder / "w/2/shells"), str(self.place.folder / "panes")])
+        self.assertEqual([self.windows.path(name) for name in ("w/2/host", "panes")],
+                         [str(self.folder / "w/2/host"), str(self.place.folder / "panes")])
         # A relay that comes again is told anew.
         self.windows.use()
         self.assertEqual(len(self.told), 3)
@@ -65,24 +65,24 @@ class Far(Case):
     def test_gone(self):
         """One that is told to be gone, or isn't named anew where the connection was cut, is told no more, though its server hasn't ended
         yet; the relay's own is until then. What is no number changes nothing."""
-        listener = self.listening(self.window(1).folder / "shells")
+        listener = self.listening(self.window(1).folder / "host")
         self.here.update({2: "a2", 4: "a4"})
         self.windows.use()
         self.assertEqual(self.told, [b"n3 a3 1 a1 2 a2 4 a4"])
-        keeper = self.taken(listener)
+        host = self.taken(listener)
         for text, wanted in ((b"window 1 -\nwindow 2 -\nwindow 3 -\nwindow 4 -\nwindows 4\n", None), (b"gone 2\n", b"n3 a3 1 a1 4 a4"),
                              (b"gone x\ngone\nwindow\nbell 1 1\n", None), (b"gone 3\n", None),
                              (b"window 2 -\n", b"n3 a3 1 a1 2 a2 4 a4"), (b"", None),
                              (b"window 1 -\nwindow 2 -\nwindows 2\n", b"n3 a3 1 a1 2 a2")):
             self.told.clear()
             if not text:
-                keeper.close()
+                host.close()
                 self.loop.turns(2)
                 self.now += 1
                 self.loop.turns(2)
-                keeper = self.taken(listener)
+                host = self.taken(listener)
                 continue
-            keeper.send(text)
+            host.send(text)
             self.loop.turns(2)
             self.assertEqual(self.told, [wanted] if wanted else [], text)
 
@@ -125,7 +125,7 @@ class Near(Case):
         (self.folder / "w/9").mkdir(parents=True)
         pathlib.Path(self.folder, "w/9/session").touch()
         self.windows.take({1: "a", 2: "b"})
-        names = ("bells", "clients", "panes", "session", "shells")
+        names = ("bells", "clients", "host", "panes", "session")
         self.assertEqual(self.there(), [f"w/{number}/{name}" for number in (1, 2) for name in names])
         self.assertEqual((self.folder / "w/2/session").read_text(encoding="ascii"), "b\n")
         self.windows.take({1: "c"})
@@ -185,7 +185,7 @@ class Names(Case):
             raise FileNotFoundError(name)
 
         streams = Streams(StillLoop(), opens)
-        for name in ("panes", "w/2/shells", "w/99/bells", "w/0/panes", "w/100/panes", "w/2/clients", "w/2/../panes", "w/2/w/3/panes",
+        for name in ("panes", "w/2/host", "w/99/bells", "w/0/panes", "w/100/panes", "w/2/clients", "w/2/../panes", "w/2/w/3/panes",
                      "clients"):
-            streams.opened(Carried(1), name)
-        self.assertEqual(opened, ["panes", "w/2/shells", "w/99/bells"])
+            streams.opened(ForwardedConnection(1), name)
+        self.assertEqual(opened, ["panes", "w/2/host", "w/99/bells"])

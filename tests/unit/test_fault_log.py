@@ -9,10 +9,10 @@ from roam_live.common import fault_log
 from roam_live.common.errors import logs
 from roam_live.common.fault_log import FaultLog, SoonFaults
 from roam_live.host import pane as host_pane, scrollback_process, scrollback_store, window_commands
-from roam_live.host.pending_pastes import GivenTexts
+from roam_live.host.pending_pastes import PendingPastes
 from roam_live.host.scrollback_store import RowsRoom
-from roam_live.host.socket_server import ShellsSocket
-from test_pty_host import Keeper
+from roam_live.host.socket_server import HostServer
+from test_pty_host import Host
 
 
 class Logged(Case):
@@ -81,14 +81,14 @@ class Logged(Case):
         self.assertEqual(told, [False, False, True, True, False, False, False])
 
 
-class Kept(Keeper):
+class Kept(Host):
     """What an exception ends."""
 
     def asker(self, *lines):
-        """Connect to `shells` and send lines."""
+        """Connect to `host` and send lines."""
         one = socket.socket(socket.AF_UNIX, socket.SOCK_STREAM)
         self.addCleanup(one.close)
-        one.connect(str(self.folder / "shells"))
+        one.connect(str(self.folder / "host"))
         one.setblocking(False)
         one.send("".join(f"{line}\n" for line in lines).encode())
         return one
@@ -97,21 +97,21 @@ class Kept(Keeper):
         """An exception in a peer's line ends that connection only."""
         panes = self.begin()
         other = self.asker("who")
-        take_line = ShellsSocket.take_line
-        with mock.patch.object(ShellsSocket, "take_line", lambda one, peer, line: 1 / 0 if line == "zero" else take_line(one, peer, line)):
+        take_line = HostServer.take_line
+        with mock.patch.object(HostServer, "take_line", lambda one, peer, line: 1 / 0 if line == "zero" else take_line(one, peer, line)):
             one = self.asker("zero", "who")
             self.turn(4)
-        self.assertEqual((one.recv(9), [peer.asks for peer in self.keeper.socket.peers], self.keeper.common.faults.count), (b"", [True], 1))
-        self.assertIn(b"keeper ", read_now(other))
+        self.assertEqual((one.recv(9), [peer.asks for peer in self.host.socket.peers], self.host.common.faults.count), (b"", [True], 1))
+        self.assertIn(b"host ", read_now(other))
         self.made[0].send(b"goes on")
         self.turn()
         self.assertEqual(read_now(panes[0]), b"goes on")
 
-    def test_piece(self):
-        """An exception in a pane's output drops that piece; the third within 10 s closes the pane, and no other."""
+    def test_chunk(self):
+        """An exception in a pane's output drops that chunk; the third within 10 s closes the pane, and no other."""
         panes = self.begin()
-        self.keeper.asked.close = True
-        pane = self.keeper.panes[2]
+        self.host.asked.close = True
+        pane = self.host.panes[2]
         with mock.patch.object(pane.bells, "rung", side_effect=ValueError("wrong")):
             for text in (b"one", b"two"):
                 self.made[1].send(text)
@@ -122,8 +122,8 @@ class Kept(Keeper):
         with mock.patch.object(pane.bells, "rung", side_effect=ValueError("wrong")):
             self.made[1].send(b"four")
             self.turn(4)
-        self.assertEqual((pane.terminal, self.keeper.common.hung), (None, [72]))
-        self.assertEqual((list(self.keeper.panes), self.keeper.is_over), ([1, 2], False))
+        self.assertEqual((pane.terminal, self.host.common.hung), (None, [72]))
+        self.assertEqual((list(self.host.panes), self.host.is_over), ([1, 2], False))
         self.assertIn(host_pane.GIVEN_UP, read_now(panes[1]))
         self.assertTrue(read_now(self.server).endswith(b"close 2 5\n"))
         self.made[0].send(b"goes on")
@@ -133,14 +133,14 @@ class Kept(Keeper):
     def test_only(self):
         """The only pane of a window stays, and a key starts its command again."""
         self.tell("1 1 1 23 80 4", "focus 1")
-        self.keeper.asked.close = True
+        self.host.asked.close = True
         end = self.taken(self.listeners["p1"])
-        pane = self.keeper.panes[1]
+        pane = self.host.panes[1]
         with mock.patch.object(pane.bells, "rung", side_effect=ValueError("wrong")):
             for _ in range(3):
                 self.made[0].send(b"x")
                 self.turn()
-        self.assertEqual((pane.terminal, pane.process, self.keeper.is_over), (None, None, False))
+        self.assertEqual((pane.terminal, pane.process, self.host.is_over), (None, None, False))
         read_now(end)
         end.send(b"k")
         self.turn()
@@ -149,55 +149,55 @@ class Kept(Keeper):
         self.turn()
         self.made[1].send(b"new")
         self.turn()
-        self.assertEqual((pane.process, read_now(end), self.keeper.common.windows), (72, b"new", {0: self.keeper}))
+        self.assertEqual((pane.process, read_now(end), self.host.common.windows), (72, b"new", {0: self.host}))
 
     def test_moment(self):
         """Exceptions in a timer, a hook and `tend` are logged, and everything else goes on."""
         panes = self.begin()
-        self.keeper.loop.later("moment", 0, lambda: 1 / 0)
-        self.keeper.loop.each(lambda: [][0])
-        with mock.patch.object(self.keeper, "ring", side_effect=KeyError("ring")):
+        self.host.loop.later("moment", 0, lambda: 1 / 0)
+        self.host.loop.each(lambda: [][0])
+        with mock.patch.object(self.host, "ring", side_effect=KeyError("ring")):
             self.made[1].send(b"x")
             self.turn(3)
         self.made[0].send(b"goes on")
         self.turn()
-        self.assertEqual((read_now(panes[0]), self.keeper.common.is_over), (b"goes on", False))
+        self.assertEqual((read_now(panes[0]), self.host.common.is_over), (b"goes on", False))
         self.assertEqual([name in self.said.getvalue() for name in ("ZeroDivisionError", "IndexError", "KeyError")], [True] * 3)
 
     def test_panes(self):
         """Malformed lines of the server are ignored; an exception in one drops that connection only."""
         self.begin()
-        self.tell("", " ", "focus", "focus 9 9", "1 2", "asks 1 " + "9" * 9000 + " version", "1 1 1 99999 99999 4", "\u0661 gone", "modes")
-        self.assertEqual((self.keeper.common.faults.count, sorted(self.keeper.panes)), (0, [1, 2]))
+        self.tell("", " ", "focus", "focus 9 9", "1 2", "query 1 " + "9" * 9000 + " version", "1 1 1 99999 99999 4", "\u0661 gone", "modes")
+        self.assertEqual((self.host.common.faults.count, sorted(self.host.panes)), (0, [1, 2]))
         self.tell("1 23 80")
-        self.assertEqual((self.keeper.common.faults.count, sorted(self.keeper.panes)), (1, [1, 2]))
+        self.assertEqual((self.host.common.faults.count, sorted(self.host.panes)), (1, [1, 2]))
 
     def test_bells(self):
-        """An exception ends the connection of a follower of bells."""
+        """An exception ends the connection of a subscriber of bells."""
         self.begin()
         one = socket.socket(socket.AF_UNIX, socket.SOCK_STREAM)
         self.addCleanup(one.close)
         one.connect(str(self.folder / "bells"))
         self.turn()
-        with mock.patch.object(self.keeper.bells, "hear", side_effect=ValueError("wrong")):
+        with mock.patch.object(self.host.bells, "hear", side_effect=ValueError("wrong")):
             one.send(b"x")
             self.turn()
-        self.assertEqual((self.keeper.bells.followers, self.keeper.common.faults.count), ([], 1))
+        self.assertEqual((self.host.bells.subscribers, self.host.common.faults.count), ([], 1))
 
     def test_memory(self):
-        """If memory is short, kept rows are dropped and the pane goes on a second later, however often that happens."""
+        """If memory is short, scrollback rows are dropped and the pane goes on a second later, however often that happens."""
         panes = self.begin()
-        self.keeper.rows.shed = mock.Mock()
+        self.host.rows.shed = mock.Mock()
         read = host_pane.read
-        with mock.patch.object(host_pane, "read", lambda end: self.short() if end == self.keeper.panes[1].terminal else read(end)):
+        with mock.patch.object(host_pane, "read", lambda end: self.short() if end == self.host.panes[1].terminal else read(end)):
             self.made[0].send(b"kept")
             for _ in range(5):
                 self.turn()
                 self.now += 1.0
-        self.assertEqual(len(self.keeper.rows.shed.call_args_list), 5)
+        self.assertEqual(len(self.host.rows.shed.call_args_list), 5)
         self.now += 1.0
         self.turn()
-        self.assertEqual((read_now(panes[0]), self.keeper.panes[1].runs()), (b"kept", True))
+        self.assertEqual((read_now(panes[0]), self.host.panes[1].runs()), (b"kept", True))
 
     def short(self):
         """Fail for want of memory."""
@@ -212,7 +212,7 @@ class Sizes(Case):
         asked = []
         table = mock.Mock(open=lambda size, beside, told, begins: asked.append(size))
         lines = window_commands.WindowLines(table, [])
-        peer = mock.Mock(watches=lambda: False, opening=0, asks_windows=False)
+        peer = mock.Mock(is_read_only=lambda: False, opening=0, asks_windows=False)
         one = mock.Mock(window=1)
         words = ("24 80", "1 1", "24 65536", "99999 99999", "65537 80", "200 500", "201 501", "0 80", "100000 80", "24", "-1 80")
         taken = []
@@ -224,7 +224,7 @@ class Sizes(Case):
 
 
 class Short(Case):
-    """Kept rows if memory is short."""
+    """Scrollback rows if memory is short."""
 
     def test_shed(self):
         """The older half is dropped, of all panes, and so are snapshots."""
@@ -234,23 +234,23 @@ class Short(Case):
             panes[count % 2].add(1, bytes(scrollback_store.JOINED - 1) + b"\n")
         snapshot = room.snapshot(panes[0], 1, b"x\n")
         room.shed()
-        self.assertEqual(([len(pane.pieces) for pane in panes], snapshot.is_lost, room.held), ([2, 2], True, 0))
-        self.assertEqual(room.kept, sum(piece.charge() for pane in panes for piece in pane.pieces))
+        self.assertEqual(([len(pane.chunks) for pane in panes], snapshot.is_lost, room.held), ([2, 2], True, 0))
+        self.assertEqual(room.kept, sum(chunk.charge() for pane in panes for chunk in pane.chunks))
 
     def test_handed(self):
         """A record for the filter is queued completely or not at all."""
-        one = scrollback_process.RowFilter.__new__(scrollback_process.RowFilter)
-        one.terminal, one.pieces, one.pieces_size, one.waiting = 3, [b"ab", b"c"], 3, bytearray()
+        one = scrollback_process.ScrollbackProcess.__new__(scrollback_process.ScrollbackProcess)
+        one.terminal, one.chunks, one.chunks_size, one.waiting = 3, [b"ab", b"c"], 3, bytearray()
         one.sheds = mock.Mock()
-        with mock.patch.object(scrollback_process.RowFilter, "join_pieces", side_effect=[MemoryError, None]):
+        with mock.patch.object(scrollback_process.ScrollbackProcess, "join_chunks", side_effect=[MemoryError, None]):
             one.join()
         one.terminal = 3
         one.join()
-        self.assertEqual((one.sheds.call_count, bytes(one.waiting), one.pieces), (1, b"bytes 3 3\nabc", []))
+        self.assertEqual((one.sheds.call_count, bytes(one.waiting), one.chunks), (1, b"bytes 3 3\nabc", []))
 
     def test_records(self):
-        """A piece can be fed again after a MemoryError."""
-        records = scrollback_process.RowRecords()
+        """A chunk can be fed again after a MemoryError."""
+        records = scrollback_process.ScrollbackRecords()
         self.assertEqual(records.fed(b"rows 7 2 6\n a"), [])
         with mock.patch.object(records, "made", side_effect=MemoryError), self.assertRaises(MemoryError):
             records.fed(b"\n b\nrows 8 1 3\n c\nrow")

@@ -1,13 +1,13 @@
-"""Connections that a relay carries: both ends over frames of a command, and over pieces of a path that are lost and turned round."""
+"""Connections that a relay carries: both ends over frames of a command, and over chunks of a path that are lost and turned round."""
 import random
 import socket
 import unittest
 
 from aids import Case, StillLoop, read_now
 from roam_live.relay import forwarding, path_forwarding
-from roam_live.relay.forwarding import (BYTES, CREDIT, END, MOST_CARRIED, NAMES, NUMBER, OPEN, TAKEN, TAKEN_AFTER, TAKEN_COUNT, BadStream,
+from roam_live.relay.forwarding import (BYTES, CREDIT, END, MOST_FORWARDED, NAMES, NUMBER, OPEN, TAKEN, TAKEN_AFTER, TAKEN_COUNT, BadStream,
                                         PipeStreams)
-from roam_live.relay.path_forwarding import LONGEST_PIECE, MOST_PIECES, STREAM, STREAM_KIND, TAKEN_KIND, PathStreams, StreamPiece
+from roam_live.relay.path_forwarding import LONGEST_CHUNK, MOST_CHUNKS, STREAM, STREAM_KIND, TAKEN_KIND, PathStreams, StreamChunk
 
 ROOM = 1137
 
@@ -23,7 +23,7 @@ class Both(Case):
     def opens(self, name):
         """A connection to a socket of the far folder; its other end is the server's."""
         self.names.append(name)
-        if name == "shells":
+        if name == "host":
             raise ConnectionRefusedError("nobody keeps shells")
         ours, theirs = self.pair()
         self.servers.append(theirs)
@@ -47,7 +47,7 @@ class Carries:
 
     def test_both_ways(self):
         """Bytes go both ways, in their order, to the socket of that name; what was read already goes first."""
-        client, other = self.client("panes", b"keeper\n"), self.client("bells")
+        client, other = self.client("panes", b"host\n"), self.client("bells")
         self.turn(2)
         self.assertEqual(sorted(self.names), ["bells", "panes"])
         panes, bells = self.by_name["panes"], self.by_name["bells"]
@@ -55,7 +55,7 @@ class Carries:
         panes.send(b"1 1 1 23 80 1\n")
         bells.send(b"bell 3\n")
         self.turn(4)
-        self.assertEqual((read_now(panes), read_now(bells)), (b"keeper\nclose 1 1\n", b""))
+        self.assertEqual((read_now(panes), read_now(bells)), (b"host\nclose 1 1\n", b""))
         self.assertEqual((read_now(client), read_now(other)), (b"1 1 1 23 80 1\n", b"bell 3\n"))
 
     def test_ends(self):
@@ -73,18 +73,18 @@ class Carries:
 
     def test_names(self):
         """Three names are known, and no other, nor a path; where nobody listens the connection ends."""
-        self.assertEqual(NAMES, ("panes", "bells", "shells"))
-        clients = [self.client(name) for name in ("clients", "p1", "terminals", "../panes", "panes\0", "shells", "x" * 32)]
+        self.assertEqual(NAMES, ("panes", "bells", "host"))
+        clients = [self.client(name) for name in ("clients", "p1", "terminals", "../panes", "panes\0", "host", "x" * 32)]
         self.turn(6)
-        self.assertEqual((self.names, self.servers), (["shells"], []))
+        self.assertEqual((self.names, self.servers), (["host"], []))
         for client in clients:
             self.assertEqual(client.recv(1), b"")
         self.assertEqual((self.near.all, self.far.all), ({}, {}))
 
     def test_most(self):
         """64 are carried, and no more; where one ends there is room for another."""
-        clients = [self.client() for _ in range(MOST_CARRIED)]
-        self.assertEqual(MOST_CARRIED, 64)
+        clients = [self.client() for _ in range(MOST_FORWARDED)]
+        self.assertEqual(MOST_FORWARDED, 64)
         self.assertNotIn(None, clients)
         self.assertIsNone(self.client())
         self.turn(3)
@@ -180,7 +180,7 @@ class Limits(Case):
     def test_limits(self):
         """65,536 bytes beyond what the reader took, of which it tells each 16,384; as many are read ahead."""
         self.assertEqual((forwarding.CREDIT, forwarding.TAKEN_AFTER, forwarding.READ_AHEAD), (65536, 16384, 16384))
-        self.assertEqual((forwarding.MOST_ENDING, forwarding.LONGEST_NAME, path_forwarding.MOST_PIECES), (64, 32, 64))
+        self.assertEqual((forwarding.MOST_ENDING, forwarding.LONGEST_NAME, path_forwarding.MOST_CHUNKS), (64, 32, 64))
 
 
 class Pipes(Both, Carries):
@@ -269,7 +269,7 @@ class Pipes(Both, Carries):
 
 
 class Paths(Both, Carries):
-    """Over pieces of a path, some of which are lost and go again."""
+    """Over chunks of a path, some of which are lost and go again."""
 
     is_cut = False
 
@@ -278,30 +278,30 @@ class Paths(Both, Carries):
         self.near, self.far = PathStreams(self.loop), PathStreams(self.loop, self.opens)
         self.chance, self.lost = random.Random(1), 0.0
 
-    def pieces(self, end):
-        """The pieces that an end sends now: those that were lost, and as many more as may go."""
+    def chunks(self, end):
+        """The chunks that an end sends now: those that were lost, and as many more as may go."""
         found = []
         while len(found) < 200:
-            piece = end.next_piece(ROOM)
-            if not piece:
+            chunk = end.next_chunk(ROOM)
+            if not chunk:
                 break
-            found.append(piece)
+            found.append(chunk)
         self.chance.shuffle(found)
         return found
 
     def carry(self):
-        """Hands each end the pieces of the other, some of them twice, and tells that of those that arrived."""
+        """Hands each end the chunks of the other, some of them twice, and tells that of those that arrived."""
         for end, other in ((self.near, self.far), (self.far, self.near)):
-            for piece in self.pieces(end):
+            for chunk in self.chunks(end):
                 if self.is_cut or self.chance.random() < self.lost:
-                    end.lost(piece)
+                    end.lost(chunk)
                     continue
-                frame = end.frame(piece)
-                self.assertEqual(len(frame), end.length(piece))
+                frame = end.frame(chunk)
+                self.assertEqual(len(frame), end.length(chunk))
                 self.assertLessEqual(len(frame), ROOM)
                 for _ in range(2):
                     self.give(other, frame)
-                end.arrived(piece)
+                end.arrived(chunk)
 
     def give(self, end, frame):
         """Hands an end a frame."""
@@ -310,7 +310,7 @@ class Paths(Both, Carries):
         end.take(kind, number, offset, frame[layout.size :])
 
     def test_lost(self):
-        """Where every third piece is lost, and all are turned round, each byte comes once and in its order, and so does the end."""
+        """Where every third chunk is lost, and all are turned round, each byte comes once and in its order, and so does the end."""
         self.lost = 1 / 3
         client = self.client()
         wanted = bytes(self.chance.randrange(256) for _ in range(200_000))
@@ -323,34 +323,34 @@ class Paths(Both, Carries):
             self.turn()
             got += read_now(self.servers[0]) if self.servers else b""
             for one in (*self.near.all.values(), *self.far.all.values()):
-                self.assertLess(len(one.parts), MOST_PIECES)
-                self.assertLessEqual(len(one.sent), MOST_PIECES)
+                self.assertLess(len(one.parts), MOST_CHUNKS)
+                self.assertLessEqual(len(one.sent), MOST_CHUNKS)
         self.assertEqual(got, wanted)
         self.assertEqual((self.servers[0].recv(1), self.near.all, self.far.all), (b"", {}, {}))
 
-    def test_pieces(self):
-        """The first bytes are the name and LF; pieces have 1,080 bytes at most, and the last none."""
+    def test_chunks(self):
+        """The first bytes are the name and LF; chunks have 1,080 bytes at most, and the last none."""
         client = self.client("bells", b"x" * 2000)
-        found = [self.near.next_piece(ROOM) for _ in range(2)]
+        found = [self.near.next_chunk(ROOM) for _ in range(2)]
         client.close()
         self.loop.turn()
-        found += [self.near.next_piece(ROOM) for _ in range(2)]
-        self.assertEqual(found, [StreamPiece(b"s", 1, 0), StreamPiece(b"s", 1, 1080), StreamPiece(b"s", 1, 2006), None])
+        found += [self.near.next_chunk(ROOM) for _ in range(2)]
+        self.assertEqual(found, [StreamChunk(b"s", 1, 0), StreamChunk(b"s", 1, 1080), StreamChunk(b"s", 1, 2006), None])
         self.assertEqual(self.near.frame(found[0]), STREAM.pack(b"s", 1, 0, 1080) + b"bells\n" + b"x" * 1074)
         self.assertEqual(self.near.frame(found[2]), b"s\0\1" + (2006).to_bytes(8, "big") + b"\0\0")
-        self.assertEqual((LONGEST_PIECE, STREAM.size, TAKEN_COUNT.size), (1080, 13, 11))
+        self.assertEqual((LONGEST_CHUNK, STREAM.size, TAKEN_COUNT.size), (1080, 13, 11))
         self.near.arrived(found[1])
-        self.assertEqual([self.near.length(piece) for piece in found[:3]], [1093, 0, 13])
-        self.assertEqual(self.near.next_piece(13), None)
+        self.assertEqual([self.near.length(chunk) for chunk in found[:3]], [1093, 0, 13])
+        self.assertEqual(self.near.next_chunk(13), None)
 
     def test_little_room(self):
-        """A piece goes by the room that there is; none where there is none."""
+        """A chunk goes by the room that there is; none where there is none."""
         self.client("bells")
-        self.assertFalse(self.near.next_piece(13))
-        piece = self.near.next_piece(15)
-        self.assertEqual(self.near.frame(piece)[13:], b"be")
+        self.assertFalse(self.near.next_chunk(13))
+        chunk = self.near.next_chunk(15)
+        self.assertEqual(self.near.frame(chunk)[13:], b"be")
         self.assertTrue(self.near.waits())
-        self.assertEqual(self.near.frame(self.near.next_piece(ROOM))[13:], b"lls\n")
+        self.assertEqual(self.near.frame(self.near.next_chunk(ROOM))[13:], b"lls\n")
         self.assertFalse(self.near.waits())
 
     def test_unsent(self):
@@ -368,7 +368,7 @@ class Paths(Both, Carries):
         self.assertEqual((self.names, sum(len(one.parts) for one in self.far.all.values())), ([], 0))
         for offset in range(2, 60000):
             self.far.take(STREAM_KIND, 1, offset, b"x")
-        self.assertEqual(len(self.far.all[1].parts), MOST_PIECES)
+        self.assertEqual(len(self.far.all[1].parts), MOST_CHUNKS)
         self.far.take(TAKEN_KIND, 1, 5, b"")
         self.far.take(TAKEN_KIND, 99, 5, b"")
         self.assertEqual(self.far.all[1].allowed, CREDIT)
@@ -391,10 +391,10 @@ class Paths(Both, Carries):
         for number in range(1, 66):
             self.far.take(STREAM_KIND, number, 0, b"panes\n")
         self.assertEqual((len(self.servers), self.far.all[65].has_ended), (64, True))
-        self.assertEqual(self.far.next_piece(ROOM), StreamPiece(STREAM_KIND, 65, 0))
+        self.assertEqual(self.far.next_chunk(ROOM), StreamChunk(STREAM_KIND, 65, 0))
 
     def test_late(self):
-        """A piece of one that has ended is nothing, and no new one."""
+        """A chunk of one that has ended is nothing, and no new one."""
         client = self.client()
         self.turn(2)
         client.close()
@@ -419,10 +419,10 @@ class Paths(Both, Carries):
         (one,) = self.near.all.values()
         self.assertGreaterEqual(one.told, TAKEN_AFTER)
         self.assertEqual((one.known, self.far.all[1].allowed), (one.told, one.told + CREDIT))
-        old = StreamPiece(TAKEN_KIND, 1, one.told - 1)
-        self.assertEqual((self.near.length(old), self.near.length(StreamPiece(TAKEN_KIND, 1, one.told))), (0, 0))
+        old = StreamChunk(TAKEN_KIND, 1, one.told - 1)
+        self.assertEqual((self.near.length(old), self.near.length(StreamChunk(TAKEN_KIND, 1, one.told))), (0, 0))
         one.known = 0
-        self.assertEqual(self.near.length(StreamPiece(TAKEN_KIND, 1, one.told)), TAKEN_COUNT.size)
+        self.assertEqual(self.near.length(StreamChunk(TAKEN_KIND, 1, one.told)), TAKEN_COUNT.size)
 
 
 if __name__ == "__main__":

@@ -8,7 +8,7 @@ from unittest import mock
 from aids import Case
 from roam_live.protocol.datagram_stream import LONGEST, SHORTEST
 from roam_live.relay.batches import LONGEST_TEXT, joined, pack_large
-from roam_live.relay.forwarding import BYTES, CARRIES, END, NUMBER, OPEN, TAKEN, TAKEN_COUNT
+from roam_live.relay.forwarding import BYTES, END, FORWARDS, NUMBER, OPEN, TAKEN, TAKEN_COUNT
 from roam_live.relay.frames import (COUNT, ENDED, HAD, HEADER, MOST_TOLD, PACKED, PACKED_HEAD, UNPACKS, BadWords, RelayStream, Waiting,
                                     greeting)
 
@@ -66,7 +66,7 @@ ODD = {
     "bytes and ends of connections that aren't there": packed(b"".join(
         frame(0, NUMBER.pack(BYTES, number) + b"x") + frame(0, NUMBER.pack(END, number)) + frame(0, TAKEN_COUNT.pack(TAKEN, number, 9))
         for number in range(1, 10000))),
-    "that it carries, again and again": packed(frame(0, CARRIES) * 1000),
+    "that it carries, again and again": packed(frame(0, FORWARDS) * 1000),
     "a frame for each peer": packed(b"".join(frame(peer, datagram(62)) for peer in range(1, 65536))),
     "8 MB of datagrams": packed(frame(9, datagram(1242)) * (1 << 13)),
     "what an earlier far end tells of panes": packed(frame(0, b"p" + bytes(range(256)) * 15) + frame(0, b"b") + frame(0, b"k\0")),

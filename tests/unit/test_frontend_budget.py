@@ -36,19 +36,19 @@ class CountedKeys(list):
 class Budget(Fronts):
     """A key that is typed, taken by the start, and shown."""
 
-    def key(self, start):
+    def key(self, client):
         """Types a key, and shows it."""
         os.write(self.master, b"a")
         # The system hands over what was written a moment later.
         select.select([self.slave], [], [], 5)
         self.front.turn()
-        typed = read_now(start)
-        start.send(record("taken", self.front.link.lines) + record("paint", data=b"\x1b[5;10Ha\x1b[0m"))
+        typed = read_now(client)
+        client.send(record("taken", self.front.link.lines) + record("paint", data=b"\x1b[5;10Ha\x1b[0m"))
         self.front.turn()
         select.select([self.master], [], [], 5)
         return typed, self.shown()
 
-    def counted(self, start):
+    def counted(self, client):
         """The calls and the bytecodes of so many keys, by the module in which they are."""
         calls, codes = collections.Counter(), collections.Counter()
 
@@ -65,20 +65,20 @@ class Budget(Fronts):
         sys.settrace(trace)
         try:
             for _ in range(KEYS):
-                self.key(start)
+                self.key(client)
         finally:
             sys.settrace(before)
         return calls, codes
 
     def test_key(self):
         """A key costs so much, and the terminal's size isn't asked for."""
-        start = self.connect()
+        client = self.connect()
         self.paints()
-        self.key(start)
+        self.key(client)
         for _ in range(BEFORE):
-            self.assertEqual(self.key(start), (b"char 61\n", b"\x1b[5;10Ha\x1b[0m"))
+            self.assertEqual(self.key(client), (b"char 61\n", b"\x1b[5;10Ha\x1b[0m"))
         sizes = self.patch("fcntl.ioctl", side_effect=AssertionError("the terminal was asked for its size"))
-        calls, codes = self.counted(start)
+        calls, codes = self.counted(client)
         sizes.assert_not_called()
         told = f"{sum(calls.values()) / KEYS} calls, {sum(codes.values()) / KEYS} bytecodes: {codes.most_common(12)}"
         self.assertLessEqual(sum(calls.values()) / KEYS, CALLS, told)

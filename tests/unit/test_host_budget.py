@@ -6,7 +6,7 @@ import sys
 from aids import read_now
 from roam_live.common.unix_socket import connected_now
 from roam_live.host import pane, window
-from test_pty_host import Keeper
+from test_pty_host import Host
 
 # Most Python calls and bytecodes of a key and its echo. Python 3.11 needs 90 and 2,060; other versions have other bytecodes.
 MOST_CALLS = 110
@@ -15,7 +15,7 @@ MOST_BYTECODES = 2800
 KEYS = 20
 
 
-class Key(Keeper):
+class Key(Host):
     """A key that is typed into a pane, and its echo."""
 
     def window(self, number):
@@ -25,8 +25,8 @@ class Key(Keeper):
         listeners = [self.listening(folder / name) for name in ("panes", "p1", "p2", "p3")]
         asked = pane.Options(folder=str(folder), command=["sh"], window=number, common=str(self.folder), server=os.getpid(),
                                       close=True)
-        shells = window.Shells(asked, self.keeper.common, connected_now(folder / "panes"))
-        self.addCleanup(self.leave, shells)
+        host = window.WindowHost(asked, self.host.common, connected_now(folder / "panes"))
+        self.addCleanup(self.leave, host)
         server = self.taken(listeners[0])
         server.send(b"1 1 1 23 26 1\n2 1 28 23 26 2\n3 1 55 23 26 3\nfocus 1\n")
         self.turn()
@@ -35,10 +35,10 @@ class Key(Keeper):
     def key(self):
         """A key goes to the program, and its echo comes."""
         self.panes[0].send(b"a")
-        self.keeper.common.turn()
+        self.host.common.turn()
         self.assertEqual(read_now(self.made[0]), b"a")
         self.made[0].send(b"a")
-        self.keeper.common.turn()
+        self.host.common.turn()
         self.assertEqual(read_now(self.panes[0]), b"a")
 
     def counted(self):
@@ -71,12 +71,12 @@ class Key(Keeper):
         self.assertLessEqual(bytecodes, MOST_BYTECODES)
         for number in range(2, 14):
             self.window(number)
-        self.assertEqual(len(self.keeper.common.windows), 13)
+        self.assertEqual(len(self.host.common.windows), 13)
         self.turn(5)
-        found = self.keeper.loop.found
+        found = self.host.loop.found
         self.assertEqual(self.counted(), (calls, bytecodes))
         # Each turn had one end at which something was.
-        self.assertEqual(self.keeper.loop.found - found, 2 * (KEYS + 5))
+        self.assertEqual(self.host.loop.found - found, 2 * (KEYS + 5))
 
     def test_idle(self):
         """Where nothing happens no turn is due sooner than the look at the folders, with many windows as with one."""
@@ -85,9 +85,9 @@ class Key(Keeper):
             self.window(number)
         self.turn(5)
         for _ in range(40):
-            self.now += self.keeper.loop.wait_time()
+            self.now += self.host.loop.wait_time()
             self.turn(1)
             if self.now > 160:
                 break
-        self.assertEqual([name for name in self.keeper.loop.due], ["folders"])
-        self.assertEqual((self.keeper.loop.wait_time(), self.keeper.loop.before, self.keeper.loop.asked), (window.LOOKS, [], {}))
+        self.assertEqual([name for name in self.host.loop.due], ["folders"])
+        self.assertEqual((self.host.loop.wait_time(), self.host.loop.before, self.host.loop.asked), (window.LOOKS, [], {}))

@@ -1,4 +1,4 @@
-"""What keeps the shells of a session: what it starts where, what waits for a program that doesn't read, and who is told what."""
+"""The pty host of a session: what it starts where, what waits for a program that doesn't read, and who is told what."""
 import contextlib
 import io
 import os
@@ -16,8 +16,8 @@ from aids import StillLoop
 from roam_live.common.process import TOOLS
 from roam_live.host import pane as host_pane
 from roam_live.host.input_queue import TypedQueue
-from roam_live.host.pending_pastes import GivenTexts
-from roam_live.session.environment import Brought
+from roam_live.host.pending_pastes import PendingPastes
+from roam_live.session.environment import PaneEnvironment
 from roam_live.session.foreground import group_in_front, working_folder
 
 
@@ -35,7 +35,7 @@ class Surroundings(unittest.TestCase):
     def test_not_asked(self):
         """The pane's name, and nothing that tells of another terminal or asks the programs of a session why they ended."""
         with unittest.mock.patch.dict(os.environ, {"ROAM_WHY": "1", "TMUX": "another", "KEPT": "one"}):
-            found = host_pane.surroundings(host_pane.Options(folder="folder"), 3, Brought())
+            found = host_pane.surroundings(host_pane.Options(folder="folder"), 3, PaneEnvironment())
         self.assertEqual((found.get("ROAM_WHY"), found.get("TMUX"), found["KEPT"], found["ROAM_PANE"]), (None, None, "one", "folder:3"))
 
 
@@ -93,7 +93,7 @@ class Typed(unittest.TestCase):
 
     def test_dropped(self):
         """65,536 bytes wait; what is above is dropped, which is told once until all was read."""
-        typed = TypedQueue(GivenTexts(StillLoop(), lambda name, word: None), lambda: False)
+        typed = TypedQueue(PendingPastes(StillLoop(), lambda name, word: None), lambda: False)
         pane = host_pane.PaneCommand(host_pane.Options(folder="/no"), StillLoop(), 4, 1, (23, 80), False, "", typed)
         said = io.StringIO()
         with contextlib.redirect_stderr(said):
@@ -115,7 +115,7 @@ class Server:
     def __init__(self, folder):
         self.folder = folder
         self.listeners = {name: self.listens(name) for name in ("panes", "clients", "p1", "p2")}
-        self.follower = None
+        self.subscriber = None
 
     def listens(self, name):
         """One who listens."""
@@ -163,41 +163,41 @@ class Kept(unittest.TestCase):
 
     def told(self, lines):
         """Who follows, told of panes."""
-        follower = self.server.taken("panes")
-        follower.send(lines)
-        self.held.append(follower)
-        return follower
+        subscriber = self.server.taken("panes")
+        subscriber.send(lines)
+        self.held.append(subscriber)
+        return subscriber
 
     def shows(self, pane, text):
         """Whether a pane comes to have a text."""
         found = b""
         with contextlib.suppress(OSError):
             while text not in found:
-                piece = pane.recv(4096)
-                if not piece:
+                chunk = pane.recv(4096)
+                if not chunk:
                     break
-                found += piece
+                found += chunk
         return text in found
 
     def test_let_go(self):
-        """A keeper that the server lets go keeps its shells, follows again, and knows then which panes are there still."""
+        """A host that the server lets go keeps its shells, follows again, and knows then which panes are there still."""
         server = subprocess.Popen(["sleep", "60"])
         self.addCleanup(server.wait)
         self.addCleanup(server.kill)
         process = self.run_tool("--server", str(server.pid), str(self.folder), "sh", "-c", "echo here; exec cat")
-        follower = self.told(b"1 1 1 23 39 1\n2 1 41 23 39 1\nfocus 1\nstarts 1 of 64\n")
+        subscriber = self.told(b"1 1 1 23 39 1\n2 1 41 23 39 1\nfocus 1\nclients 1 of 64\n")
         panes = [self.server.taken(name) for name in ("p1", "p2")]
         for pane in panes:
             self.assertTrue(self.shows(pane, b"here"))
-        follower.close()
-        follower = self.told(b"1 1 1 23 80 1\nfocus 1\n")
+        subscriber.close()
+        subscriber = self.told(b"1 1 1 23 80 1\nfocus 1\n")
         self.assertEqual(panes[1].recv(16), b"")
         panes[0].send(b"still\n")
         self.assertTrue(self.shows(panes[0], b"still"))
         self.assertIsNone(process.poll())
         self.assertEqual(self.said(), "")
         self.server.close()
-        follower.close()
+        subscriber.close()
         with self.assertRaises(subprocess.TimeoutExpired):
             process.wait(0.5)
         panes[0].send(b"and still\n")
@@ -228,12 +228,12 @@ class Kept(unittest.TestCase):
         self.addCleanup(server.wait)
         self.addCleanup(server.kill)
         self.run_tool("--server", str(server.pid), str(self.folder), "sh", "-c", 'echo "$PWD=$(pwd)."; cd /usr; exec cat')
-        follower = self.told(b"1 1 1 23 80 1\nfocus 1\n")
+        subscriber = self.told(b"1 1 1 23 80 1\nfocus 1\n")
         there = os.fsencode(os.path.realpath(self.folder / "there"))
         self.assertTrue(self.shows(self.server.taken("p1"), there + b"=" + there + b"."))
         child = int(self.children_of(self.held_process())[0])
         self.assertTrue(comes(lambda: os.readlink(f"/proc/{child}/cwd") == "/usr"))
-        follower.send(b"1 1 1 23 39 1\n2 1 41 23 39 1\nfocus 2\n")
+        subscriber.send(b"1 1 1 23 39 1\n2 1 41 23 39 1\nfocus 2\n")
         self.assertTrue(self.shows(self.server.taken("p2"), b"/usr=/usr."))
 
     def held_process(self):

@@ -1,11 +1,11 @@
-"""What sees the end of what keeps a session's shells: it is spawned anew, after pauses that grow where it ends at once."""
+"""What sees the end of the pty host: it is spawned anew, after pauses that grow where it ends at once."""
 import os
 import unittest
 from unittest import mock
 
 from aids import StillLoop
 from roam_live.common.errors import Fault
-from roam_live.session.host_watchdog import LOOKS, PAUSES, SOUND, STOPPED, ShellsWatch
+from roam_live.session.host_watchdog import LOOKS, PAUSES, SOUND, STOPPED, HostWatchdog
 
 
 class AnySession:
@@ -20,9 +20,9 @@ class AnySession:
 
     def process(self, role):
         """The process of a role."""
-        return {"shells": 17}[role]
+        return {"host": 17}[role]
 
-    def revive_shells(self):
+    def revive_host(self):
         """Starts them anew."""
         if self.fault:
             raise self.fault
@@ -35,12 +35,13 @@ class Watches(unittest.TestCase):
 
     def setUp(self):
         self.now, self.writer = 100.0, None
-        for patched in (mock.patch("time.monotonic", lambda: self.now), mock.patch("roam_live.session.host_watchdog.opened_process", self.opened)):
+        for patched in (mock.patch("time.monotonic", lambda: self.now),
+                        mock.patch("roam_live.session.host_watchdog.opened_process", self.opened)):
             patched.start()
             self.addCleanup(patched.stop)
         self.place = AnySession()
         self.loop, self.said = StillLoop(), []
-        self.watch = ShellsWatch(self.place, self.loop, self.said.append)
+        self.watch = HostWatchdog(self.place, self.loop, self.said.append)
         self.addCleanup(lambda: self.watch.file and os.close(self.watch.file))
 
     def opened(self, process):
@@ -68,7 +69,8 @@ class Watches(unittest.TestCase):
         return round(wait, 3), self.told()
 
     def test_stopped(self):
-        """Whoever types is told of one that is stopped, within five seconds and for as long as it is; without a key nothing is looked at."""
+        """Whoever types is told of one that is stopped, within five seconds and for as long as it is; without a key nothing is looked
+        at."""
         stopped = self.patch_of_stop(True)
         self.now += 100
         self.assertEqual((self.loop.wait_time(), self.told()), (None, ""))
@@ -108,7 +110,7 @@ class Watches(unittest.TestCase):
             waits.append(self.pass_time()[0])
         self.assertEqual(waits, [*PAUSES, PAUSES[-1], PAUSES[-1]])
         self.assertEqual(said[0], "")
-        wanted = [f"what keeps the shells ended again; it is spawned anew in {wait} s" for wait in (*PAUSES[1:], PAUSES[-1], PAUSES[-1])]
+        wanted = [f"the pty host ended again; it is spawned anew in {wait} s" for wait in (*PAUSES[1:], PAUSES[-1], PAUSES[-1])]
         self.assertEqual(said[1:], wanted)
         self.now += SOUND + 1
         self.assertEqual(self.end(), "")

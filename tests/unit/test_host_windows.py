@@ -1,4 +1,4 @@
-"""Windows at the keeper: how they are opened, named, told, shut and taken over, with processes and servers that are played."""
+"""Windows at the host: how they are opened, named, told, shut and taken over, with processes and servers that are played."""
 import fcntl
 import json
 import os
@@ -13,16 +13,16 @@ from roam_live.common.errors import Fault
 from roam_live.common.process import begun
 from roam_live.host import pane as host_pane, repair, window as host_window, window_processes, windows
 from roam_live.host.window_commands import ASKED_AGAIN
-from roam_live.host.window_processes import SERVER, TERMINALS, WindowProcesses
+from roam_live.host.window_processes import CLIENT, SERVER, WindowProcesses
 from roam_live.host.windows import ENDING, ENDS, FULL, OPENS, OVER, THERE, Windows
 from roam_live.protocol.panes import Rect
 from roam_live.protocol.spawn_request import Begins
 from roam_live.protocol.window_lines import MOST_WINDOWS, name_in, name_word
-from roam_live.session.window_state import note_ends, numbers_in, stands_ready
+from roam_live.session.window_state import is_spare_server, note_ends, numbers_in
 
 
 class Played(Case):
-    """A keeper of windows whose servers, starts and commands are played by sockets and pipes."""
+    """A host of windows whose servers, starts and commands are played by sockets and pipes."""
 
     def setUp(self):
         self.stop_clock()
@@ -42,7 +42,7 @@ class Played(Case):
         self.addCleanup(self.leave)
 
     def leave(self):
-        """Closes what a keeper has."""
+        """Closes what a host has."""
         for window in self.windows.windows.values():
             if isinstance(window.sizes, windows.SizeAct):
                 window.sizes.close()
@@ -59,7 +59,7 @@ class Played(Case):
     def spawn(self, processes, role):
         """A process of a window that is played."""
         self.spawned.append((processes.number, role))
-        number = 1000 * processes.number + (role == TERMINALS)
+        number = 1000 * processes.number + (role == CLIENT)
         processes.noted[role] = number, 1
         self.alive.add(number)
         return number
@@ -78,14 +78,14 @@ class Played(Case):
         return self.folder / f"w/{number}/{name}"
 
     def comes_up(self, number):
-        """Has a window's server, and its start, be there."""
+        """Has a window's server, and its client, be there."""
         for name in ("panes", "p1"):
             self.servers[number, name] = self.listening(self.path(number, name))
         self.path(number, "session").touch()
         self.now += 0.01
         self.windows.turn()
         server = self.servers[number] = self.taken(self.servers[number, "panes"])
-        server.send(b"1 1 1 23 80 4\nfocus 1\nstarts 1 of 64\n")
+        server.send(b"1 1 1 23 80 4\nfocus 1\nclients 1 of 64\n")
         self.servers[number, "terminals"] = self.listening(self.path(number, "terminals"))
         self.turns(3)
 
@@ -107,7 +107,7 @@ class Played(Case):
         """One who is connected at a window, and says this."""
         one = socket.socket(socket.AF_UNIX, socket.SOCK_STREAM)
         self.addCleanup(one.close)
-        one.connect(str(self.path(number, "shells")))
+        one.connect(str(self.path(number, "host")))
         one.setblocking(False)
         one.send(text)
         self.turns(3)
@@ -144,7 +144,7 @@ class Fronts(Played):
         there twice, and one who watches has nobody leave."""
         self.opened()
         self.opened((24, 80))
-        there = ((1, "a", "edits"), (2, "a", "edits"), (2, "b", "edits"), (1, "c", "watches"))
+        there = ((1, "a", "read-write"), (2, "a", "read-write"), (2, "b", "read-write"), (1, "c", "read-only"))
         own, also, other, watcher = (self.asker(window, f"here {name} 24 80 {kind}\n".encode()) for window, name, kind in there)
         for one in (own, also, other, watcher):
             read_now(one)
@@ -157,19 +157,19 @@ class Opened(Played):
     """How windows are opened."""
 
     def test_first(self):
-        """The first has no size and no start: who launches the session sees to that."""
+        """The first has no size and no client: who launches the session sees to that."""
         self.assertEqual(self.opened(), [(1, "")])
         self.assertEqual((self.spawned, self.windows.named(), self.made[0][0]), ([(1, SERVER)], {1: ""}, (23, 80)))
         self.assertEqual(os.stat(self.path(1, "")).st_mode & 0o777, 0o700)
 
     def test_sized(self):
-        """Another has its start, to which its size is typed once, and its first command has that size from the beginning."""
+        """Another has its client, to which its size is typed once, and its first command has that size from the beginning."""
         self.opened()
         self.assertEqual(self.opened((40, 120)), [(2, "")])
-        self.assertEqual((self.spawned[1:], self.made[1][0]), ([(2, SERVER), (2, TERMINALS)], (39, 120)))
-        start = self.taken(self.servers[2, "terminals"])
-        self.assertEqual(start.recv(100), b"size 40 120\n")
-        start.close()
+        self.assertEqual((self.spawned[1:], self.made[1][0]), ([(2, SERVER), (2, CLIENT)], (39, 120)))
+        client = self.taken(self.servers[2, "terminals"])
+        self.assertEqual(client.recv(100), b"size 40 120\n")
+        client.close()
         self.turns(2)
         sizes = self.patch_of(host_pane.tty, "set_size")
         self.servers[2].send(b"1 1 1 39 120 4\n")
@@ -187,9 +187,9 @@ class Opened(Played):
             self.assertEqual(self.taken(self.servers[place, "terminals"]).recv(100), "size {} {}\n".format(*least).encode())
 
     def test_seen_size(self):
-        """The keeper knows a window's size by its panes, while it follows them."""
+        """The host knows a window's size by its panes, while it follows them."""
         self.opened()
-        zoom = self.windows.windows[1].shells.socket.zoom
+        zoom = self.windows.windows[1].host.socket.zoom
         self.assertEqual(zoom.size, (24, 80))
         for text, size in ((b"1 1 1 23 60 4\n", (24, 60)), (b"1 1 1 23 40 4\n2 1 42 23 40 5\n", (24, 81)), (b"2 1 42 23 41 5\n", (24, 82)),
                            (b"1 1 1 20 40 4\n", (24, 82)), (b"2 1 42 20 41 5\n", (21, 82)), (b"2 gone\n", (21, 40))):
@@ -219,7 +219,7 @@ class Opened(Played):
         told = []
         self.windows.open(None, 0, lambda *words: told.append(words))
         self.assertEqual(self.spawned[-1], (2, SERVER))
-        self.windows.windows.update({number: mock.Mock(state=ENDING, shells=None) for number in range(4, MOST_WINDOWS + 1)})
+        self.windows.windows.update({number: mock.Mock(state=ENDING, host=None) for number in range(4, MOST_WINDOWS + 1)})
         self.windows.open(None, 0, lambda *words: told.append(words))
         self.assertEqual(told, [(0, FULL)])
         self.windows.windows = {1: self.windows.windows[1]}
@@ -239,16 +239,16 @@ class Opened(Played):
             """The server ends."""
             self.alive &= {1000}
 
-        def start_ends(number):
-            """The start ends, once the server is there."""
+        def client_ends(number):
+            """The client ends, once the server is there."""
             for name in ("panes", "p1"):
                 self.listening(self.path(number, name))
             self.path(number, "session").touch()
             self.turns()
             self.alive.discard(1000 * number + 1)
 
-        for does, why in ((never, "its server or its client start doesn't come up"), (ends, "its server has ended"),
-                          (start_ends, "its client start has ended")):
+        for does, why in ((never, "its server or its client process doesn't come up"), (ends, "its server has ended"),
+                          (client_ends, "its client process has ended")):
             told = []
             self.opened_by(told)
             number = self.spawned[-1][0]
@@ -292,7 +292,7 @@ class Ready(Played):
         return one
 
     def test_taken(self):
-        """It is spawned once somebody asks for windows, is told nowhere, and has no start; the next window has it, and another follows."""
+        """It is spawned once somebody asks for windows, is told nowhere, and has no client; the next window has it, and another follows."""
         self.opened()
         self.now += windows.READY
         self.turns(2)
@@ -305,7 +305,7 @@ class Ready(Played):
         told = []
         self.windows.open((24, 80), 1, lambda *words: told.append(words))
         self.comes_up(2)
-        self.assertEqual((told, self.spawned[2:], self.path(2, "spare").exists()), ([(2, "")], [(2, TERMINALS)], False))
+        self.assertEqual((told, self.spawned[2:], self.path(2, "spare").exists()), ([(2, "")], [(2, CLIENT)], False))
         self.now += windows.READY
         self.turns(2)
         self.assertEqual(self.spawned[3:], [(3, SERVER)])
@@ -334,7 +334,7 @@ class Ready(Played):
         self.assertEqual((self.windows.spare.number, self.windows.free_number()), (2, 2))
 
     def test_ended(self):
-        """It ends with the session, and the next keeper takes none over."""
+        """It ends with the session, and the next host takes none over."""
         self.spare()
         self.windows.end_spare()
         self.turns(3)
@@ -367,7 +367,7 @@ class Told(Played):
         self.assertEqual(self.said_by(one, b"name 1 " + "\u00e9\u4e2d".encode().hex().encode() + b"\n"), b"window 1 c3a9e4b8ad\n")
         self.assertEqual(self.path(1, "name").read_text(encoding="ascii"), "c3a9e4b8ad\n")
         self.assertEqual(self.said_by(one, b"shut 2\n"), b"gone 2\n")
-        watcher = self.asker(1, b"here a:/dev/pts/1 24 80 watches\n")
+        watcher = self.asker(1, b"here a:/dev/pts/1 24 80 read-only\n")
         for line in (b"name 1 61\n", b"shut 1\n", b"leave 1\n"):
             self.assertEqual(self.said_by(watcher, line), b"bad line\n")
         self.assertEqual(self.said_by(watcher, b"open 24 80\n"), b"opened none a terminal that only watches opens none\n")
@@ -394,15 +394,15 @@ class Told(Played):
         self.assertIn(f"run {name} ready\nrun {name} done\n".encode(), read_now(one))
         self.comes_up(2)
         self.assertIn(b"window 2 " + b"logs".hex().encode() + b"\nopened 2\n", read_now(one).replace(b"activity 2\n", b""))
-        panes = self.windows.windows[2].shells.panes
+        panes = self.windows.windows[2].host.panes
         self.assertEqual([(pane.command, pane.folder) for pane in panes.values()], [(["htop", "-d"], "/")])
-        self.assertEqual(self.windows.windows[2].shells.handed_to(Rect(1, 1, 9, 9)), None)
+        self.assertEqual(self.windows.windows[2].host.handed_to(Rect(1, 1, 9, 9)), None)
         # It may be handed over at another window's socket.
         self.asker(2, f"run {'a' * 16} window {len(data)}\n".encode() + data)
         one.send(f"open 30 90 {'a' * 16}\n".encode())
         self.turns(3)
         self.comes_up(3)
-        self.assertEqual([pane.command for pane in self.windows.windows[3].shells.panes.values()], [["htop", "-d"]])
+        self.assertEqual([pane.command for pane in self.windows.windows[3].host.panes.values()], [["htop", "-d"]])
         read_now(one)
         self.assertEqual(self.said_by(one, f"open 30 90 {name}\n".encode()).replace(b"activity 2\n", b""),
                          b"opened none its command isn't there\n")
@@ -429,7 +429,7 @@ class Told(Played):
         self.assertEqual(self.asks_again((20, 90)), (b"", 3))
         self.assertEqual(self.said_by(self.asker(2, b""), b"open 30 90\n"), b"")
         self.assertEqual(sum(role == SERVER for _, role in self.spawned), 4)
-        self.asker(2, b"here a:/dev/pts/1 24 80 edits\n").close()
+        self.asker(2, b"here a:/dev/pts/1 24 80 read-write\n").close()
         self.assertEqual(self.asks_again((30, 90)), (b"", 5))
         self.comes_up(3)
         self.now += ASKED_AGAIN
@@ -450,25 +450,25 @@ class Told(Played):
         """Terminals are told of all windows, each with the window where it is; one is told to leave, or all others are."""
         self.opened()
         self.opened((24, 80))
-        self.patch_of(self.common.shells.attended, "clock", lambda: 1000.5)
-        one, two = self.asker(1, b"here a:/dev/pts/1 24 80 edits\n"), self.asker(2, b"here b:/dev/pts/2 30 90 watches\n")
+        self.patch_of(self.common.registry.attended, "clock", lambda: 1000.5)
+        one, two = self.asker(1, b"here a:/dev/pts/1 24 80 read-write\n"), self.asker(2, b"here b:/dev/pts/2 30 90 read-only\n")
         self.assertEqual((self.folder / "w/last").read_text(encoding="ascii"), "2\n")
-        self.assertEqual(self.said_by(one, b"clients\n"), b"client 1 a:/dev/pts/1 24 80 1 1000 edits\n"
-                         b"client 2 b:/dev/pts/2 30 90 2 1000 watches\nclients 2\n")
+        self.assertEqual(self.said_by(one, b"clients\n"), b"client 1 a:/dev/pts/1 24 80 1 1000 read-write\n"
+                         b"client 2 b:/dev/pts/2 30 90 2 1000 read-only\nclients 2\n")
         self.assertEqual((self.said_by(one, b"leave 2\n"), read_now(two)), (b"left 2\n", b"leave\n"))
         self.assertEqual(self.said_by(one, b"leave 9\n"), b"left none\n")
         self.assertEqual((self.said_by(one, b"leave others\n"), read_now(two)), (b"left 1\n", b"leave\n"))
         # One that goes to another window stays since when it was there; one that comes later is there anew.
         one.close()
         self.turns()
-        self.patch_of(self.common.shells.attended, "clock", lambda: 1060.5)
-        again = self.asker(2, b"here a:/dev/pts/1 24 80 edits\n")
-        self.assertIn(b" 24 80 2 1000 edits\n", self.said_by(again, b"clients\n"))
+        self.patch_of(self.common.registry.attended, "clock", lambda: 1060.5)
+        again = self.asker(2, b"here a:/dev/pts/1 24 80 read-write\n")
+        self.assertIn(b" 24 80 2 1000 read-write\n", self.said_by(again, b"clients\n"))
         again.close()
         self.turns()
         self.now += 10
-        later = self.asker(2, b"here a:/dev/pts/1 24 80 edits\n")
-        self.assertIn(b" 24 80 2 1060 edits\n", self.said_by(later, b"clients\n"))
+        later = self.asker(2, b"here a:/dev/pts/1 24 80 read-write\n")
+        self.assertIn(b" 24 80 2 1060 read-write\n", self.said_by(later, b"clients\n"))
 
     def test_news(self):
         """What is written where nobody is, and bells, are told once a second at most."""
@@ -484,7 +484,7 @@ class Told(Played):
             self.made[1][1].send(text)
             self.turns(2)
             self.assertEqual(read_now(one), wanted, text)
-        self.asker(2, b"here a:/dev/pts/1 24 80 edits\n")
+        self.asker(2, b"here a:/dev/pts/1 24 80 read-write\n")
         self.now += 2
         self.made[1][1].send(b"z")
         self.turns(2)
@@ -496,18 +496,18 @@ class Told(Played):
         self.opened((24, 80))
         one, two = self.asker(1, b""), self.asker(2, b"")
         name = "0123456789abcdef"
-        self.assertEqual(self.said_by(one, f"give {name} 4\ntext".encode()), f"held {name}\n".encode())
-        self.assertEqual(self.said_by(two, f"ask {name}\n".encode()), f"held {name}\n".encode())
+        self.assertEqual(self.said_by(one, f"paste {name} 4\ntext".encode()), f"stored {name}\n".encode())
+        self.assertEqual(self.said_by(two, f"status {name}\n".encode()), f"stored {name}\n".encode())
         self.assertEqual(self.said_by(one, b"buffer add 2\nab"), b"buffer add 1 2\n")
         self.assertEqual(self.said_by(two, b"buffer show 1\n"), b"buffer show 1 2\nab")
-        self.assertEqual(self.said_by(one, b"brings DISPLAY 3a37\n"), b"")
-        self.assertIn(b"brought DISPLAY 3a37\n", self.said_by(two, b"brought\n"))
-        one.send(b"who\nhere a:/dev/pts/1 24 80 edits\n")
-        two.send(b"who\nhere b:/dev/pts/2 24 80 edits\n")
+        self.assertEqual(self.said_by(one, b"environment DISPLAY 3a37\n"), b"")
+        self.assertIn(b"environment DISPLAY 3a37\n", self.said_by(two, b"environment\n"))
+        one.send(b"who\nhere a:/dev/pts/1 24 80 read-write\n")
+        two.send(b"who\nhere b:/dev/pts/2 24 80 read-write\n")
         self.turns(2)
-        told = f"keeper {self.common.shells.name}\nothers 0\n".encode()
+        told = f"host {self.common.registry.name}\nothers 0\n".encode()
         self.assertEqual([read_now(one), read_now(two)], [told, told])
-        self.assertEqual(host_pane.surroundings(self.windows.windows[2].shells.asked, 3, mock.Mock(set_values=dict))["ROAM_PANE"],
+        self.assertEqual(host_pane.surroundings(self.windows.windows[2].host.asked, 3, mock.Mock(set_values=dict))["ROAM_PANE"],
                          f"{self.folder}/w/2:3")
 
     def test_names(self):
@@ -559,7 +559,7 @@ class Ended(Played):
         one = self.asker(1)
         read_now(one)
         for number, process in ((2, 72), (1, 71)):
-            pane = self.windows.windows[number].shells.panes[1]
+            pane = self.windows.windows[number].host.panes[1]
             pane.close_terminal()
             pane.ends()
             self.turns()
@@ -584,7 +584,7 @@ class Ended(Played):
         self.assertIn("window 2: its server was killed, or has failed\n", self.said.getvalue())
 
     def test_all(self):
-        """Where the keeper is told to end all windows do, and no folder of one is left."""
+        """Where the host is told to end all windows do, and no folder of one is left."""
         self.opened()
         self.opened((24, 80))
         self.common.is_over = True
@@ -600,14 +600,14 @@ class Ended(Played):
 
 
 class TakenOver(Played):
-    """What another keeper left."""
+    """What another host left."""
 
     def test_taken_over(self):
         """Windows whose servers run are gone on with, by their names, with new shells; what is left of others is removed."""
         for number in (2, 5, 7):
             os.makedirs(self.path(number, ""), 0o700)
             processes = WindowProcesses(str(self.folder), number)
-            processes.noted = {SERVER: (1000 * number, 1), TERMINALS: (1000 * number + 1, 1)}
+            processes.noted = {SERVER: (1000 * number, 1), CLIENT: (1000 * number + 1, 1)}
             processes.note()
         self.path(5, "name").write_text("6162\n", encoding="ascii")
         self.alive |= {5000, 7001}
@@ -621,7 +621,7 @@ class TakenOver(Played):
         self.turns(2)
         self.assertEqual((self.windows.named(), self.spawned), ({5: "ab"}, []))
         server = self.taken(self.servers["panes"])
-        server.send(b"1 1 1 23 80 4\nfocus 1\nstarts 1 of 64\n")
+        server.send(b"1 1 1 23 80 4\nfocus 1\nclients 1 of 64\n")
         self.turns(2)
         self.assertEqual(self.made, [])
         self.now += 0.5
@@ -638,7 +638,7 @@ class TakenOver(Played):
         self.assertEqual(processes.noted, {SERVER: (os.getpid(), begun(os.getpid()))})
 
     def test_state(self):
-        """A window that is taken over is there at once, also where its start isn't."""
+        """A window that is taken over is there at once, also where its client isn't."""
         self.assertEqual((windows.OPENING, THERE, ENDING), ("opening", "there", "ending"))
 
 
@@ -672,7 +672,7 @@ class Noted(Case):
             pass
         self.assertEqual((processes.state()[SERVER], os.getsid(process)), ([process, begun(process)], process))
         self.assertTrue(processes.runs(SERVER))
-        self.assertFalse(stands_ready(process))
+        self.assertFalse(is_spare_server(process))
 
     def test_stands_ready(self):
         """A server that only stands ready is known by its environment too, which no other process has of it."""
@@ -688,11 +688,11 @@ class Noted(Case):
             self.addCleanup(os.kill, process, signal.SIGKILL)
             while not told.exists():
                 pass
-            self.assertEqual(stands_ready(process), is_spare)
-        self.assertFalse(stands_ready(None))
+            self.assertEqual(is_spare_server(process), is_spare)
+        self.assertFalse(is_spare_server(None))
 
     def test_ended_at_once(self):
-        """One that is told to end before it runs its words does, and the keeper isn't told of that by its own signals."""
+        """One that is told to end before it runs its words does, and the host isn't told of that by its own signals."""
         reader, writer = self.pipe()
         before = signal.signal(signal.SIGTERM, lambda number, frame: None), signal.set_wakeup_fd(writer, warn_on_full_buffer=False)
         self.addCleanup(lambda: (signal.set_wakeup_fd(before[1]), signal.signal(signal.SIGTERM, before[0])))
@@ -741,9 +741,9 @@ class Mended(Played):
         self.assertEqual(self.names(), [told] * 2)
         self.assertEqual(self.said_by(self.one, b"windows\n"), told)
         self.assertIn(host_window.MENDED, self.said.getvalue())
-        before = {window.shells.socket.listener.made for window in self.windows.windows.values()}
+        before = {window.host.socket.listener.made for window in self.windows.windows.values()}
         self.minutes(3)
-        self.assertEqual({window.shells.socket.listener.made for window in self.windows.windows.values()}, before)
+        self.assertEqual({window.host.socket.listener.made for window in self.windows.windows.values()}, before)
         self.assertEqual((self.said.getvalue().count(host_window.MENDED), self.common.faults.count), (1, 0))
 
     def test_folder(self):
@@ -755,11 +755,11 @@ class Mended(Played):
         self.assertEqual(self.path(1, "session").read_text(), "123456789abcdef\n")
         self.assertEqual(self.names(), [b"window 1 -\nwindow 2 74776f\nwindows 2\n"] * 2)
         state = json.loads((self.folder / "state.json").read_text())
-        self.assertEqual((state["shells"][0], state["command"]), (os.getpid(), ["sh"]))
+        self.assertEqual((state["host"][0], state["command"]), (os.getpid(), ["sh"]))
         self.assertEqual(json.loads((self.folder / "w/2/state.json").read_text())["server"][0], 2000)
         self.assertEqual(((self.folder / "w/2/name").read_text(), (self.folder / "w/last").read_text()), ("74776f\n", "2\n"))
         self.assertEqual((self.folder.stat().st_mode & 0o777, self.windows.lasting.own is not None), (0o700, True))
-        self.windows.windows[1].shells.lasting.demand()
+        self.windows.windows[1].host.lasting.demand()
 
     def test_server(self):
         """A server whose own socket was removed is had to take two turns each minute, in which it binds that anew; else it isn't asked."""
@@ -783,7 +783,7 @@ class Mended(Played):
         lock = os.open(self.folder / "lock", os.O_RDWR | os.O_CREAT)
         fcntl.flock(lock, fcntl.LOCK_EX)
         self.minutes()
-        self.assertFalse(self.path(1, "shells").exists())
+        self.assertFalse(self.path(1, "host").exists())
         os.close(lock)
         self.minutes()
         self.assertEqual(len(self.names()), 2)
@@ -801,13 +801,13 @@ class Mended(Played):
         other.mkdir()
         self.clean(True)
         self.folder.mkdir(0o700)
-        state = {"version": 4, "command": [], "shells": [1, common_process.begun(1)]}
+        state = {"version": 4, "command": [], "host": [1, common_process.begun(1)]}
         self.alive.add(1)
         with mock.patch("roam_live.session.processes.is_running", lambda process, moment: process == 1):
             (self.folder / "state.json").write_text(json.dumps(state))
             self.minutes()
         self.assertEqual(sorted(path.name for path in self.folder.iterdir()), ["lock", "state.json"])
-        self.assertEqual(json.loads((more / "state.json").read_text())["shells"][0], os.getpid())
+        self.assertEqual(json.loads((more / "state.json").read_text())["host"][0], os.getpid())
         self.assertEqual(json.loads((more / "w/2/state.json").read_text())["server"][0], 2000)
         words = repair.RENAMED.format(more.name)
         self.assertIn(words, self.said.getvalue())
@@ -815,7 +815,7 @@ class Mended(Played):
         self.folder = more
         self.assertEqual(self.names(), [b"window 1 -\nwindow 2 74776f\nwindows 2\n"] * 2)
         with self.assertRaises(OSError):
-            self.windows.windows[1].shells.lasting.demand()
+            self.windows.windows[1].host.lasting.demand()
         self.minutes(2)
         self.assertEqual(self.said.getvalue().count("is now called"), 1)
 

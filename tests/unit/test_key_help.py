@@ -92,7 +92,7 @@ class Shown(Case):
         person.commands.fed(b"g")
         self.assertIn("1 to 9 of", self.shown(person))
         person.commands.fed(b"q")
-        self.assertEqual(person.display.cover, "")
+        self.assertEqual(person.display.notice, "")
 
     def test_fits(self):
         """Where it has room any key leaves."""
@@ -101,7 +101,7 @@ class Shown(Case):
             person.commands.fed(b"\x02?")
             self.assertNotIn("scroll, another", self.shown(person))
             person.commands.fed(key)
-            self.assertEqual(person.display.cover, "")
+            self.assertEqual(person.display.notice, "")
 
     def test_own(self):
         person = Person(40, 80)
@@ -109,7 +109,7 @@ class Shown(Case):
         person.commands.fed(b"\x02?")
         self.assertIn("C-b and then, by roam.conf:", self.shown(person))
         person.commands.fed(b"j")
-        self.assertEqual(person.display.cover, "")
+        self.assertEqual(person.display.notice, "")
 
 
 if __name__ == "__main__":

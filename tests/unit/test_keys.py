@@ -39,7 +39,7 @@ ASKED = (
     (b"\x1b[200~\x02x\x1b[201~\x02x", "", "close"), (b"\x1b[201~", "", ""), (b"\x02\x1b[201~", "", "unknown"),
 )
 
-# What is typed piece by piece, with the acts and the wish of each key, as `C-b ?` and roam-mux(1) have them.
+# What is typed chunk by chunk, with the acts and the wish of each key, as `C-b ?` and roam-mux(1) have them.
 TYPED = (
     (b"ab\x02", [(["char 61"], ""), (["char 62"], ""), ([], "")]),
     (b"\x02%x", [([], ""), ([], "split right"), (["char 78"], "")]),
@@ -82,7 +82,7 @@ class Spelled(unittest.TestCase):
         wanted = [act for _, acts in known for act in acts.split(", ")]
         for cut in range(len(stream) + 1):
             keys = Keys()
-            found = [act for piece in (stream[:cut], stream[cut:]) for key in keys.fed(piece) for act in acts_of(key)]
+            found = [act for chunk in (stream[:cut], stream[cut:]) for key in keys.fed(chunk) for act in acts_of(key)]
             self.assertEqual((found, keys.waits()), (wanted, False), cut)
 
     def test_waits(self):
@@ -102,7 +102,7 @@ class Spelled(unittest.TestCase):
         stream = f"x\x1b\x1b[200~{inside}\x1b[201~\x1b[Ay\x1b[200~\x1b[201~z".encode()
         for cut in range(len(stream) + 1):
             keys = Keys()
-            found = [key for piece in (stream[:cut], stream[cut:]) for key in keys.fed(piece)]
+            found = [key for chunk in (stream[:cut], stream[cut:]) for key in keys.fed(chunk)]
             text = "".join(key.text for key in found if key.name == "text")
             names = [key.name for key in found if key.name != "text"]
             self.assertEqual((text, names), (inside, ["x", "\x1b", "paste", "pasted", "up", "y", "paste", "pasted", "z"]), cut)

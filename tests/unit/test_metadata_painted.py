@@ -1,4 +1,4 @@
-"""Whatever is told of what stands beside panes' terminals, a person's terminal is written nothing of it but a title that is printable, a
+"""Whatever is told of pane metadata, a person's terminal is written nothing of it but a title that is printable, a
 shape of the cursor, a text for the clipboard, the modes that it is asked for, a bell, how the keypad is, and the last row."""
 import base64
 import itertools
@@ -7,9 +7,9 @@ import re
 
 from roam_live.frontend import app
 from roam_live.frontend.app import FrontEnd
-from roam_live.protocol.panes_client import PanesFollower
+from roam_live.protocol.panes_client import PanesSubscriber
 from aids import StillLoop, closed, read_now, record
-from control_strings import controls, pieces
+from control_strings import chunks, controls
 from test_app import Fronts
 
 # What may be written, by name. In each the text of a group has to be printable.
@@ -28,14 +28,15 @@ SEEDS = range(30)
 
 def pane_lines(chance):
     """Lines by which panes 1 and 2, or one of them, are where they may be, in one life or another."""
-    life = chance.randint(1, 2)
-    lines = (f"1 1 1 23 39 {life}\n2 1 41 23 40 1\n", f"1 1 1 23 80 {life}\n2 gone\nfocus 1\n", f"focus {chance.randint(1, 3)}\n",
-             f"starts {chance.randint(1, 70)} of 64\n", f"3 1 1 {chance.randint(1, 9999)} 9 1\n", "3 gone\n")
+    generation = chance.randint(1, 2)
+    lines = (f"1 1 1 23 39 {generation}\n2 1 41 23 40 1\n", f"1 1 1 23 80 {generation}\n2 gone\nfocus 1\n",
+             f"focus {chance.randint(1, 3)}\n",
+             f"clients {chance.randint(1, 70)} of 64\n", f"3 1 1 {chance.randint(1, 9999)} 9 1\n", "3 gone\n")
     return chance.choice(lines).encode()
 
 
 def beside_line(chance):
-    """A line of what stands beside a pane's terminal, as it has to be or not."""
+    """A line of pane metadata, as it has to be or not."""
     hostile, place = controls(chance), f"{chance.randint(1, 2)} {chance.randint(1, 2)} ".encode()
     modes = chance.sample(("buttons", "drags", "motion", "sgr", "paste", "other", "focus", "keys1"), chance.randint(0, 4))
     encoded = base64.b64encode(hostile)
@@ -60,7 +61,7 @@ class Written(Fronts):
     def setUp(self):
         self.environment(TERM="xterm")
         super().setUp()
-        self.patch_of(app, "PanesFollower", PanesFollower)
+        self.patch_of(app, "PanesSubscriber", PanesSubscriber)
         self.tells = {name: self.listening(self.place.folder / name) for name in ("panes", "bells")}
 
     def begin(self):
@@ -70,7 +71,7 @@ class Written(Fronts):
         self.addCleanup(self.front.link.close)
         self.connect()
         ends = [self.taken(self.tells[name]) for name in ("panes", "bells")]
-        ends[0].send(b"1 1 1 23 39 1\n2 1 41 23 40 1\nfocus 1\nstarts 1 of 64\nwatchers 0 of 16\n")
+        ends[0].send(b"1 1 1 23 39 1\n2 1 41 23 40 1\nfocus 1\nclients 1 of 64\nwatchers 0 of 16\n")
         self.paints()
         return ends
 
@@ -96,12 +97,12 @@ class Written(Fronts):
         for _ in range(40):
             panes.send(pane_lines(chance) if chance.random() < 0.2 else b"")
             for end, line in ((panes, beside_line(chance)), (bells, bell_line(chance))):
-                for piece in pieces(chance, line):
-                    end.send(piece)
+                for chunk in chunks(chance, line):
+                    end.send(chunk)
                     self.front.turn()
                     shown += read_now(self.master)
             if chance.random() < 0.3:
-                self.start.send(record("silent", chance.randint(10, 99)) + record("heard"))
+                self.client.send(record("silent", chance.randint(10, 99)) + record("heard"))
                 self.type(chance.choice((b"x", b"\x02q1", b"\x02q2", b"\x1b[<0;3;3M")))
             self.now += 0.5
             self.turn(1)

@@ -1,7 +1,7 @@
 """What a person points at: reports as acts for the programs in panes, on a terminal that shows a part of the session."""
 from aids import Case
 from roam_live.input.mouse_reports import report_of
-from roam_live.protocol.display_records import ToldRecord
+from roam_live.protocol.display_records import DisplayRecord
 from roam_live.protocol.panes import Places, Rect
 from test_display import Person
 
@@ -34,7 +34,7 @@ class Pointed(Case):
         """A person who is shown the session, whose panes have modes."""
         person = Person(*size, told=told, **more)
         person.panes.modes_of = modes
-        person.commands.told()
+        person.commands.panes_changed()
         person.answers()
         return person
 
@@ -58,7 +58,7 @@ class Programs(Pointed):
             person.panes.modes_of.update(modes)
             person.tell(PANES._replace(focus=focus))
             self.assertEqual(person.display.outer.reports, asked)
-        watcher = self.person({1: "motion"}, watches=True)
+        watcher = self.person({1: "motion"}, is_read_only=True)
         self.assertEqual(watcher.display.outer.reports, "")
         self.assertEqual(self.points(watcher, (0, 1, 1), (0, 1, 1, True)), [])
 
@@ -155,11 +155,11 @@ class Programs(Pointed):
     def test_part(self):
         """On a terminal that shows a part of the session places are those of that part, and the last row is nobody's."""
         person = self.person({2: "buttons sgr"}, PANES._replace(focus=2), (12, 40))
-        person.display.take(ToldRecord("part", (0, 30)))
+        person.display.take(DisplayRecord("part", (0, 30)))
         person.answers()
         self.assertEqual(self.points(person, (0, 1, 1), (0, 1, 11), (0, 11, 40), (0, 12, 40)),
                          [("focus 2", "\x1b[<0;1;1M"), ("focus 2", "\x1b[<0;30;11M")])
-        person.display.take(ToldRecord("part", (12, 40)))
+        person.display.take(DisplayRecord("part", (12, 40)))
         self.assertEqual(self.points(person, (0, 1, 1)), [])
         person.tell(PANES._replace(focus=3))
         person.panes.modes_of[3] = "buttons sgr"
@@ -178,7 +178,7 @@ class Programs(Pointed):
         person = self.person({1: "drags sgr"})
         person.types(b"\x02?")
         self.assertEqual(self.points(person, (0, 1, 1), (0, 1, 1, True)), [])
-        self.assertEqual(person.display.cover, person.commands.help)
+        self.assertEqual(person.display.notice, person.commands.help)
         person.types(b"x")
         person.answers()
         for keys in (b"\x02[", b"q\x02x"):
@@ -247,7 +247,7 @@ class Own(Pointed):
         person.types(b"\x02m")
         person.tell(PANES._replace(focus=2))
         self.assertEqual(person.display.outer.reports, "motion")
-        watcher = self.person({}, watches=True)
+        watcher = self.person({}, is_read_only=True)
         watcher.types(b"\x02m")
         self.assertEqual((watcher.display.outer.reports, watcher.display.told), ("", ""))
         unknown = Person(24, 80)

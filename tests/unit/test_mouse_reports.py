@@ -2,7 +2,7 @@
 import unittest
 from unittest import mock
 
-from roam_live.frontend.outer_modes import GivenAside
+from roam_live.frontend.outer_modes import OuterModes
 from roam_live.input.keys import Key, Keys, acts_of_bytes
 from roam_live.input.mouse_reports import ASKED, MOUSE, OFF, MouseReport, is_wanted, report_of, sent, tracking_of
 
@@ -70,7 +70,7 @@ class Among(unittest.TestCase):
                   Key(MOUSE, "\x1b[<35;500;200m"), Key("\u00e9", "\u00e9")]
         for cut in range(len(stream) + 1):
             keys = Keys()
-            found = [key for piece in (stream[:cut], stream[cut:]) for key in keys.fed(piece)]
+            found = [key for chunk in (stream[:cut], stream[cut:]) for key in keys.fed(chunk)]
             self.assertEqual((found, keys.waits()), (wanted, False), cut)
         keys = Keys()
         self.assertEqual([key for byte in stream for key in keys.fed(bytes([byte]))], wanted)
@@ -94,17 +94,17 @@ class Asked(unittest.TestCase):
     def test_asked(self):
         """Each is asked for once, none before another, and none where the terminal is given back."""
         with mock.patch.dict("os.environ", TERM="xterm"):
-            aside = GivenAside()
-        self.assertEqual((aside.asked(""), aside.taken_back()), (b"", b""))
-        self.assertEqual([aside.asked(words) for words in ("drags", "drags", "motion", "", "drags")],
+            modes = OuterModes()
+        self.assertEqual((modes.asked(""), modes.taken_back()), (b"", b""))
+        self.assertEqual([modes.asked(words) for words in ("drags", "drags", "motion", "", "drags")],
                          [OFF + b"\x1b[?1002h\x1b[?1006h", b"", OFF + b"\x1b[?1003h\x1b[?1006h", OFF, ASKED["drags"]])
-        self.assertEqual((aside.taken_back(), aside.taken_back(), aside.asked("motion")), (OFF, b"", ASKED["motion"]))
+        self.assertEqual((modes.taken_back(), modes.taken_back(), modes.asked("motion")), (OFF, b"", ASKED["motion"]))
 
     def test_console(self):
         """A console of Linux has another form, and isn't asked."""
         with mock.patch.dict("os.environ", TERM="linux"):
-            aside = GivenAside()
-        self.assertEqual((aside.asked("drags"), aside.taken_back()), (b"", b""))
+            modes = OuterModes()
+        self.assertEqual((modes.asked("drags"), modes.taken_back()), (b"", b""))
 
 
 if __name__ == "__main__":

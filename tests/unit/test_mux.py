@@ -32,7 +32,7 @@ class Mux(Case):
         self.base.mkdir(mode=0o700)
         for module in (session_folder, lookup, ssh):
             self.patch_of(module, "base", lambda: self.base)
-        self.environment(ROAM_PREFIX=None, ROAM_GUESS=None, ROAM_MOUSE=None, ROAM_CLIPBOARD=None, ROAM_PANE=None, ROAM_HISTORY=None,
+        self.environment(ROAM_PREFIX=None, ROAM_PREDICT=None, ROAM_MOUSE=None, ROAM_CLIPBOARD=None, ROAM_PANE=None, ROAM_HISTORY=None,
                          SHELL="/bin/sh", TERM="xterm")
         self.said, self.text = self.heard(), self.printed()
         self.follows = self.patch_of(app, "follow", return_value=7)
@@ -41,7 +41,7 @@ class Mux(Case):
         # What others left is no matter either.
         self.sweeps = self.patch_of(mux, "sweep")
         self.runs, self.done = set(), []
-        for name in ("launch", "spawn_shells", "demand_terminals", "demand_shells", "demand_ready", "note_found", "kill", "end_all",
+        for name in ("launch", "spawn_host", "demand_client", "demand_host", "demand_ready", "note_found", "kill", "end_all",
                      "tidy"):
             self.patch_each(name, self.does(name))
         self.patch_each("find", lambda session: session.name in self.runs)
@@ -87,9 +87,9 @@ class Attaches(Mux):
         for words, name in (((), "main"), (("work",), "work"), (("--", "send"), "send")):
             self.done.clear()
             self.assertEqual(self.mux(*words), 7)
-            self.assertEqual(self.done, [("kill", name), ("launch", name, ()), ("demand_terminals", name)])
-            session, is_watching, prefix, guessing, is_new = self.follows.call_args[0]
-            self.assertEqual((session.name, is_watching, prefix, guessing, is_new(None)), (name, False, "C-b", "adaptive", True))
+            self.assertEqual(self.done, [("kill", name), ("launch", name, ()), ("demand_client", name)])
+            session, is_read_only, prefix, prediction, is_new = self.follows.call_args[0]
+            self.assertEqual((session.name, is_read_only, prefix, prediction, is_new(None)), (name, False, "C-b", "adaptive", True))
 
     def test_history(self):
         """A session isn't begun that is to keep what can't be; one that runs is attached to."""
@@ -103,10 +103,10 @@ class Attaches(Mux):
     def test_running(self):
         """One that is running is attached to, its missing parts are started, and it is not new."""
         self.runs.add("main")
-        for words in (("attach",), ("main",), ("attach", "main"), ("attach", "--guess", "never", "main")):
+        for words in (("attach",), ("main",), ("attach", "main"), ("attach", "--predict", "never", "main")):
             self.done.clear()
             self.assertEqual(self.mux(*words), 7)
-            self.assertEqual([one[0] for one in self.done], ["demand_age", "note_found", "demand_shells", "demand_terminals"])
+            self.assertEqual([one[0] for one in self.done], ["demand_age", "note_found", "demand_host", "demand_client"])
             self.assertFalse(self.follows.call_args[0][4](None))
         self.assertEqual(self.follows.call_args[0][3], "never")
 
@@ -151,9 +151,9 @@ class Attaches(Mux):
     def test_environment(self):
         self.environment(ROAM_PREFIX="C-3")
         self.refuses("ROAM_PREFIX is 'C-3', and may be C-a to C-z, C-], C-\\, C-^ or C-_")
-        self.environment(ROAM_PREFIX="C-a", ROAM_GUESS="often")
-        self.refuses("ROAM_GUESS is 'often', and may be adaptive, always or never")
-        self.environment(ROAM_GUESS=None, ROAM_MOUSE="yes")
+        self.environment(ROAM_PREFIX="C-a", ROAM_PREDICT="often")
+        self.refuses("ROAM_PREDICT is 'often', and may be adaptive, always or never")
+        self.environment(ROAM_PREDICT=None, ROAM_MOUSE="yes")
         self.refuses("ROAM_MOUSE is 'yes', and may be off or on")
         self.environment(ROAM_MOUSE=None, ROAM_CLIPBOARD="yes")
         self.refuses("ROAM_CLIPBOARD is 'yes', and may be external, on or off")
@@ -163,10 +163,10 @@ class Attaches(Mux):
         for word, has_mouse in (("on", True), ("off", False), ("", False)):
             self.environment(ROAM_MOUSE=word)
             self.assertEqual(config_environment.wants_mouse(), has_mouse)
-        self.environment(ROAM_GUESS="always")
+        self.environment(ROAM_PREDICT="always")
         self.mux()
         self.assertEqual(self.follows.call_args[0][2:4], ("C-a", "always"))
-        self.assertEqual((config_environment.chosen_guessing("never"), config_environment.chosen_guessing()), ("never", "always"))
+        self.assertEqual((config_environment.chosen_prediction("never"), config_environment.chosen_prediction()), ("never", "always"))
         self.refuses("C-a d, typed in the front end, detaches it; the session goes on", "detach")
 
 
@@ -203,9 +203,9 @@ class Starts(Mux):
         self.assertEqual(self.mux("new", "-d", "work", "sh", "-c", "x"), 0)
         self.assertEqual(self.done[1], ("launch", "work", ["sh", "-c", "x"]))
         self.follows.assert_not_called()
-        self.assertEqual(self.mux("new", "--guess", "always", "work"), 7)
-        session, is_watching, prefix, guessing, is_new = self.follows.call_args[0]
-        self.assertEqual((session.name, is_watching, prefix, guessing, is_new(None)), ("work", False, "C-b", "always", True))
+        self.assertEqual(self.mux("new", "--predict", "always", "work"), 7)
+        session, is_read_only, prefix, prediction, is_new = self.follows.call_args[0]
+        self.assertEqual((session.name, is_read_only, prefix, prediction, is_new(None)), ("work", False, "C-b", "always", True))
         self.runs.add("work")
         self.refuses("session work is running; `mux attach work` attaches to it", "new", "work")
         self.refuses("'/no/such' is no command; the options of new stand before NAME", "new", "-d", "x", "/no/such")
@@ -261,7 +261,7 @@ class Starts(Mux):
             self.refuses("session main doesn't end", "kill", "-f", "main")
 
     def test_ready(self):
-        """What types and what looks needs a client start alone."""
+        """What types and what looks needs a client process alone."""
         self.runs.add("main")
         with mock.patch.object(send, "send", return_value=3) as sends, mock.patch.object(capture, "capture", return_value=4) as takes:
             self.assertEqual(self.mux("send", "-a", "main", "char 61", "key up"), 3)
@@ -270,10 +270,11 @@ class Starts(Mux):
             self.assertFalse(takes.call_args[0][1])
             self.mux("capture", "--svg", "main")
             self.assertTrue(takes.call_args[0][1])
-        self.assertEqual([one[0] for one in self.done[:3]], ["demand_age", "note_found", "demand_terminals"])
+        self.assertEqual([one[0] for one in self.done[:3]], ["demand_age", "note_found", "demand_client"])
 
     def test_rows(self):
-        """Rows that left, where some are named, or how they are printed; of the pane in focus where none is named. They aren't drawn."""
+        """Rows that scrolled off, where some are named, or how they are printed; of the pane in focus where none is named. They aren't
+        drawn."""
         self.runs.add("main")
         with mock.patch.object(scrollback, "capture_rows", return_value=4) as takes, \
                 mock.patch.object(scrollback, "log_rows", return_value=5) as logs:
@@ -401,20 +402,20 @@ class Far(Mux):
 
     def test_ssh(self):
         """A relay is started where none runs, and its status is that of one that didn't answer."""
-        starts = self.patch_of(NearSession, "launch_relay", return_value=0)
+        clients = self.patch_of(NearSession, "launch_relay", return_value=0)
         self.patch_of(ssh, "host_of", side_effect=lambda asked: f"host of {asked.host}")
         self.assertEqual(self.mux("ssh", "-p", "22", "me@there", "work"), 7)
-        starts.assert_called_once_with(["ssh", "-p", "22", "me@there", "roam-mux far work"], "host of me@there")
+        clients.assert_called_once_with(["ssh", "-p", "22", "me@there", "roam-mux far work"], "host of me@there")
         session = self.follows.call_args[0][0]
         self.assertEqual(session.folder.name.rpartition(":")[0], "ssh:me@there:work")
-        self.assertEqual(self.done, [("kill", "work"), ("demand_terminals", "work")])
-        with mock.patch.object(ssh, "is_first_start", side_effect=[True, False]):
+        self.assertEqual(self.done, [("kill", "work"), ("demand_client", "work")])
+        with mock.patch.object(ssh, "is_first_client", side_effect=[True, False]):
             self.assertEqual([self.follows.call_args[0][4](None) for _ in range(2)], [True, False])
-        starts.return_value = 255
-        self.assertEqual(self.mux("ssh", "--guess", "never", "there"), 255)
+        clients.return_value = 255
+        self.assertEqual(self.mux("ssh", "--predict", "never", "there"), 255)
         self.runs.add("main")
         self.assertEqual(self.mux("ssh", "there"), 7)
-        self.assertEqual((starts.call_count, self.follows.call_args[0][4](None)), (2, False))
+        self.assertEqual((clients.call_count, self.follows.call_args[0][4](None)), (2, False))
         self.refuses("'a b' is no name: letters, digits, - and _, 32 at most", "ssh", "there", "a b")
 
     def test_host(self):
@@ -445,7 +446,7 @@ class Far(Mux):
         for words, own, options in (
             ("there", "there", ""), ("-p 22 there work", "there work", "-p 22"), ("-p22 there", "there", "-p22"),
             ("-v -4C there", "there", "-v -4C"), ("-vp 22 there -x", "there -x", "-vp 22"), ("--ssh x there", "--ssh x there", ""),
-            ("--far y -i key --guess never there", "--far y --guess never there", "-i key"), ("-h there", "-h there", ""),
+            ("--far y -i key --predict never there", "--far y --predict never there", "-i key"), ("-h there", "-h there", ""),
             ("-p", "", "-p"), ("--ssh", "--ssh", ""), ("-o A=b -J jump me@there w", "me@there w", "-o A=b -J jump"),
             ("--ssh=x there", "--ssh=x there", ""), ("", "", ""), ("-tt -L1:b:2 there", "there", "-tt -L1:b:2"),
         ):
@@ -471,11 +472,11 @@ class Far(Mux):
         self.assertTrue(ssh.near_session(asked, ["x"]).folder.name.startswith("ssh:.._a_b:main:"))
         self.assertEqual(ssh.near_session(asked, ["x"]).name, "main")
 
-    def test_first_start(self):
-        """A session is new here where its server has had one start at most, as far as is known."""
-        for starts, is_first in ((None, False), (1, True), (2, False)):
-            places = None if starts is None else Places({1: Rect(1, 1, 2, 3)}, 1, starts)
-            self.assertEqual(ssh.is_first_start(places), is_first)
+    def test_first_client(self):
+        """A session is new here where its server has had one client at most, as far as is known."""
+        for clients, is_first in ((None, False), (1, True), (2, False)):
+            places = None if clients is None else Places({1: Rect(1, 1, 2, 3)}, 1, clients)
+            self.assertEqual(ssh.is_first_client(places), is_first)
 
     def test_carry(self):
         """What `mux ssh` runs there starts the session where the other end knows none, and becomes a relay."""
@@ -626,5 +627,5 @@ class Words(Mux):
     def test_ssh_words(self):
         asked = mux.asked_by("ssh", ["-p", "22", "--far", "f", "there"])
         self.assertEqual((asked.options, asked.far, asked.ssh), (["-p", "22"], "f", "ssh"))
-        self.assertEqual((asked.host, asked.name, asked.guess), ("there", "main", None))
+        self.assertEqual((asked.host, asked.name, asked.predict), ("there", "main", None))
         self.assertEqual(mux.asked_by("send", ["x", "a", "b"]).words, ["a", "b"])

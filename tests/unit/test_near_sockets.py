@@ -6,9 +6,9 @@ import unittest
 from aids import Case, StillLoop, read_now
 from roam_live.relay import near_sockets
 from roam_live.relay.forwarding import PipeStreams
-from roam_live.relay.near_sockets import MOST_FOLLOWERS, MOST_WAITING, NearSockets
+from roam_live.relay.near_sockets import MOST_SUBSCRIBERS, MOST_WAITING, NearSockets
 
-LINES = b"1 1 1 23 39 1\n2 1 41 23 39 1\nfocus 1\nstarts 1 of 64\nwatchers 0 of 16\n"
+LINES = b"1 1 1 23 39 1\n2 1 41 23 39 1\nfocus 1\nclients 1 of 64\nwatchers 0 of 16\n"
 
 
 class Sockets(Case):
@@ -27,7 +27,7 @@ class Sockets(Case):
         self.sockets.open()
 
     def make(self):
-        """Both ends of what carries connections."""
+        """Both ends of what forwards connections."""
         self.going = [], []
         self.near = PipeStreams(self.loop, lambda text, _: self.going[0].append(text))
         self.far = PipeStreams(self.loop, lambda text, _: self.going[1].append(text), self.opens)
@@ -85,11 +85,11 @@ class Panes(Sockets):
         self.tell(b"focus 2\n2 gone\nfocus 1\n")
         self.assertEqual([read_now(one) for one in (first, second)], [b"focus 2\n2 gone\nfocus 1\n"] * 2)
         third = self.connect()
-        self.assertEqual(read_now(third), b"1 1 1 23 39 1\nfocus 1\nstarts 1 of 64\nwatchers 0 of 16\n")
+        self.assertEqual(read_now(third), b"1 1 1 23 39 1\nfocus 1\nclients 1 of 64\nwatchers 0 of 16\n")
         self.assertEqual(self.names, ["panes"])
 
     def test_nonsense(self):
-        """What can't be told isn't passed on, in whatever pieces it comes, and takes no memory."""
+        """What can't be told isn't passed on, in whatever chunks it comes, and takes no memory."""
         self.turn(3)
         one = self.connect()
         self.tell(b"\x1b[2Jfocus 9\nfocus 12\n1 1 1 23 80 1 \n" + b"x" * 30000)
@@ -155,26 +155,26 @@ class Panes(Sockets):
         self.turn(2)
         self.assertEqual(self.sockets.panes.peers, [])
 
-    def asks(self, one, text=b"beside\n"):
+    def asks(self, one, text=b"metadata\n"):
         """Has one ask for something here."""
         one.send(text)
         self.turn(4)
 
     def test_beside(self):
-        """What stands beside the terminals is asked for there once, and told here to who asks for it: as it is, and what is new."""
+        """Pane metadata is asked for there once, and told here to who asks for it: as it is, and what is new."""
         self.turn(3)
         self.tell(LINES)
         first, other = self.connect(), self.connect()
         read_now(first), read_now(other)
-        self.asks(first, b"besi")
+        self.asks(first, b"meta")
         self.assertEqual(read_now(self.panes()), b"")
-        self.asks(first, b"de\n")
-        self.assertEqual((self.names, read_now(self.panes())), (["panes"], b"beside\n"))
+        self.asks(first, b"data\n")
+        self.assertEqual((self.names, read_now(self.panes())), (["panes"], b"metadata\n"))
         self.tell(b"modes 1 1 paste\ntitle 2 1 41\nbell 2 1\nshape 2 1 4\n")
         self.assertEqual(read_now(first), b"modes 1 1 paste\ntitle 2 1 41\nbell 2 1\nshape 2 1 4\n")
         self.tell(b"title 2 1 42\n")
         second = self.connect()
-        self.asks(second, b"beside\nbeside\n")
+        self.asks(second, b"metadata\nmetadata\n")
         self.assertEqual(read_now(second), LINES + b"modes 1 1 paste\ntitle 2 1 42\nshape 2 1 4\n")
         self.assertEqual((read_now(first), read_now(other), read_now(self.panes())), (b"title 2 1 42\n", b"", b""))
         self.tell(b"2 gone\nfocus 1\n")
@@ -194,13 +194,13 @@ class Panes(Sockets):
         self.make()
         self.carrying = self.near
         self.turn(4)
-        self.assertEqual((self.names, read_now(self.panes())), (["panes"] * 2, b"beside\n"))
+        self.assertEqual((self.names, read_now(self.panes())), (["panes"] * 2, b"metadata\n"))
         one = self.connect()
         self.tell(LINES + b"modes 1 1 sgr\n")
         self.assertEqual(read_now(one), LINES)
-        self.asks(one, b"beside\nclo")
+        self.asks(one, b"metadata\nclo")
         self.asks(one, b"se 2 1\n")
-        self.assertEqual((self.names, read_now(self.panes())), (["panes"] * 3, b"beside\nclose 2 1\n"))
+        self.assertEqual((self.names, read_now(self.panes())), (["panes"] * 3, b"metadata\nclose 2 1\n"))
 
     def test_clips(self):
         """Texts for a clipboard are told to who asks for them, the newest once he reads, and to nobody who comes later."""
@@ -210,9 +210,9 @@ class Panes(Sockets):
         for one in (first, other):
             read_now(one)
         self.asks(other)
-        self.asks(first, b"beside\nclips\n")
-        self.asks(slow, b"clips\n")
-        self.assertEqual(read_now(self.panes()), b"beside\nclips\n")
+        self.asks(first, b"metadata\nclipboard\n")
+        self.asks(slow, b"clipboard\n")
+        self.assertEqual(read_now(self.panes()), b"metadata\nclipboard\n")
         self.tell(b"clip 1 1 YQ==\nmodes 1 1 paste\nclip 1 1 ?\n")
         self.assertEqual([read_now(one) for one in (first, other)], [b"clip 1 1 YQ==\nmodes 1 1 paste\n", b"modes 1 1 paste\n"])
         for number in range(12):
@@ -227,7 +227,7 @@ class Panes(Sockets):
         self.assertEqual((told[0], told[-1], b"focus 2\n" in got), (b"clip 1 1 YQ==", b"clip 2 1 0011", True))
         self.assertLess(len(told), 12)
         late = self.connect()
-        self.asks(late, b"beside\nclips\n")
+        self.asks(late, b"metadata\nclipboard\n")
         self.assertEqual(read_now(late), LINES.replace(b"focus 1", b"focus 2") + b"modes 1 1 paste\n")
 
     def test_beside_slow(self):
@@ -270,7 +270,7 @@ class Panes(Sockets):
         """64 follow here, and the 65th is let go."""
         self.turn(3)
         self.tell(LINES)
-        held = [self.connect() for _ in range(MOST_FOLLOWERS)]
+        held = [self.connect() for _ in range(MOST_SUBSCRIBERS)]
         self.assertEqual([read_now(one) for one in held], [LINES] * 64)
         self.assertEqual(self.connect().recv(1), b"")
 
@@ -289,8 +289,8 @@ class Others(Sockets):
         self.servers["bells"][0].send(b"bell 3\n")
         self.turn(3)
         self.assertEqual(read_now(one), b"bell 3\n")
-        self.connect("shells")
-        self.assertEqual(self.names[-1], "shells")
+        self.connect("host")
+        self.assertEqual(self.names[-1], "host")
 
     def test_most(self):
         """Whom there is no room for is let go."""
@@ -298,9 +298,9 @@ class Others(Sockets):
         for _ in range(62):
             held.append(self.connect("bells"))
         self.assertEqual(len(self.near.all), 63)
-        held.append(self.connect("shells"))
+        held.append(self.connect("host"))
         self.assertEqual(self.connect("bells").recv(1), b"")
-        self.assertEqual(self.connect("shells").recv(1), b"")
+        self.assertEqual(self.connect("host").recv(1), b"")
 
     def test_close(self):
         """The sockets go, and come again."""
@@ -311,7 +311,7 @@ class Others(Sockets):
         self.sockets.close()
         self.sockets.open()
         self.sockets.open()
-        self.assertEqual(sorted(os.listdir(self.folder)), ["bells", "panes", "shells"])
+        self.assertEqual(sorted(os.listdir(self.folder)), ["bells", "host", "panes"])
 
     def test_taken(self):
         """Where somebody listens there already that is told, and the rest goes on."""
@@ -320,7 +320,7 @@ class Others(Sockets):
         self.listening(self.folder / "bells")
         self.sockets.open()
         self.assertIn("somebody listens at", said.getvalue())
-        self.assertEqual((self.sockets.others, near_sockets.CARRIED), ([], ("bells", "shells")))
+        self.assertEqual((self.sockets.others, near_sockets.FORWARDED), ([], ("bells", "host")))
 
 
 if __name__ == "__main__":

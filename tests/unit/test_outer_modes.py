@@ -4,7 +4,7 @@ import unittest
 from unittest import mock
 
 from aids import Case, read_now
-from roam_live.frontend.outer_modes import CLIP_BEGIN, CLIP_END, TITLE_BACK, TITLE_KEPT, GivenAside, GivenClip, shaped, titled
+from roam_live.frontend.outer_modes import CLIP_BEGIN, CLIP_END, TITLE_BACK, TITLE_KEPT, ClipboardWriter, OuterModes, shaped, titled
 
 
 class Given(unittest.TestCase):
@@ -17,18 +17,18 @@ class Given(unittest.TestCase):
 
     def test_new(self):
         """What is new is given, the terminal's own title kept before; and all is taken back once."""
-        aside = GivenAside()
-        self.assertEqual((aside.given("", 0), aside.taken_back()), (b"", b""))
-        self.assertEqual(aside.given("vi", 6), TITLE_KEPT + b"\x1b]2;vi\x07\x1b[6 q")
-        self.assertEqual(aside.given("vi", 6), b"")
-        self.assertEqual(aside.given("", 6), titled("") + TITLE_BACK)
-        self.assertEqual(aside.given("sh", 0), TITLE_KEPT + titled("sh") + shaped(0))
-        self.assertEqual(aside.given("ed", 0), titled("ed"))
-        self.assertEqual((aside.taken_back(), aside.taken_back()), (TITLE_BACK, b""))
-        self.assertEqual((aside.given("sh", 0), aside.given("", 4)), (TITLE_KEPT + titled("sh"), titled("") + TITLE_BACK + shaped(4)))
-        self.assertEqual(aside.taken_back(), shaped(0))
-        self.assertEqual(aside.given("sh", 4), TITLE_KEPT + titled("sh") + shaped(4))
-        self.assertEqual(aside.taken_back(), TITLE_BACK + shaped(0))
+        modes = OuterModes()
+        self.assertEqual((modes.update("", 0), modes.taken_back()), (b"", b""))
+        self.assertEqual(modes.update("vi", 6), TITLE_KEPT + b"\x1b]2;vi\x07\x1b[6 q")
+        self.assertEqual(modes.update("vi", 6), b"")
+        self.assertEqual(modes.update("", 6), titled("") + TITLE_BACK)
+        self.assertEqual(modes.update("sh", 0), TITLE_KEPT + titled("sh") + shaped(0))
+        self.assertEqual(modes.update("ed", 0), titled("ed"))
+        self.assertEqual((modes.taken_back(), modes.taken_back()), (TITLE_BACK, b""))
+        self.assertEqual((modes.update("sh", 0), modes.update("", 4)), (TITLE_KEPT + titled("sh"), titled("") + TITLE_BACK + shaped(4)))
+        self.assertEqual(modes.taken_back(), shaped(0))
+        self.assertEqual(modes.update("sh", 4), TITLE_KEPT + titled("sh") + shaped(4))
+        self.assertEqual(modes.taken_back(), TITLE_BACK + shaped(0))
 
     def test_hostile(self):
         """Nothing of a title is a control, and none is long."""
@@ -40,8 +40,8 @@ class Given(unittest.TestCase):
     def test_console(self):
         """A console of Linux is given nothing."""
         with mock.patch.dict(os.environ, TERM="linux"):
-            aside = GivenAside()
-        self.assertEqual((aside.given("vi", 6), aside.taken_back()), (b"", b""))
+            modes = OuterModes()
+        self.assertEqual((modes.update("vi", 6), modes.taken_back()), (b"", b""))
 
 
 class Clips(Case):
@@ -50,11 +50,11 @@ class Clips(Case):
     def test_whole(self):
         """One goes whole, however little is taken at once, and the newest of those that came meanwhile behind it."""
         reads, writes = self.pipe()
-        clip, got = GivenClip(), b""
-        clip.give("A" * 131072)
+        clip, got = ClipboardWriter(), b""
+        clip.set_text("A" * 131072)
         self.assertTrue(clip.put(writes) and clip.has_begun)
         for text in ("YQ==", "YWI="):
-            clip.give(text)
+            clip.set_text(text)
         while clip.waits():
             got += read_now(reads)
             self.assertTrue(clip.put(writes))
@@ -64,16 +64,16 @@ class Clips(Case):
     def test_taken_back(self):
         """Where the terminal is given back one that has begun is ended, and no other begins."""
         reads, writes = self.pipe()
-        clip = GivenClip()
-        clip.give("YQ==")
+        clip = ClipboardWriter()
+        clip.set_text("YQ==")
         self.assertEqual((clip.taken_back(), clip.waits()), (b"", False))
         os.write(writes, b"x" * 65536)
-        clip.give("A" * 131072)
+        clip.set_text("A" * 131072)
         self.assertTrue(clip.put(writes) and not clip.has_begun)
-        clip.give("B" * 131072)
+        clip.set_text("B" * 131072)
         read_now(reads)
         self.assertTrue(clip.put(writes) and clip.has_begun)
-        clip.give("YQ==")
+        clip.set_text("YQ==")
         got = read_now(reads) + clip.taken_back()
         self.assertEqual((got, clip.waits()), (CLIP_BEGIN + b"B" * 131072 + CLIP_END, False))
 

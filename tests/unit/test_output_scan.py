@@ -6,7 +6,7 @@ import unittest
 
 from aids import StillLoop
 from roam_live.host.output_scan import Keypad
-from roam_live.protocol.bells import BellFollower, BellSource
+from roam_live.protocol.bells import BellSource, BellSubscriber
 
 # What a program writes, and whether its keypad is an application's then (VT220 Programmer Reference: DECKPAM, DECKPNM, DECSTR; RIS).
 WRITTEN = (
@@ -49,25 +49,25 @@ class Told(unittest.TestCase):
         self.addCleanup(self.source.close)
         self.folder = pathlib.Path(made.name)
 
-    def follower(self):
+    def subscriber(self):
         """One who follows, and was taken."""
         rung = []
-        follower = BellFollower(os.fspath(self.folder), StillLoop(), rung.append)
-        follower.rung = rung
-        follower.connect()
-        self.addCleanup(lambda: follower.peer and follower.peer.close())
+        subscriber = BellSubscriber(os.fspath(self.folder), StillLoop(), rung.append)
+        subscriber.rung = rung
+        subscriber.connect()
+        self.addCleanup(lambda: subscriber.peer and subscriber.peer.close())
         self.loop.turn()
-        return follower
+        return subscriber
 
     def test_changes(self):
         """Each change is told once; who comes later is told what is so."""
-        first = self.follower()
+        first = self.subscriber()
         self.source.tell_keypad(2, True)
         self.source.tell_keypad(2, True)
         self.source.tell_keypad(3, False)
         first.loop.turn()
         self.assertEqual((first.rung, first.keypads), ([], {2}))
-        later = self.follower()
+        later = self.subscriber()
         later.loop.turn()
         self.assertEqual(later.keypads, {2})
         self.source.tell_keypad(2, False)
@@ -77,9 +77,9 @@ class Told(unittest.TestCase):
 
     def test_end(self):
         """Nothing is known of keypads once who told of them has left."""
-        first = self.follower()
+        first = self.subscriber()
         self.source.tell_keypad(1, True)
         first.loop.turn()
-        self.source.drop(self.source.followers[0])
+        self.source.drop(self.source.subscribers[0])
         first.loop.turn()
         self.assertEqual(first.keypads, set())

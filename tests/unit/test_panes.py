@@ -5,7 +5,7 @@ import unittest
 
 from aids import Case
 from roam_live.protocol import panes
-from roam_live.protocol.panes import Places, Rect, ToldPanes
+from roam_live.protocol.panes import PanesState, Places, Rect
 
 # What is no text for the clipboard.
 NO_CLIPS = ("Y", "YQ", "YQ=", "YQ===", "=", "====", "YQ==YQ==", "Y-==", "YQ==\n", "YQ==\x07", "\x1b\\\\\\", "?", "\u00e9AAA",
@@ -42,7 +42,7 @@ class Modes(Case):
 
     def test_set(self):
         """It is the newest that is told of this making of the pane, whatever came before it."""
-        told = ToldPanes()
+        told = PanesState()
         steps = [("modes 1 1 sgr paste", False), ("1 1 1 23 80 1", True), ("focus 1", True), ("modes 1 1 sgr", False),
                  ("modes 1 1 paste", True), ("1 1 1 23 40 1", True), ("1 1 1 23 40 2", False), ("modes 1 1 paste", False),
                  ("modes 1 2 paste", True), ("modes 1 2", False), ("modes 1 2 paste", True), ("1 gone", False)]
@@ -51,19 +51,19 @@ class Modes(Case):
             self.assertEqual(told.has_set(1, "paste"), has_set, line)
         self.assertFalse(told.has_set(2, "paste"))
 
-    def test_aside(self):
+    def test_title_and_shape(self):
         """A title and a shape are the newest that are told of this making of the pane."""
-        told = ToldPanes()
+        told = PanesState()
         steps = [("shape 1 1 4", ("", 0)), ("title 1 1 e697a5", ("", 0)), ("1 1 1 23 80 1", ("\u65e5", 4)), ("focus 1", ("\u65e5", 4)),
                  ("shape 1 1 0", ("\u65e5", 0)), ("title 1 1 ff41", ("\ufffdA", 0)), ("title 1 1 ", ("", 0)),
                  ("title 1 1 1b5d", ("\x1b]", 0)), ("shape 1 1 6", ("\x1b]", 6)), ("1 1 1 23 80 2", ("", 0)), ("title 1 2 41", ("A", 0))]
-        for line, aside in steps:
+        for line, title_and_shape in steps:
             self.assertTrue(told.take(line), line)
-            self.assertEqual(told.aside(1), aside, line)
+            self.assertEqual(told.title_and_shape(1), title_and_shape, line)
 
     def test_passed_over(self):
         """Bells are passed over, and no such line is read otherwise."""
-        told = ToldPanes()
+        told = PanesState()
         for line in ("bell 1 1",):
             self.assertTrue(told.take(line), line)
         clips = [f"clip 1 1 {text}" for text in NO_CLIPS] + ["clip 1 1", "clip 1 YQ==", "clip 1 1 YQ== YQ==", "clip 0 1 YQ=="]
@@ -75,14 +75,14 @@ class Modes(Case):
 
     def test_clip(self):
         """A text for the clipboard is base64, of 131,072 characters at most, and taken once; of another making of a pane it is nothing."""
-        told = ToldPanes()
+        told = PanesState()
         for line in ("1 1 1 23 80 1", "focus 1", "clip 1 2 YQ==", "clip 2 1 YQ=="):
             self.assertTrue(told.take(line), line)
         self.assertIsNone(told.taken_clip())
         for text in ("", "YQ==", "YWI=", "YWJj", "+/+/", "A" * 131072):
             self.assertTrue(told.take(f"clip 1 1 {text}"), text[:9])
             self.assertEqual((told.taken_clip(), told.taken_clip()), ((1, text), None))
-        self.assertEqual((told.lines(), told.lines_beside()), (["1 1 1 23 80 1", "focus 1"], {}))
+        self.assertEqual((told.lines(), told.metadata_lines()), (["1 1 1 23 80 1", "focus 1"], {}))
 
 
 class Sides(Case):
@@ -139,11 +139,11 @@ class Splits(Case):
 class Told(Case):
     """What is told at a socket `panes`."""
 
-    LINES = ["1 1 1 23 39 1", "2 1 41 23 40 7", "focus 2", "starts 3 of 64", "watchers 2 of 16"]
+    LINES = ["1 1 1 23 39 1", "2 1 41 23 40 7", "focus 2", "clients 3 of 64", "watchers 2 of 16"]
 
     def told(self, *lines):
         """What is known after some lines."""
-        known = ToldPanes()
+        known = PanesState()
         self.taken_lines = [known.take(line) for line in lines]
         return known
 
@@ -154,7 +154,7 @@ class Told(Case):
         self.assertEqual((known.places(), known.is_whole(), known.lines(), self.taken_lines), (wanted, True, self.LINES, [True] * 5))
         for count in range(3):
             self.assertEqual((self.told(*self.LINES[:count]).places(), self.told(*self.LINES[:count]).lines()), (None, []))
-        self.assertEqual(self.told(*self.LINES[:3]).places(), wanted._replace(starts=0, watchers=0))
+        self.assertEqual(self.told(*self.LINES[:3]).places(), wanted._replace(clients=0, watchers=0))
         self.assertFalse(self.told(*self.LINES[:4]).is_whole())
         known.take("1 gone")
         known.take("2 2 41 11 40 7")
@@ -166,20 +166,20 @@ class Told(Case):
     def test_forged(self):
         """What can't be told is nothing: another pane, a number that is large or none, more or fewer, an answer."""
         for line in ("", "0 1 1 23 80 1", "10 1 1 23 80 1", "1 1 1 23 80", "1 1 1 23 80 1 1", "1 1 1 23 12345 1", "1 1 1 23 x 1",
-                     "1 1 1 23 80 " + "1" * 20, "focus 0", "focus 10", "focus", "starts 12345 of 64", "starts", "bad line", "last pane",
+                     "1 1 1 23 80 " + "1" * 20, "focus 0", "focus 10", "focus", "clients 12345 of 64", "clients", "bad line", "last pane",
                      "1 gone ", " 1 gone", "1  1 1 23 80 1", "focus \u0662", "focus 1\x1b[2J"):
             self.assertEqual((self.told(line).lines(), self.taken_lines), ([], [False]), line)
 
-    def asked(self, *pieces, ends=False, seconds=5.0):
-        """What is asked of a server that says so much, piece by piece."""
+    def asked(self, *chunks, ends=False, seconds=5.0):
+        """What is asked of a server that says so much, chunk by chunk."""
         folder = self.made_folder()
         listener = self.listening(folder / "panes")
         listener.settimeout(5)
 
         def serve():
             with listener.accept()[0] as peer:
-                for piece in pieces:
-                    peer.send(piece)
+                for chunk in chunks:
+                    peer.send(chunk)
                     time.sleep(0.02)
                 while not ends and peer.recv(64):
                     pass
@@ -191,13 +191,13 @@ class Told(Case):
         return found
 
     def test_asked(self):
-        """It is asked once, whatever pieces the answer comes in; a count that isn't told is waited for a moment."""
+        """It is asked once, whatever chunks the answer comes in; a count that isn't told is waited for a moment."""
         text = "".join(f"{line}\n" for line in self.LINES).encode()
         wanted = Places({1: Rect(1, 1, 23, 39), 2: Rect(1, 41, 23, 40)}, 2, 3, 2)
         self.assertEqual(self.asked(text), wanted)
         self.assertEqual(self.asked(text[:5], text[5:40], text[40:]), wanted)
         begun = time.monotonic()
-        self.assertEqual(self.asked(text[: text.index(b"starts")]), wanted._replace(starts=0, watchers=0))
+        self.assertEqual(self.asked(text[: text.index(b"clients")]), wanted._replace(clients=0, watchers=0))
         self.assertLess(time.monotonic(), begun + 3)
 
     def test_not_told(self):
@@ -208,8 +208,8 @@ class Told(Case):
         self.assertIsNone(panes.asked_places(self.made_folder() / "panes", 0.05))
 
     def test_limits(self):
-        """A server knows 64 starts that edit, and a session has nine panes."""
-        self.assertEqual((panes.MOST_STARTS, panes.MOST_PANES), (64, 9))
+        """A server knows 64 clients that edit, and a session has nine panes."""
+        self.assertEqual((panes.MOST_CLIENTS, panes.MOST_PANES), (64, 9))
 
 
 if __name__ == "__main__":

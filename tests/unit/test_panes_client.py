@@ -10,8 +10,8 @@ from unittest import mock
 
 from aids import StillLoop
 from roam_live.protocol.panes import Places, Rect
-from roam_live.protocol.panes_client import (AWAITED, LET_GO, NOR_BELLS, NO_PLACE, PAUSES, QUIET, TELLS_NOTHING, UNTOLD, KeeperFollowing,
-                                             PanesFollower)
+from roam_live.protocol.panes_client import (AWAITED, LET_GO, NOR_BELLS, NO_PLACE, PAUSES, QUIET, TELLS_NOTHING, UNTOLD, HostSubscription,
+                                             PanesSubscriber)
 
 
 class Played(unittest.TestCase):
@@ -28,13 +28,13 @@ class Played(unittest.TestCase):
             patched.__enter__()
             self.addCleanup(patched.__exit__, None, None, None)
         self.loop, self.heard, self.losses = StillLoop(), [], 0
-        self.following = self.follows()
-        self.addCleanup(lambda: self.following.peer and self.following.peer.close())
+        self.subscription = self.follows()
+        self.addCleanup(lambda: self.subscription.peer and self.subscription.peer.close())
         self.server = self.taken()
 
     def follows(self):
-        """One who follows, as what keeps the shells does."""
-        return KeeperFollowing(str(self.path), self.loop, self.heard.extend, self.lose)
+        """One who follows, as the pty host does."""
+        return HostSubscription(str(self.path), self.loop, self.heard.extend, self.lose)
 
     def listens(self):
         """One who listens."""
@@ -69,14 +69,14 @@ class Played(unittest.TestCase):
 
 
 class Follows(Played):
-    """What keeps the shells follows."""
+    """The pty host follows."""
 
     def test_lines(self):
-        """Lines come in any pieces, and what is asked goes."""
+        """Lines come in any chunks, and what is asked goes."""
         self.server.send(b"1 1 1 23 80 1\nfoc")
         self.assertEqual(self.turn(), ["1 1 1 23 80 1"])
         self.server.send(b"us 1\n")
-        self.following.ask("close 1 1")
+        self.subscription.ask("close 1 1")
         self.assertEqual(self.turn(), ["focus 1"])
         self.assertEqual(self.server.recv(64), b"close 1 1\n")
         self.assertEqual(self.loop.due, {})
@@ -91,7 +91,7 @@ class Follows(Played):
         self.assertEqual(self.loop.due, {})
         self.server.send(b"focus 1\n")
         self.turn()
-        self.assertEqual((self.following.told, self.said.getvalue().count("the panes are followed again\n")), ("", 1))
+        self.assertEqual((self.subscription.told, self.said.getvalue().count("the panes are followed again\n")), ("", 1))
 
     def test_let_go(self):
         """A server that ends each connection is tried after pauses that grow, and that is told once, and that it is over."""
@@ -100,20 +100,20 @@ class Follows(Played):
             self.server.close()
             self.assertEqual(self.turn(), [])
             self.assertEqual(LET_GO in self.said.getvalue(), number > 0)
-            self.assertIsNone(self.following.peer)
+            self.assertIsNone(self.subscription.peer)
             self.assertEqual(self.turn(), [])
-            self.assertIsNone(self.following.peer)
+            self.assertIsNone(self.subscription.peer)
             tried.append(self.wait_again())
             self.turn()
             self.server = self.taken()
         self.assertEqual(self.losses, 9)
         self.assertEqual(tried, [*PAUSES, *[PAUSES[-1]] * 3])
-        self.assertFalse(self.following.is_gone)
+        self.assertFalse(self.subscription.is_gone)
         self.assertEqual(self.said.getvalue().count(f"the panes can't be followed: {LET_GO}\n"), 1)
         self.server.send(b"focus 1\n")
         self.assertEqual(self.turn(), ["focus 1"])
         self.assertEqual(self.said.getvalue().count("the panes are followed again\n"), 1)
-        self.assertEqual(self.following.faults, 0)
+        self.assertEqual(self.subscription.faults, 0)
 
     def test_once(self):
         """One end of a connection that was of use is made good without a word."""
@@ -139,18 +139,18 @@ class Follows(Played):
                 else:
                     self.listener.close()
                 self.turn()
-            self.assertEqual(self.following.is_gone, is_gone)
+            self.assertEqual(self.subscription.is_gone, is_gone)
         self.wait_again()
         self.path.unlink()
         self.turn()
-        self.assertTrue(self.following.is_gone)
+        self.assertTrue(self.subscription.is_gone)
         self.listener = self.listens()
         self.wait_again()
         self.turn()
-        self.assertFalse(self.following.is_gone)
+        self.assertFalse(self.subscription.is_gone)
 
     def test_put_out(self):
-        """One that was told something and ended soon is had again after pauses that grow: another keeper may have ended it."""
+        """One that was told something and ended soon is had again after pauses that grow: another host may have ended it."""
         waits = []
         for seconds in (0, 1, 2, 6, 0):
             self.server.send(b"focus 1\n")
@@ -163,8 +163,8 @@ class Follows(Played):
             self.server = self.taken()
         self.assertEqual(waits, [0.1, 1, 2, 0.1, 1])
 
-    def test_keeper(self):
-        """The server is told who keeps the shells, where it runs the program of these tools: at each connection, before all else."""
+    def test_host(self):
+        """The server is told the pty host, where it runs the program of these tools: at each connection, before all else."""
         self.turn()
         self.server.setblocking(False)
         with self.assertRaises(BlockingIOError):
@@ -174,10 +174,10 @@ class Follows(Played):
             self.turn()
             self.wait_again()
             self.turn()
-            self.following.ask("close 1 1")
+            self.subscription.ask("close 1 1")
             self.turn()
-        self.assertEqual(self.taken().recv(64), b"keeper\nbeside\nasks\nclose 1 1\n")
-        self.assertEqual(self.following.server, os.getpid())
+        self.assertEqual(self.taken().recv(64), b"host\nmetadata\nqueries\nclose 1 1\n")
+        self.assertEqual(self.subscription.server, os.getpid())
 
 
 class FrontEnds(Played):
@@ -186,8 +186,8 @@ class FrontEnds(Played):
     def follows(self):
         """A front end's, which says what it can't know."""
         self.words, self.changes = [], 0
-        self.panes = PanesFollower(self.path.parent, self.loop, self.change, self.words.append)
-        return self.panes.following
+        self.panes = PanesSubscriber(self.path.parent, self.loop, self.change, self.words.append)
+        return self.panes.subscription
 
     def change(self):
         """Takes note of news."""
@@ -207,9 +207,9 @@ class FrontEnds(Played):
         self.loop.turns(2)
         self.assertIn(b"alive\n", self.server.recv(256))
         self.told(b"bad line\n")
-        self.assertEqual((answers, self.panes.following.has_asked), ([1], True))
+        self.assertEqual((answers, self.panes.subscription.has_asked), ([1], True))
         self.told(b"bad line\n")
-        self.assertEqual((answers, self.panes.following.has_asked), ([1], False))
+        self.assertEqual((answers, self.panes.subscription.has_asked), ([1], False))
         for _ in range(9):
             self.panes.probe(lambda: answers.append(2))
         self.assertEqual(len(self.panes.probes), 4)
@@ -227,10 +227,10 @@ class FrontEnds(Played):
         """Places are known once the focus is, and each that is new is a change; the server is asked for what stands beside, and no more."""
         self.assertTrue(self.panes.is_awaited())
         self.loop.turns(1)
-        self.assertEqual(self.server.recv(64), b"beside\n")
+        self.assertEqual(self.server.recv(64), b"metadata\n")
         self.assertIsNone(self.told(b"1 1 1 23 80 1\nfoc"))
         wanted = Places({1: Rect(1, 1, 23, 80)}, 1, 64, 2)
-        self.assertEqual(self.told(b"us 1\nstarts 64 of 64\nwatchers 2 of 16\n"), wanted)
+        self.assertEqual(self.told(b"us 1\nclients 64 of 64\nwatchers 2 of 16\n"), wanted)
         self.assertEqual((self.changes, self.panes.is_awaited(), self.panes.is_full()), (1, False, True))
         self.assertEqual(self.told(b"focus 1\nbad line\n"), wanted)
         self.assertEqual(self.changes, 1)
@@ -240,10 +240,10 @@ class FrontEnds(Played):
         self.assertEqual(self.words, [])
 
     def test_beside(self):
-        """A server is asked for what stands beside the terminals, each time; by it a paste has brackets."""
+        """A server is asked for pane metadata, each time; by it a paste has brackets."""
         self.lose_again()
         self.loop.turns(2)
-        self.assertEqual(self.server.recv(64), b"beside\n")
+        self.assertEqual(self.server.recv(64), b"metadata\n")
         self.assertEqual((self.panes.wants_brackets(), self.panes.knows_modes()), (False, False))
         self.told(b"1 1 1 23 80 1\n2 1 1 23 80 1\nfocus 1\nmodes 1 1 paste\n")
         self.assertEqual((self.panes.wants_brackets(), self.panes.knows_modes()), (True, True))
@@ -251,7 +251,7 @@ class FrontEnds(Played):
         self.assertFalse(self.panes.wants_brackets())
         before = self.changes
         self.told(b"title 2 1 41\nshape 2 1 6\ntitle 1 1 42\n")
-        self.assertEqual((self.panes.aside, self.changes), (("A", 6), before + 1))
+        self.assertEqual((self.panes.title_and_shape, self.changes), (("A", 6), before + 1))
         self.told(b"title 1 1 43\n")
         self.assertEqual(self.changes, before + 1)
         self.lose_again()
@@ -277,8 +277,8 @@ class FrontEnds(Played):
 
     def test_clips(self):
         """Who sets a clipboard asks for texts too, at each connection; one of the pane in focus is told on, with its making, once."""
-        self.panes.following.ask("before")
-        self.assertEqual(self.follow_clips(), b"beside\nclips\n")
+        self.panes.subscription.ask("before")
+        self.assertEqual(self.follow_clips(), b"metadata\nclipboard\n")
         self.told(b"1 1 1 23 40 7\n2 1 42 23 39 1\nfocus 1\nclip 1 7 YQ==\n")
         self.told(b"clip 1 6 YWI=\nclip 2 1 YWI=\n")
         self.told(b"focus 2\n")
@@ -290,33 +290,33 @@ class FrontEnds(Played):
         self.told(b"\n")
         self.assertEqual(self.clips[2:], [(long, "2 1")])
         self.told(b"x" * 70000)
-        self.assertLessEqual(len(self.panes.following.lines.rest), 131072 + 64)
+        self.assertLessEqual(len(self.panes.subscription.lines.rest), 131072 + 64)
         self.now += 6
         self.lose_again()
         self.loop.turns(1)
-        self.assertEqual((self.server.recv(64), self.panes.making(1)), (b"beside\nclips\n", ""))
+        self.assertEqual((self.server.recv(64), self.panes.making(1)), (b"metadata\nclipboard\n", ""))
 
     def test_clips_unknown(self):
         """A server that doesn't know the word says so, and isn't asked again; the rest goes on."""
         self.follow_clips()
         self.told(b"1 1 1 23 80 1\nfocus 1\nbad line\nmodes 1 1 paste\n")
-        self.assertTrue(self.panes.wants_brackets() and self.panes.following.has_asked)
+        self.assertTrue(self.panes.wants_brackets() and self.panes.subscription.has_asked)
         self.lose_again()
         self.loop.turns(1)
-        self.assertEqual(self.server.recv(64), b"beside\n")
+        self.assertEqual(self.server.recv(64), b"metadata\n")
         self.told(b"bad line\n")
-        self.assertEqual((self.panes.following.has_asked, self.words), (False, []))
+        self.assertEqual((self.panes.subscription.has_asked, self.words), (False, []))
 
     def test_clips_refused(self):
         """One that lets go who asks for texts is followed without, and asked again a minute later."""
         self.follow_clips()
         self.lose_again()
         self.loop.turns(1)
-        self.assertEqual(self.server.recv(64), b"beside\n")
+        self.assertEqual(self.server.recv(64), b"metadata\n")
         self.told(b"1 1 1 23 80 1\nfocus 1\n")
         self.now += 60
         self.loop.turns(2)
-        self.assertEqual(self.server.recv(64), b"clips\n")
+        self.assertEqual(self.server.recv(64), b"clipboard\n")
 
     def test_let_go(self):
         """While nobody tells them the places aren't known; what comes next is told all anew."""
@@ -370,14 +370,14 @@ class FrontEnds(Played):
         self.assertEqual(self.words, [NOR_BELLS])
         self.path.unlink()
         self.listener = self.listens()
-        self.words, self.panes = [], PanesFollower(self.path.parent, self.loop, self.change, lambda line: self.words.append(line))
+        self.words, self.panes = [], PanesSubscriber(self.path.parent, self.loop, self.change, lambda line: self.words.append(line))
         self.server = self.taken()
         self.told(b"1 23 80\nfocus\n")
         self.told(b"1 23 40\n")
         self.assertEqual((self.words, self.panes.places), ([UNTOLD], None))
         (self.path.parent / "bells").touch()
         self.path.unlink()
-        self.words, self.panes = [], PanesFollower(self.path.parent, self.loop, self.change, lambda line: self.words.append(line))
+        self.words, self.panes = [], PanesSubscriber(self.path.parent, self.loop, self.change, lambda line: self.words.append(line))
         for _ in range(2):
             self.wait_again()
             self.loop.turns(2)
@@ -385,5 +385,5 @@ class FrontEnds(Played):
 
     def test_nowhere(self):
         """Without a folder nothing is followed, and nothing awaited."""
-        alone = PanesFollower(None, self.loop, self.change, self.words.append)
-        self.assertEqual((alone.is_awaited(), alone.places, alone.following.peer, self.words), (False, None, None, []))
+        alone = PanesSubscriber(None, self.loop, self.change, self.words.append)
+        self.assertEqual((alone.is_awaited(), alone.places, alone.subscription.peer, self.words), (False, None, None, []))

@@ -1,4 +1,4 @@
-"""What a person pastes: as acts where it is short, and else handed to the keeper of the shells, with a mark typed in its place."""
+"""What a person pastes: as acts where it is short, and else handed to the pty host, with a placeholder typed in its place."""
 import unittest
 from unittest import mock
 
@@ -7,16 +7,16 @@ from roam_live.frontend import paste
 from roam_live.frontend.paste import (BEHIND_IT, COUNTS, DROPPED, DROPS, ENDS, FULL_BEHIND, HANDING, LOST_WORDS, MOST_BEHIND, NOT_TAKEN,
                                       SHORT, TOO_LONG, Pastes, weight)
 from roam_live.input.keys import BRACKETS
-from roam_live.protocol.host_client import GIVES_AGAIN, LATER, MOST_GIVING, UNTOLD, ShellsLink
+from roam_live.protocol.host_client import LATER, MOST_UNSENT, STORES_AGAIN, UNTOLD, HostClient
 from roam_live.protocol.panes_client import PAUSES
-from roam_live.protocol.paste_text import FULL, mark_acts
-from test_display import Person, PlayedPanes, StartLink, places
+from roam_live.protocol.paste_text import FULL, placeholder_acts
+from test_display import ClientLink, Person, PlayedPanes, places
 from test_socket_server import Sockets
 
 LONG = "x" * (SHORT + 1)
 
 
-class Line(StartLink):
+class Line(ClientLink):
     """What is typed, a line each time."""
 
     def type(self, *acts, is_pasted=False):
@@ -24,19 +24,19 @@ class Line(StartLink):
         self.lines.append(("paste ; " if is_pasted else "") + " ; ".join(acts))
 
 
-class Shells:
-    """What the keeper is asked for, and what it tells is told by hand."""
+class PlayedHost:
+    """What the host is asked for, and what it tells is told by hand."""
 
     def __init__(self):
-        self.takes, self.gave, self.cancelled, self.answers, self.room = True, {}, [], None, None
+        self.takes, self.stored, self.cancelled, self.answers, self.room = True, {}, [], None, None
 
     def takes_texts(self):
         """Whether it takes texts."""
         return self.takes
 
-    def give(self, name, data):
+    def store(self, name, data):
         """Keeps what is given."""
-        self.gave[name] = data
+        self.stored[name] = data
 
     def has_room(self, length):
         """Whether so many bytes more may wait."""
@@ -48,13 +48,13 @@ class Shells:
 
 
 class Handed(Case):
-    """Pastes with a keeper that is played."""
+    """Pastes with a host that is played."""
 
     def setUp(self):
-        self.loop, self.link, self.shells, self.said = StillLoop(lambda: self.now), Line(), Shells(), []
+        self.loop, self.link, self.host, self.said = StillLoop(lambda: self.now), Line(), PlayedHost(), []
         self.panes = PlayedPanes(mock.Mock(told=None))
         self.why = ""
-        self.pastes = Pastes(self.link, self.panes, self.shells, self.loop, lambda: self.why, self.said.append)
+        self.pastes = Pastes(self.link, self.panes, self.host, self.loop, lambda: self.why, self.said.append)
         self.names = iter(f"{number:016x}" for number in range(1, 1000))
         self.patch_of(paste, "random_name", side_effect=lambda: next(self.names))
 
@@ -66,40 +66,40 @@ class Handed(Case):
         self.pastes.end()
 
     def tell(self, number, word, more=""):
-        """Has the keeper tell of a text."""
-        self.shells.answers(f"{number:016x}", word, more)
+        """Has the host tell of a text."""
+        self.host.answers(f"{number:016x}", word, more)
 
-    def mark(self, number):
-        """The line that types a mark."""
-        return " ; ".join(["paste", *mark_acts(f"{number:016x}")])
+    def placeholder(self, number):
+        """The line that types a placeholder."""
+        return " ; ".join(["paste", *placeholder_acts(f"{number:016x}")])
 
     def spread_line(self, number, pane):
-        """The line that types a mark in another pane than the third."""
-        return " ; ".join(["paste", f"focus {pane}", *mark_acts(f"{number:016x}"), "focus 3"])
+        """The line that types a placeholder in another pane than the third."""
+        return " ; ".join(["paste", f"focus {pane}", *placeholder_acts(f"{number:016x}"), "focus 3"])
 
     def test_spread(self):
-        """What is pasted in several panes is handed over for each, and each has a mark of its own; a C-c drops what waits of it."""
+        """What is pasted in several panes is handed over for each, and each has a placeholder of its own; a C-c drops what waits of it."""
         self.pastes.spreads = lambda: [3, 1, 2]
         self.paste("ab")
-        self.assertEqual(self.shells.gave, {f"{number:016x}": b"ab" for number in (1, 2, 3)})
-        self.tell(2, "held")
+        self.assertEqual(self.host.stored, {f"{number:016x}": b"ab" for number in (1, 2, 3)})
+        self.tell(2, "stored")
         self.assertEqual(self.link.lines, [])
-        self.tell(1, "held")
-        self.tell(3, "held")
-        self.assertEqual(self.link.lines, [self.mark(1), self.spread_line(2, 1), self.spread_line(3, 2)])
+        self.tell(1, "stored")
+        self.tell(3, "stored")
+        self.assertEqual(self.link.lines, [self.placeholder(1), self.spread_line(2, 1), self.spread_line(3, 2)])
         self.paste("ab")
         self.pastes.type_lines([["char 61", "focus 3"], ["char 3", "focus 3"]])
         self.assertEqual(self.link.lines[3:], ["focus 3", "char 3 ; focus 3"])
         self.assertEqual(self.said, [DROPPED])
 
     def test_unspread(self):
-        """Where what keeps the shells takes no texts, or not so many, the pane in focus has it alone, which is told."""
+        """Where the pty host takes no texts, or not so many, the pane in focus has it alone, which is told."""
         self.pastes.spreads = lambda: [3, 1]
         for takes, room, why in ((False, None, paste.NO_TEXTS), (True, 3, paste.NO_ROOM)):
-            self.shells.takes, self.shells.room = takes, room
+            self.host.takes, self.host.room = takes, room
             self.paste("ab")
             self.assertEqual((self.link.lines.pop(), self.said.pop()), ("paste ; char 61 ; char 62", paste.ALONE.format(why)))
-        self.shells.takes, self.shells.room = True, None
+        self.host.takes, self.host.room = True, None
         self.paste("ab")
         self.tell(2, UNTOLD)
         self.tell(1, UNTOLD)
@@ -114,34 +114,34 @@ class Handed(Case):
                                            "paste ; " + " ; ".join([*BRACKETS[0], "char 61", "char 62", *BRACKETS[1]])])
         self.paste("y" * SHORT)
         self.paste("\u00e9\r\n\x1b\x7f" + "z" * SHORT)
-        self.assertEqual((len(self.link.lines), self.shells.gave), (3, {f"{1:016x}": ("\u00e9\r" + "z" * SHORT).encode()}))
+        self.assertEqual((len(self.link.lines), self.host.stored), (3, {f"{1:016x}": ("\u00e9\r" + "z" * SHORT).encode()}))
         self.assertEqual((SHORT, HANDING, ENDS), (40, 60.0, 5.0))
 
     def test_modes_unknown(self):
         """Where it isn't told here whether the program wants brackets, as of another machine's, a short one is handed over too."""
         self.panes.knows = False
         self.paste("ab")
-        self.assertEqual((self.link.lines, list(self.shells.gave.values())), ([], [b"ab"]))
-        self.shells.takes = False
+        self.assertEqual((self.link.lines, list(self.host.stored.values())), ([], [b"ab"]))
+        self.host.takes = False
         self.paste("cd")
         self.assertEqual(self.link.lines, [])
         self.tell(1, UNTOLD)
         self.assertEqual(self.link.lines, ["paste ; char 61 ; char 62", "paste ; char 63 ; char 64"])
 
     def test_held(self):
-        """The mark is typed once the text is held, and what was typed behind it after that; other pastes in their order."""
+        """The placeholder is typed once the text is held, and what was typed behind it after that; other pastes in their order."""
         self.paste(LONG)
         self.pastes.type("char 61")
         self.paste(LONG)
         self.pastes.type("char 62", "key up")
         self.assertTrue(self.pastes.hands_over())
-        self.tell(2, "held")
+        self.tell(2, "stored")
         self.assertEqual(self.link.lines, [])
-        self.tell(1, "held")
-        self.assertEqual(self.link.lines, [self.mark(1), "char 61", self.mark(2), "char 62 ; key up"])
+        self.tell(1, "stored")
+        self.assertEqual(self.link.lines, [self.placeholder(1), "char 61", self.placeholder(2), "char 62 ; key up"])
         self.pastes.type("char 63")
         self.assertEqual((self.link.lines[-1], self.pastes.hands_over(), self.loop.due), ("char 63", False, {}))
-        self.tell(1, "put")
+        self.tell(1, "inserted")
         self.assertEqual(self.said, [])
         self.tell(2, "lost")
         self.assertEqual(self.said, [LOST_WORDS])
@@ -153,10 +153,10 @@ class Handed(Case):
         self.pastes.type("char 62")
         self.pastes.type_together("focus 1", "char 63")
         self.assertEqual(self.link.lines, ["focus 2 ; char 61"])
-        self.tell(1, "held")
-        self.assertEqual(self.link.lines[1:], [self.mark(1), "char 62", "focus 1 ; char 63"])
+        self.tell(1, "stored")
+        self.assertEqual(self.link.lines[1:], [self.placeholder(1), "char 62", "focus 1 ; char 63"])
 
-    def test_lost_before_held(self):
+    def test_lost_before_stored(self):
         """One that is lost before it is held is told of, and nothing is typed of it."""
         self.paste(LONG)
         self.pastes.type("char 61")
@@ -179,10 +179,10 @@ class Handed(Case):
         self.paste(LONG)
         self.tell(1, "refused", "it is lost")
         self.assertEqual(self.link.lines, ["size 24 80", "focus 1 ; focus 2 ; focus 1", "view 3 ; next ; char 62", "char 63"])
-        self.assertEqual((self.said, self.shells.cancelled), ([BEHIND_IT.format("nothing is pasted: it is lost")],
-                                                              [f"{1:016x}", f"{2:016x}"]))
-        self.tell(3, "held")
-        self.assertEqual(self.link.lines[4:], [self.mark(3)])
+        self.assertEqual((self.said, self.host.cancelled), ([BEHIND_IT.format("nothing is pasted: it is lost")],
+                                                            [f"{1:016x}", f"{2:016x}"]))
+        self.tell(3, "stored")
+        self.assertEqual(self.link.lines[4:], [self.placeholder(3)])
         # The focus is elsewhere since.
         self.pastes.type("char 64")
         self.assertEqual((self.link.lines[5:], self.pastes.behind), (["char 64"], 0))
@@ -193,7 +193,7 @@ class Handed(Case):
         for acts, typed in ((["char 3"], ["char 3"]), (["next"], ["next"]), (["focus 1", "char 66"], ["focus 1 ; char 66"]),
                             (["view 3", "char 66"], ["view 3"])):
             self.paste(LONG)
-            self.tell(len(self.shells.gave), "refused", "it is lost")
+            self.tell(len(self.host.stored), "refused", "it is lost")
             self.now += DROPS - 0.01
             self.pastes.type("char 61")
             self.pastes.type_lines([["char 61", "focus 2", "char 61", "focus 1"]])
@@ -226,31 +226,31 @@ class Handed(Case):
     def test_later(self):
         """One for which there is no room yet is waited for, and what was typed behind it too: that is told, and after 60 seconds why
         nothing came of it."""
-        for is_held in (True, False):
+        for is_stored in (True, False):
             self.link.lines.clear()
             self.said.clear()
             self.paste(LONG)
-            number = len(self.shells.gave)
+            number = len(self.host.stored)
             self.pastes.type("char 61")
             self.wait(30)
             self.tell(number, LATER, "64 texts wait to be pasted")
             self.assertEqual((self.link.lines, self.said), ([], ["what is pasted waits: 64 texts wait to be pasted"]))
-            if is_held:
-                self.tell(number, "held")
-                self.assertEqual(self.link.lines, [self.mark(number), "char 61"])
+            if is_stored:
+                self.tell(number, "stored")
+                self.assertEqual(self.link.lines, [self.placeholder(number), "char 61"])
                 continue
             self.wait(30)
             self.assertEqual((self.link.lines, self.said[1:]), ([], [BEHIND_IT.format("nothing is pasted: 64 texts wait to be pasted")]))
 
     def test_not_taken(self):
-        """A keeper that takes nothing for 60 seconds is told of, and what was typed behind it is dropped."""
+        """A host that takes nothing for 60 seconds is told of, and what was typed behind it is dropped."""
         self.paste(LONG)
         self.pastes.type("char 61")
         self.wait(59)
         self.assertEqual((self.link.lines, self.said), ([], []))
         self.wait(1)
-        self.assertEqual((self.link.lines, self.said, self.shells.cancelled), ([], [BEHIND_IT.format(NOT_TAKEN)], [f"{1:016x}"]))
-        self.tell(1, "held")
+        self.assertEqual((self.link.lines, self.said, self.host.cancelled), ([], [BEHIND_IT.format(NOT_TAKEN)], [f"{1:016x}"]))
+        self.tell(1, "stored")
         self.assertEqual((self.link.lines, self.loop.due, HANDING), ([], {}, 60.0))
 
     def test_interrupted(self):
@@ -267,35 +267,35 @@ class Handed(Case):
         self.assertEqual((self.link.lines, self.said), (["next", "size 24 80", "char 63 ; char 3"], [DROPPED]))
         self.pastes.type("char 3")
         self.assertEqual(self.link.lines[3:], ["char 3"])
-        self.assertEqual((self.loop.due, self.shells.cancelled), ({}, [f"{1:016x}", f"{2:016x}"]))
+        self.assertEqual((self.loop.due, self.host.cancelled), ({}, [f"{1:016x}", f"{2:016x}"]))
 
     def test_interrupted_sent(self):
-        """So goes what of pastes the start hasn't read, and of a text whose mark is dropped nothing is awaited any more."""
-        self.link.drop_pasted = mock.Mock(return_value=["paste ; char 61", self.spread_line(7, 2), self.mark(8), "char 62"])
+        """So goes what of pastes the start hasn't read, and of a text whose placeholder is dropped nothing is awaited any more."""
+        self.link.drop_pasted = mock.Mock(return_value=["paste ; char 61", self.spread_line(7, 2), self.placeholder(8), "char 62"])
         self.pastes.type("char 61")
         self.assertEqual((self.link.drop_pasted.call_count, self.said), (0, []))
         self.pastes.type("char 3")
-        self.assertEqual((self.shells.cancelled, self.said, self.link.lines[1:]), ([f"{7:016x}", f"{8:016x}"], [DROPPED], ["char 3"]))
+        self.assertEqual((self.host.cancelled, self.said, self.link.lines[1:]), ([f"{7:016x}", f"{8:016x}"], [DROPPED], ["char 3"]))
 
-    def test_interrupted_held(self):
-        """That holds too where the keeper holds a later paste, which the first alone keeps back: nothing of it is typed."""
+    def test_interrupted_stored(self):
+        """That holds too where the host holds a later paste, which the first alone keeps back: nothing of it is typed."""
         self.paste(LONG)
         self.paste(LONG)
         self.pastes.type("char 61")
         self.paste(LONG)
         self.tell(1, LATER, "16 MB wait to be pasted")
-        self.tell(2, "held")
+        self.tell(2, "stored")
         self.pastes.type("char 3")
         self.assertEqual((self.link.lines, self.said[1:], self.loop.due), (["char 3"], [DROPPED], {}))
-        self.assertEqual((self.shells.cancelled, self.pastes.hands_over()), ([f"{number:016x}" for number in (1, 2, 3)], False))
-        self.tell(3, "held")
+        self.assertEqual((self.host.cancelled, self.pastes.hands_over()), ([f"{number:016x}" for number in (1, 2, 3)], False))
+        self.tell(3, "stored")
         self.paste(LONG)
-        self.tell(4, "held")
-        self.assertEqual(self.link.lines[1:], [self.mark(4)])
+        self.tell(4, "stored")
+        self.assertEqual(self.link.lines[1:], [self.placeholder(4)])
 
-    def test_no_keeper(self):
-        """Where no keeper takes texts a long one goes as acts too."""
-        self.panes.brackets, self.shells.takes = True, False
+    def test_no_host(self):
+        """Where no host takes texts a long one goes as acts too."""
+        self.panes.brackets, self.host.takes = True, False
         self.paste(LONG)
         alone = Pastes(self.link, self.panes, None, self.loop, lambda: "", self.said.append)
         alone.begin()
@@ -308,7 +308,7 @@ class Handed(Case):
         """Nothing of one is typed where it is told why, as it begins or ends; it takes no memory meanwhile."""
         self.pastes.begin("not here")
         self.pastes.add(LONG)
-        self.assertEqual(self.pastes.pieces, [])
+        self.assertEqual(self.pastes.chunks, [])
         self.pastes.end()
         for before, behind in (("not now", ""), ("", "not then")):
             self.why = before
@@ -316,7 +316,7 @@ class Handed(Case):
             self.pastes.add(LONG)
             self.why = behind
             self.pastes.end()
-        self.assertEqual((self.said, self.link.lines, self.shells.gave), (["not here", "not now", "not then"], [], {}))
+        self.assertEqual((self.said, self.link.lines, self.host.stored), (["not here", "not now", "not then"], [], {}))
 
     def test_unended(self):
         """One of which nothing more comes for five seconds is typed; what comes later is a paste of its own."""
@@ -331,7 +331,7 @@ class Handed(Case):
 
     def test_too_long(self):
         """More than 16 MB is told of, and not kept; so is what is that long in UTF-8, or with what waits."""
-        self.assertEqual((paste.MOST_BYTES, MOST_GIVING), (1 << 24, 1 << 25))
+        self.assertEqual((paste.MOST_BYTES, MOST_UNSENT), (1 << 24, 1 << 25))
         self.patch_of(paste, "MOST_BYTES", 1000)
         for text, before in (("x" * 1001, 0), ("\u4e2d" * 500, 0), ("x" * 990, 1)):
             if before:
@@ -339,11 +339,11 @@ class Handed(Case):
             self.pastes.begin()
             self.pastes.add(text)
             self.pastes.end()
-        self.assertEqual((self.said, len(self.shells.gave), self.pastes.size), ([TOO_LONG] * 3, 1, 0))
-        self.shells.room = len(LONG)
+        self.assertEqual((self.said, len(self.host.stored), self.pastes.size), ([TOO_LONG] * 3, 1, 0))
+        self.host.room = len(LONG)
         self.paste(LONG)
         self.paste(LONG + "x")
-        self.assertEqual((self.said[3:], len(self.shells.gave)), ([TOO_LONG], 2))
+        self.assertEqual((self.said[3:], len(self.host.stored)), ([TOO_LONG], 2))
 
     def test_full(self):
         """So many keys are typed behind one before others are dropped, which is told: not C-c, which drops all, nor other acts."""
@@ -357,7 +357,7 @@ class Handed(Case):
         self.pastes.type("focus 1", "char 62")
         self.pastes.type_lines([["char 62", "focus 2", "char 62", "focus 1"]])
         self.assertEqual((set(self.said), weight(self.pastes.waiting)), ({FULL_BEHIND}, MOST_BEHIND + 4))
-        self.tell(1, "held")
+        self.tell(1, "stored")
         self.assertFalse(self.pastes.is_full())
         self.assertEqual((self.link.lines[3:], self.pastes.behind), (["next", "view 3", "focus 1"], 0))
         self.paste(LONG)
@@ -367,12 +367,12 @@ class Handed(Case):
 
 
 class Given(Sockets):
-    """Texts that a front end's connection gives to the keeper."""
+    """Texts that a front end's connection gives to the host."""
 
     def setUp(self):
         super().setUp()
         self.told = []
-        self.made_link = ShellsLink(self.folder, StillLoop(lambda: self.now), lambda: (24, 80), False, lambda: None)
+        self.made_link = HostClient(self.folder, StillLoop(lambda: self.now), lambda: (24, 80), False, lambda: None)
         self.made_link.answers = lambda *words: self.told.append(words)
         self.addCleanup(self.made_link.leave)
         self.names = [f"{number:016x}" for number in range(5)]
@@ -387,142 +387,142 @@ class Given(Sockets):
         """A text is held, and put; what isn't known here is nothing."""
         link = self.made_link
         self.assertTrue(link.takes_texts())
-        link.give(self.names[0], b"text" * 50000)
+        link.store(self.names[0], b"text" * 50000)
         self.turn()
-        self.assertEqual((self.told, link.giving), ([(self.names[0], "held", "")], {}))
+        self.assertEqual((self.told, link.unstored), ([(self.names[0], "stored", "")], {}))
         self.socket.texts.placed(self.names[0])
         self.turn()
-        self.assertEqual((self.told[1:], link.given), ([(self.names[0], "put", "")], {}))
-        link.take([f"held {self.names[3]}", f"lost {self.names[0]}", f"put {self.names[0]}"])
+        self.assertEqual((self.told[1:], link.stored), ([(self.names[0], "inserted", "")], {}))
+        link.take([f"stored {self.names[3]}", f"lost {self.names[0]}", f"inserted {self.names[0]}"])
         self.assertEqual(len(self.told), 2)
 
     def test_refused(self):
-        """One that is refused is told with the words of the keeper."""
+        """One that is refused is told with the words of the host."""
         self.turn()
         with mock.patch.object(self.socket.texts, "refusal", return_value="none is taken"):
-            self.made_link.give(self.names[0], b"text")
+            self.made_link.store(self.names[0], b"text")
             self.turn()
-        self.assertEqual((self.told, self.made_link.giving), ([(self.names[0], "refused", "none is taken")], {}))
+        self.assertEqual((self.told, self.made_link.unstored), ([(self.names[0], "refused", "none is taken")], {}))
 
     def test_no_room(self):
-        """Those for which the keeper has no room are given again, one after the other, until it has."""
+        """Those for which the host has no room are given again, one after the other, until it has."""
         link, names = self.made_link, self.names
         self.turn()
         for refusal in FULL:
             self.told.clear()
             with mock.patch.object(self.socket.texts, "refusal", side_effect=["", refusal, refusal]):
                 for name in names[:3]:
-                    link.give(name, b"text")
+                    link.store(name, b"text")
                 self.turn()
-                link.give(names[3], b"text")
+                link.store(names[3], b"text")
                 self.turn()
-            self.assertEqual(self.told, [(names[0], "held", ""), *((name, LATER, refusal) for name in names[1:3])])
-            self.assertEqual(list(link.giving), names[1:4])
-            self.now += GIVES_AGAIN
+            self.assertEqual(self.told, [(names[0], "stored", ""), *((name, LATER, refusal) for name in names[1:3])])
+            self.assertEqual(list(link.unstored), names[1:4])
+            self.now += STORES_AGAIN
             with mock.patch.object(self.socket.texts, "refusal", side_effect=["", refusal]) as asked:
                 self.turn()
-            self.assertEqual((self.told[3:], asked.call_count), ([(names[1], "held", ""), (names[2], LATER, refusal)], 2))
-            self.now += GIVES_AGAIN
+            self.assertEqual((self.told[3:], asked.call_count), ([(names[1], "stored", ""), (names[2], LATER, refusal)], 2))
+            self.now += STORES_AGAIN
             self.turn()
-            self.assertEqual((self.told[5:], link.giving), ([(name, "held", "") for name in names[2:4]], {}))
-            link.give(names[4], b"text")
+            self.assertEqual((self.told[5:], link.unstored), ([(name, "stored", "") for name in names[2:4]], {}))
+            link.store(names[4], b"text")
             self.turn()
-            self.assertEqual((self.told[7:], self.socket.texts.coming), ([(names[4], "held", "")], 0))
+            self.assertEqual((self.told[7:], self.socket.texts.coming), ([(names[4], "stored", "")], 0))
             for name in names:
                 self.socket.texts.drop(self.socket.texts.placed(name))
             names = self.names = [f"{number:016x}" for number in range(5, 10)]
             self.turn()
 
     def test_no_room_at_the_next(self):
-        """A keeper that is there again is given all that waits at once; who doesn't want a text any more keeps none back."""
+        """A host that is there again is given all that waits at once; who doesn't want a text any more keeps none back."""
         link, names = self.made_link, self.names
         self.turn()
         with mock.patch.object(self.socket.texts, "refusal", return_value=FULL[0]):
             for name in names[:3]:
-                link.give(name, b"text")
+                link.store(name, b"text")
             self.turn()
-        self.assertEqual((list(link.giving), link.is_full), (names[:3], True))
+        self.assertEqual((list(link.unstored), link.is_full), (names[:3], True))
         link.cancel(names[0])
         self.socket.drop(self.socket.peers[0])
         self.turn(2)
         self.now += PAUSES[0]
         self.turn()
-        self.assertEqual(([word for _, word, _ in self.told[3:]], link.is_full), (["held", "held"], False))
+        self.assertEqual(([word for _, word, _ in self.told[3:]], link.is_full), (["stored", "stored"], False))
         with mock.patch.object(self.socket.texts, "refusal", return_value=FULL[0]):
-            link.give(names[3], b"text")
-            link.give(names[4], b"text")
+            link.store(names[3], b"text")
+            link.store(names[4], b"text")
             link.cancel(names[3])
             self.turn()
         self.assertEqual(self.told[5:], [(names[4], LATER, FULL[0])])
-        self.now += GIVES_AGAIN
+        self.now += STORES_AGAIN
         self.turn()
-        self.assertEqual((self.told[6:], link.is_full), ([(names[4], "held", "")], False))
+        self.assertEqual((self.told[6:], link.is_full), ([(names[4], "stored", "")], False))
 
     def test_lost(self):
         """Where the connection is lost a text is given again until it is held; of one that was held it is asked then."""
         link = self.made_link
         self.turn()
-        link.give(self.names[0], b"one")
+        link.store(self.names[0], b"one")
         self.turn()
-        link.give(self.names[1], b"two" * 100000)
+        link.store(self.names[1], b"two" * 100000)
         link.loop.turn()
         self.socket.drop(self.socket.peers[0])
         self.turn(2)
-        self.assertEqual((list(link.giving), list(link.given), self.socket.texts.coming), ([self.names[1]], [self.names[0]], 0))
+        self.assertEqual((list(link.unstored), list(link.stored), self.socket.texts.coming), ([self.names[1]], [self.names[0]], 0))
         self.socket.texts.placed(self.names[0])
         self.now += PAUSES[0]
         self.turn()
-        self.assertEqual(self.told, [(self.names[0], "held", ""), (self.names[1], "held", ""), (self.names[0], "put", "")])
+        self.assertEqual(self.told, [(self.names[0], "stored", ""), (self.names[1], "stored", ""), (self.names[0], "inserted", "")])
         self.assertEqual(self.socket.texts.texts[self.names[1]].data, b"two" * 100000)
 
-    def test_another_keeper(self):
-        """What one before held, or was given, is lost to another keeper, which isn't given it."""
+    def test_another_host(self):
+        """What one before held, or was given, is lost to another host, which isn't given it."""
         self.turn()
-        self.made_link.give(self.names[0], b"one")
+        self.made_link.store(self.names[0], b"one")
         self.turn()
-        self.made_link.give(self.names[1], b"two")
+        self.made_link.store(self.names[1], b"two")
         self.socket.close()
         self.turn(2)
         self.socket = type(self.socket)(self.folder, self.loop)
         self.addCleanup(self.socket.close)
         self.now += PAUSES[0]
         self.turn()
-        self.assertEqual(self.told, [(self.names[0], "held", ""), *((name, "lost", "") for name in self.names[:2])])
-        self.assertEqual((self.socket.texts.texts, self.made_link.giving, self.made_link.given), ({}, {}, {}))
-        self.made_link.give(self.names[2], b"three")
+        self.assertEqual(self.told, [(self.names[0], "stored", ""), *((name, "lost", "") for name in self.names[:2])])
+        self.assertEqual((self.socket.texts.texts, self.made_link.unstored, self.made_link.stored), ({}, {}, {}))
+        self.made_link.store(self.names[2], b"three")
         self.turn()
-        self.assertEqual(self.told[3:], [(self.names[2], "held", "")])
+        self.assertEqual(self.told[3:], [(self.names[2], "stored", "")])
 
     def test_none(self):
         """A socket that ends the connection before it tells anything takes no text, which is told at once."""
         folder = self.made_folder()
-        listener = self.listening(folder / "shells")
-        link = ShellsLink(folder, StillLoop(lambda: self.now), lambda: (24, 80), False, lambda: None)
+        listener = self.listening(folder / "host")
+        link = HostClient(folder, StillLoop(lambda: self.now), lambda: (24, 80), False, lambda: None)
         link.answers = lambda *words: self.told.append(words)
         self.assertTrue(link.takes_texts())
-        link.give(self.names[0], b"one")
+        link.store(self.names[0], b"one")
         self.taken(listener).close()
         link.loop.turn()
         link.loop.turn()
-        self.assertEqual((self.told, link.takes_texts(), link.giving), ([(self.names[0], UNTOLD, "")], False, {}))
+        self.assertEqual((self.told, link.takes_texts(), link.unstored), ([(self.names[0], UNTOLD, "")], False, {}))
 
     def test_cancelled(self):
         """One that isn't wanted any more isn't given again, nor at all where nothing of it was sent; what was begun of it goes on."""
         link, names = self.made_link, self.names
         self.turn()
         for name, data in zip(names, (b"one", b"two", 7)):
-            link.give(name, data)
+            link.store(name, data)
         for name in (names[0], names[0], names[2]):
             link.cancel(name)
-        self.assertEqual((link.waiting, link.asked), (f"give {names[1]} 3\ntwo".encode(), {names[1]}))
-        room = MOST_GIVING - len(link.waiting)
+        self.assertEqual((link.waiting, link.asked), (f"paste {names[1]} 3\ntwo".encode(), {names[1]}))
+        room = MOST_UNSENT - len(link.waiting)
         self.assertEqual([link.has_room(length) for length in (room + 1, room)], [False, True])
         self.turn()
-        link.give(names[3], b"x" * 900000)
+        link.store(names[3], b"x" * 900000)
         link.loop.turn()
         link.cancel(names[3])
         self.turn(60)
-        self.assertEqual((self.told, list(self.socket.texts.texts)), ([(names[1], "held", "")], [names[1], names[3]]))
+        self.assertEqual((self.told, list(self.socket.texts.texts)), ([(names[1], "stored", "")], [names[1], names[3]]))
 
 
 class Persons(unittest.TestCase):
@@ -534,9 +534,9 @@ class Persons(unittest.TestCase):
         person.answers()
         return person
 
-    def test_watches(self):
+    def test_read_only(self):
         """At a terminal that watches nothing is pasted, and it says so."""
-        person = self.person(watches=True)
+        person = self.person(is_read_only=True)
         acts = person.types(b"\x1b[200~ab\x1b[201~")
         self.assertEqual((acts, person.display.told), ([], "nothing is pasted: this terminal only watches"))
 

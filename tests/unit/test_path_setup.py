@@ -1,4 +1,4 @@
-"""Asking for a sealed path: names, keys and notes; a process that outlives its command; and where the other end is looked for."""
+"""Asking for an encrypted path: names, keys and notes; a process that outlives its command; and where the other end is looked for."""
 import errno
 import gc
 import os
@@ -15,8 +15,8 @@ from unittest import mock
 from aids import Case
 from roam_live.common.process import TOOLS, begun
 from roam_live.relay import path_setup
-from roam_live.relay.aead_packets import Seal, udp_end
-from roam_live.relay.path_setup import (ASKS_AGAIN, SEALED_HEAD, Finder, NearPath, address_in, forget_note, is_wanted, kept_name, made_path,
+from roam_live.relay.aead_packets import AeadPackets, udp_end
+from roam_live.relay.path_setup import (AEAD_HEAD, ASKS_AGAIN, Finder, NearPath, address_in, forget_note, is_wanted, kept_name, made_path,
                                         name_in, near_path, noted, part_from_command, take_over, wish)
 from test_aead_packets import Foolish
 
@@ -45,7 +45,7 @@ class Asks(Case):
         self.environment(ROAM_UDP=None)
         self.patch_of(path_setup, "cipher", return_value=None)
         self.assertFalse(is_wanted())
-        self.assertIsNone(near_path(SEALED_HEAD.pack(b"s", 1, 60000, bytes(32))))
+        self.assertIsNone(near_path(AEAD_HEAD.pack(b"s", 1, 60000, bytes(32))))
         end = udp_end()
         self.assertIsNone(made_path(end))
         self.assertEqual(end.fileno(), -1)
@@ -77,22 +77,22 @@ class Asks(Case):
         end = udp_end((60999, 60998, 60997))
         self.addCleanup(end.close)
         path, told = made_path(end)
-        kind, version, port, key = SEALED_HEAD.unpack_from(told)
-        self.assertEqual((kind, version, port, told[SEALED_HEAD.size :]), (b"s", 1, end.getsockname()[1], b"10.0.0.2"))
-        self.assertEqual((path.seal.cipher.key, path.seal.is_near), (key, False))
+        kind, version, port, key = AEAD_HEAD.unpack_from(told)
+        self.assertEqual((kind, version, port, told[AEAD_HEAD.size :]), (b"s", 1, end.getsockname()[1], b"10.0.0.2"))
+        self.assertEqual((path.aead.cipher.key, path.aead.is_near), (key, False))
         near = near_path(told)
         self.addCleanup(near.close)
-        self.assertEqual((near.seal.cipher.key, near.seal.is_near, near.port, near.address), (key, True, port, "10.0.0.2"))
+        self.assertEqual((near.aead.cipher.key, near.aead.is_near, near.port, near.address), (key, True, port, "10.0.0.2"))
         for words, address in (("", b""), ("only three words", b""), ("a b fe80::1%eth0 22", b"fe80::1%eth0")):
             self.environment(SSH_CONNECTION=words)
-            self.assertEqual(made_path(end)[1][SEALED_HEAD.size :], address)
+            self.assertEqual(made_path(end)[1][AEAD_HEAD.size :], address)
         self.assertNotEqual(made_path(end)[1], made_path(end)[1])
 
     def test_told_wrong(self):
         """A path of another version, of a port that no far end takes, or cut, is none; nor is one where no socket is had."""
-        right = SEALED_HEAD.pack(b"s", 1, 60000, bytes(32))
-        for text in (b"s", right[:-1], SEALED_HEAD.pack(b"s", 2, 60000, bytes(32)), SEALED_HEAD.pack(b"s", 1, 53, bytes(32)),
-                     SEALED_HEAD.pack(b"s", 1, 61001, bytes(32))):
+        right = AEAD_HEAD.pack(b"s", 1, 60000, bytes(32))
+        for text in (b"s", right[:-1], AEAD_HEAD.pack(b"s", 2, 60000, bytes(32)), AEAD_HEAD.pack(b"s", 1, 53, bytes(32)),
+                     AEAD_HEAD.pack(b"s", 1, 61001, bytes(32))):
             self.assertIsNone(near_path(text), text)
         with mock.patch.object(path_setup, "udp_end", return_value=None):
             self.assertIsNone(near_path(right))
@@ -249,7 +249,7 @@ class Finds(Case):
         """A near end's path."""
         end = udp_end()
         self.addCleanup(end.close)
-        return NearPath(Seal(Foolish(b""), True), end, 60000, address)
+        return NearPath(AeadPackets(Foolish(b""), True), end, 60000, address)
 
     def look(self, path):
         """Looks, and waits for what is found."""
@@ -269,7 +269,7 @@ class Finds(Case):
         self.look(path)
         self.assertEqual(len(self.asked), 4)
         self.now += 60
-        with mock.patch.object(path, "is_sound", return_value=True):
+        with mock.patch.object(path, "is_validated", return_value=True):
             self.look(path)
         self.assertEqual(len(self.asked), 4)
 

@@ -1,4 +1,4 @@
-"""Texts that are given to the keeper of shells, and put at the places of their marks."""
+"""Texts that are given to the pty host, and put at the places of their placeholders."""
 import os
 import random
 import re
@@ -10,20 +10,20 @@ from aids import Case, StillLoop, read_now
 from roam_live.common import tty
 from roam_live.common.event_loop import comes
 from roam_live.host import input_queue, pane
-from roam_live.host.input_queue import Marks, TypedQueue
-from roam_live.host.pending_pastes import KEPT, MOST_SPENT, GivenText, GivenTexts
+from roam_live.host.input_queue import Placeholders, TypedQueue
+from roam_live.host.pending_pastes import KEPT, MOST_SPENT, PendingPaste, PendingPastes
 from roam_live.host.socket_server import LONGEST_LINE
 from roam_live.protocol import paste_text
-from roam_live.protocol.paste_text import (CLOSES, HELD, LOST, MOST_BYTES, MOST_TEXTS, OPENS, PUT, TOO_LONG, TOO_MANY, cleaned, mark_acts,
-                                           random_name, without_brackets)
+from roam_live.protocol.paste_text import (CLOSES, INSERTED, LOST, MOST_BYTES, MOST_TEXTS, OPENS, STORED, TOO_LONG, TOO_MANY, cleaned,
+                                           placeholder_acts, random_name, without_brackets)
 from test_socket_server import NAMED, Sockets
 
 NAME, OTHER = "0123456789abcdef", "fedcba9876543210"
 
 
-def mark(name):
-    """The bytes of a mark, as its acts type them."""
-    return "".join(chr(int(act.removeprefix("char "), 16)) for act in mark_acts(name)).encode()
+def placeholder(name):
+    """The bytes of a placeholder, as its acts type them."""
+    return "".join(chr(int(act.removeprefix("char "), 16)) for act in placeholder_acts(name)).encode()
 
 
 class Texts(unittest.TestCase):
@@ -50,11 +50,11 @@ class Texts(unittest.TestCase):
             text = b"".join(chance.choice((b"\x1b", b"\x1b[", b"20", b"0", b"1", b"~", b"1~", b"\x9b", b"x")) for _ in range(60))
             self.assertIsNone(re.search(rb"(\x1b\[|\x9b)20[01]~", without_brackets(text)), text)
 
-    def test_mark(self):
-        """A mark stands in a line that is taken whole, and is one name of 64 bits by chance."""
-        self.assertEqual(mark(NAME), b"\xc2\x9f0123456789abcdef\xc2\x9c")
-        self.assertEqual(mark_acts(NAME)[:2] + mark_acts(NAME)[-1:], ["char 9f", "char 30", "char 9c"])
-        self.assertLessEqual(len(mark_acts(NAME)) + 3, 32)
+    def test_placeholder(self):
+        """A placeholder stands in a line that is taken whole, and is one name of 64 bits by chance."""
+        self.assertEqual(placeholder(NAME), b"\xc2\x9f0123456789abcdef\xc2\x9c")
+        self.assertEqual(placeholder_acts(NAME)[:2] + placeholder_acts(NAME)[-1:], ["char 9f", "char 30", "char 9c"])
+        self.assertLessEqual(len(placeholder_acts(NAME)) + 3, 32)
         self.assertEqual(len({random_name() for _ in range(100)}), 100)
         self.assertTrue(re.fullmatch("[0-9a-f]{16}", random_name()))
 
@@ -62,20 +62,20 @@ class Texts(unittest.TestCase):
 class Found(unittest.TestCase):
     """Marks in what is typed."""
 
-    def found(self, pieces):
-        """The bytes and the names of pieces, joined where nothing is between."""
-        marks, parts = Marks(), [b""]
-        for piece in pieces:
-            for place, part in enumerate(marks.fed(piece)):
+    def found(self, chunks):
+        """The bytes and the names of chunks, joined where nothing is between."""
+        placeholders, parts = Placeholders(), [b""]
+        for chunk in chunks:
+            for place, part in enumerate(placeholders.fed(chunk)):
                 if place % 2:
                     parts += [part, b""]
                 else:
                     parts[-1] += part
-        return parts, marks.rest
+        return parts, placeholders.rest
 
     def test_cut(self):
         """They are found wherever what is typed is cut, and nothing else is changed."""
-        text = b"a" + mark(NAME) + "\u00e9\u00b0".encode() + mark(OTHER) + mark(NAME) + b"\xc2\x9fz"
+        text = b"a" + placeholder(NAME) + "\u00e9\u00b0".encode() + placeholder(OTHER) + placeholder(NAME) + b"\xc2\x9fz"
         wanted = [b"a", NAME.encode(), "\u00e9\u00b0".encode(), OTHER.encode(), b"", NAME.encode(), b"\xc2\x9fz"]
         for first in range(len(text) + 1):
             for second in range(first, len(text) + 1):
@@ -83,8 +83,8 @@ class Found(unittest.TestCase):
         self.assertEqual(self.found([bytes([byte]) for byte in text]), (wanted, b""))
 
     def test_others(self):
-        """C2 9F with anything else behind is handed on as it was typed; what may be a mark waits for what follows."""
-        whole = mark(NAME)
+        """C2 9F with anything else behind is handed on as it was typed; what may be a placeholder waits for what follows."""
+        whole = placeholder(NAME)
         for text in (whole[:5] + b"x", whole[:-2] + b"x", whole[:-1] + b"x", whole[:-2] + b"0" + whole[-2:], whole.upper(), b"\xc2\x9c",
                      b"\x9f" + whole[2:], b"\xc2\x9f\x1b", whole.replace(b"a", b"g")):
             self.assertEqual(self.found([text]), ([text], b""), text)
@@ -99,7 +99,7 @@ class Unread(Case):
 
     def setUp(self):
         self.loop = StillLoop(lambda: self.now)
-        self.texts = GivenTexts(self.loop, lambda name, word: None)
+        self.texts = PendingPastes(self.loop, lambda name, word: None)
         self.queue = TypedQueue(self.texts, lambda: True)
         asked = pane.Options(folder="/nowhere", command=["sh"])
         self.pane = pane.PaneCommand(asked, self.loop, 1, 4, (24, 80), False, "", self.queue)
@@ -113,8 +113,8 @@ class Unread(Case):
         """Writes what the terminal takes, of texts of these names too."""
         for name in names:
             self.texts.spent.clear()
-            self.texts.take(GivenText(name, b"line of a text\n" * 4000, False))
-            self.queue.take(mark(name))
+            self.texts.take(PendingPaste(name, b"line of a text\n" * 4000, False))
+            self.queue.take(placeholder(name))
         for _ in range(40):
             self.queue.write(self.master)
 
@@ -164,14 +164,14 @@ class Queues(Case):
 
     def setUp(self):
         self.loop, self.told = StillLoop(lambda: self.now), []
-        self.texts = GivenTexts(self.loop, lambda name, word: self.told.append((name, word)))
+        self.texts = PendingPastes(self.loop, lambda name, word: self.told.append((name, word)))
         self.wants = True
         self.queue = TypedQueue(self.texts, lambda: self.wants)
         self.reader, self.writer = self.pipe()
 
     def give(self, name, data, is_plain=False):
         """Gives a text."""
-        self.texts.take(GivenText(name, data, is_plain))
+        self.texts.take(PendingPaste(name, data, is_plain))
 
     def written(self):
         """What the programs read until nothing waits."""
@@ -191,35 +191,35 @@ class Queues(Case):
             pass
 
     def test_put(self):
-        """A text is put at its mark, once, between brackets where the program wants them as it begins."""
+        """A text is put at its placeholder, once, between brackets where the program wants them as it begins."""
         self.give(NAME, b"two\rlines")
-        self.queue.take(b"a" + mark(NAME) + b"b" + mark(NAME) + b"c")
-        self.assertEqual((self.told, self.texts.state(NAME)), ([(NAME, PUT)], PUT))
+        self.queue.take(b"a" + placeholder(NAME) + b"b" + placeholder(NAME) + b"c")
+        self.assertEqual((self.told, self.texts.state(NAME)), ([(NAME, INSERTED)], INSERTED))
         self.assertEqual(self.written(), b"a" + OPENS + b"two\rlines" + CLOSES + b"bc")
-        self.queue.take(mark(NAME) + b"d")
-        self.assertEqual((self.written(), self.texts.texts, self.texts.state(NAME)), (b"d", {}, PUT))
+        self.queue.take(placeholder(NAME) + b"d")
+        self.assertEqual((self.written(), self.texts.texts, self.texts.state(NAME)), (b"d", {}, INSERTED))
         self.wants = False
         self.give(OTHER, b"text")
-        self.queue.take(mark(OTHER))
+        self.queue.take(placeholder(OTHER))
         self.assertEqual(self.written(), b"text")
 
     def test_plain(self):
         """A plain one has no brackets, and one between brackets has none in it."""
         self.give(NAME, b"text", True)
         self.give(OTHER, b"\x1b[20\x1b[201~1~\x1b[mtext")
-        self.queue.take(mark(NAME) + mark(OTHER))
+        self.queue.take(placeholder(NAME) + placeholder(OTHER))
         self.assertEqual(self.written(), b"text" + OPENS + b"\x1b[mtext" + CLOSES)
 
     def test_unknown(self):
-        """A mark of which no text is known is nothing, and what is typed round it stays."""
-        self.queue.take(b"a" + mark(NAME) + b"b")
+        """A placeholder of which no text is known is nothing, and what is typed round it stays."""
+        self.queue.take(b"a" + placeholder(NAME) + b"b")
         self.assertEqual((self.written(), self.told), (b"ab", []))
 
     def test_one_after_another(self):
         """Texts go one after the other, each whole, with what was typed between, whatever is taken at a time."""
         self.give(NAME, b"1" * 200000)
         self.give(OTHER, b"2" * 200000)
-        for byte in b"a" + mark(NAME) + b"b" + mark(OTHER) + b"c":
+        for byte in b"a" + placeholder(NAME) + b"b" + placeholder(OTHER) + b"c":
             self.queue.take(bytes([byte]))
         self.assertEqual(self.written(), b"a" + OPENS + b"1" * 200000 + CLOSES + b"b" + OPENS + b"2" * 200000 + CLOSES + b"c")
 
@@ -230,7 +230,7 @@ class Queues(Case):
             for name in (NAME, OTHER):
                 self.texts.spent.clear()
                 self.give(name, waiting)
-            queue.take(b"a" + mark(NAME) + b"b" + mark(OTHER) + b"c")
+            queue.take(b"a" + placeholder(NAME) + b"b" + placeholder(OTHER) + b"c")
             with mock.patch.object(input_queue, "write", side_effect=lambda end, waiting: taken(got, waiting, 1)):
                 got = bytearray()
                 for _ in range(count):
@@ -252,7 +252,7 @@ class Queues(Case):
         self.queue.drops_unread = lambda behind: bool(asked.append(behind))
         self.queue.take(b"ls\r\x03")
         self.give(NAME, b"text")
-        self.queue.take(mark(NAME))
+        self.queue.take(placeholder(NAME))
         self.assertEqual((self.written(), asked), (b"ls\r\x03" + OPENS + b"text" + CLOSES, []))
         self.queue.take(b"ls")
         self.written()
@@ -260,7 +260,7 @@ class Queues(Case):
         self.assertEqual((self.written(), asked), (b"\r\x03", [2]))
         self.queue.take(b"x\x03")
         self.give(OTHER, b"text")
-        self.queue.take(b"ahead" + mark(OTHER) + b"behind\x03z\x03more")
+        self.queue.take(b"ahead" + placeholder(OTHER) + b"behind\x03z\x03more")
         self.assertEqual((self.written(), asked), (b"x\x03ahead\x03\x03more", [2]))
         self.assertEqual((self.texts.texts, self.queue.typed, bool(self.queue)), ({}, 0, False))
 
@@ -271,15 +271,15 @@ class Queues(Case):
             self.texts.spent.clear()
             self.give(NAME, b"text")
             self.give(OTHER, b"two", True)
-            self.queue.take(mark(NAME))
+            self.queue.take(placeholder(NAME))
             self.written()
-            self.queue.take(b"typed" + mark(OTHER) + b"behind")
+            self.queue.take(b"typed" + placeholder(OTHER) + b"behind")
             self.wants = wants
             self.queue.take(b"more\x03")
             self.assertEqual((self.written(), self.queue.typed), (before + b"\x03", 0))
             self.give(OTHER, b"plain", True)
             self.texts.spent.clear()
-            self.queue.take(mark(OTHER))
+            self.queue.take(placeholder(OTHER))
             self.assertEqual(self.written(), b"plain")
             self.queue.take(b"\x03")
             self.assertEqual(self.written(), b"\x03")
@@ -287,7 +287,7 @@ class Queues(Case):
     def test_typed_room(self):
         """What is typed behind a text waits to 65,536 bytes, as before; the text doesn't count."""
         self.give(NAME, b"1" * 300000)
-        self.assertTrue(self.queue.take(b"x" * 65530 + mark(NAME) + b"y" * 6))
+        self.assertTrue(self.queue.take(b"x" * 65530 + placeholder(NAME) + b"y" * 6))
         self.assertFalse(self.queue.take(b"z"))
         self.assertEqual((len(self.queue), self.queue.typed), (365536, 65536))
         got = self.written()
@@ -297,7 +297,7 @@ class Queues(Case):
     def test_gone(self):
         """Where nobody is there any more nothing waits, and no room is taken."""
         self.give(NAME, b"1" * 300000)
-        self.queue.take(mark(NAME) + b"x")
+        self.queue.take(placeholder(NAME) + b"x")
         self.queue.write(self.writer)
         os.close(self.reader)
         self.reader = os.open(os.devnull, os.O_RDONLY)
@@ -306,16 +306,16 @@ class Queues(Case):
             self.queue.write(self.writer)
         self.assertEqual((bool(self.queue), len(self.queue), self.texts.texts), (False, 0, {}))
         self.give(OTHER, b"text")
-        self.queue.take(mark(OTHER)[:5])
+        self.queue.take(placeholder(OTHER)[:5])
         self.queue.clear()
-        self.queue.take(mark(OTHER)[5:])
-        self.assertEqual(list(self.queue.parts), [mark(OTHER)[5:]])
+        self.queue.take(placeholder(OTHER)[5:])
+        self.assertEqual(list(self.queue.parts), [placeholder(OTHER)[5:]])
 
     def test_unread(self):
         """A text that programs don't read for 60 seconds is dropped, and while they read it isn't; brackets that are open are closed."""
         self.give(NAME, b"1" * 300000)
         self.give(OTHER, b"2")
-        self.queue.take(mark(NAME) + mark(OTHER) + b"x")
+        self.queue.take(placeholder(NAME) + placeholder(OTHER) + b"x")
         self.queue.write(self.writer)
         for _ in range(3):
             self.now += KEPT - 1
@@ -344,13 +344,13 @@ class Waiting(Case):
 
     def setUp(self):
         self.loop, self.told = StillLoop(lambda: self.now), []
-        self.texts = GivenTexts(self.loop, lambda name, word: self.told.append((name, word)))
+        self.texts = PendingPastes(self.loop, lambda name, word: self.told.append((name, word)))
 
     def test_states(self):
         """A text waits for 60 seconds, and is lost then; a name of which nothing is known is lost."""
         self.assertEqual((self.texts.state(NAME), self.loop.wait_time()), (LOST, None))
-        self.texts.take(GivenText(NAME, b"text", False))
-        self.assertEqual((self.texts.state(NAME), self.loop.wait_time()), (HELD, KEPT))
+        self.texts.take(PendingPaste(NAME, b"text", False))
+        self.assertEqual((self.texts.state(NAME), self.loop.wait_time()), (STORED, KEPT))
         self.now += KEPT - 1
         self.loop.turn()
         self.assertEqual(self.told, [])
@@ -361,7 +361,7 @@ class Waiting(Case):
     def test_room(self):
         """16 MB wait together, those that are put too until they are read, and 64 texts; above it that is told in words."""
         self.assertEqual((MOST_BYTES, MOST_TEXTS, KEPT, MOST_SPENT), (1 << 24, 64, 60.0, 1024))
-        self.texts.take(GivenText(NAME, bytes(MOST_BYTES - 10), False))
+        self.texts.take(PendingPaste(NAME, bytes(MOST_BYTES - 10), False))
         self.assertEqual((self.texts.refusal(10), self.texts.refusal(11)), ("", TOO_LONG))
         self.texts.coming = 1
         self.assertEqual((self.texts.refusal(9), self.texts.refusal(10)), ("", "16 MB wait to be pasted"))
@@ -372,13 +372,13 @@ class Waiting(Case):
         self.texts.drop(text)
         for number in range(MOST_TEXTS):
             self.assertEqual(self.texts.refusal(1), "")
-            self.texts.take(GivenText(f"{number:016x}", b"x", False))
+            self.texts.take(PendingPaste(f"{number:016x}", b"x", False))
         self.assertEqual((self.texts.refusal(1), TOO_MANY), (TOO_MANY, "64 texts wait to be pasted"))
         for number in range(3000):
-            self.texts.drop(GivenText(f"{number:016x}", b"x", False))
-            self.texts.take(GivenText(f"{number + 1:016x}", b"x", False))
+            self.texts.drop(PendingPaste(f"{number:016x}", b"x", False))
+            self.texts.take(PendingPaste(f"{number + 1:016x}", b"x", False))
         self.assertLessEqual(len(self.texts.spent), MOST_SPENT)
-        self.assertEqual(paste_text.PUT, "put")
+        self.assertEqual(paste_text.INSERTED, "inserted")
 
 
 class Given(Sockets):
@@ -386,54 +386,54 @@ class Given(Sockets):
 
     def test_given(self):
         """A text is held once all of it came, however it is cut; what becomes of it is told to who gave it, or asked."""
-        text = f"give {NAME} 9\ntwo\nlineswho\n".encode()
+        text = f"paste {NAME} 9\ntwo\nlineswho\n".encode()
         for cut in range(len(text)):
             one = self.connect(text[:cut])
             self.say(one, text[cut:])
-            self.assertEqual(read_now(one), f"held {NAME}\nkeeper {NAMED}\nothers 0\n".encode(), cut)
+            self.assertEqual(read_now(one), f"stored {NAME}\nhost {NAMED}\nothers 0\n".encode(), cut)
             self.assertEqual(self.socket.texts.placed(NAME).data, b"two\nlines")
             self.loop.turn()
-            self.assertEqual(read_now(one), f"put {NAME}\n".encode())
+            self.assertEqual(read_now(one), f"inserted {NAME}\n".encode())
             self.socket.texts.texts.clear()
             one.close()
             self.loop.turns(2)
 
     def test_asked(self):
-        """Who comes again asks; one that isn't known is lost, as to another keeper."""
-        self.connect(f"give {NAME} 1 plain\nx".encode()).close()
-        one = self.connect(f"ask {NAME}\nask {OTHER}\n".encode())
-        self.assertEqual(read_now(one), f"held {NAME}\nlost {OTHER}\n".encode())
+        """Who comes again asks; one that isn't known is lost, as to another host."""
+        self.connect(f"paste {NAME} 1 plain\nx".encode()).close()
+        one = self.connect(f"status {NAME}\nstatus {OTHER}\n".encode())
+        self.assertEqual(read_now(one), f"stored {NAME}\nlost {OTHER}\n".encode())
         self.assertTrue(self.socket.texts.placed(NAME).is_plain)
         self.loop.turn()
-        self.assertEqual(read_now(one), f"put {NAME}\n".encode())
+        self.assertEqual(read_now(one), f"inserted {NAME}\n".encode())
 
     def test_again(self):
         """A text that is given again is held once, and one that was put isn't put again."""
-        one = self.connect(f"give {NAME} 1\nxgive {NAME} 1\nx".encode())
-        self.assertEqual((read_now(one), len(self.socket.texts.texts)), (f"held {NAME}\n".encode() * 2, 1))
+        one = self.connect(f"paste {NAME} 1\nxpaste {NAME} 1\nx".encode())
+        self.assertEqual((read_now(one), len(self.socket.texts.texts)), (f"stored {NAME}\n".encode() * 2, 1))
         self.socket.texts.drop(self.socket.texts.placed(NAME))
-        self.say(one, f"give {NAME} 1\nx".encode())
-        self.assertEqual((read_now(one), self.socket.texts.texts), (f"put {NAME}\nput {NAME}\n".encode(), {}))
+        self.say(one, f"paste {NAME} 1\nx".encode())
+        self.assertEqual((read_now(one), self.socket.texts.texts), (f"inserted {NAME}\ninserted {NAME}\n".encode(), {}))
 
     def test_refused(self):
         """What has no room is refused in words, its bytes are passed over, and the connection goes on."""
-        self.connect(f"give {OTHER} {MOST_BYTES - 5}\n".encode())
-        one = self.connect(f"give {NAME} 6\n123456give {NAME} 5\n12345".encode())
-        self.assertEqual(read_now(one), f"refused {NAME} 16 MB wait to be pasted\nheld {NAME}\n".encode())
-        self.say(one, f"give {OTHER} 999999999\n".encode())
-        self.assertIsNotNone(self.socket.peers[1].giving)
+        self.connect(f"paste {OTHER} {MOST_BYTES - 5}\n".encode())
+        one = self.connect(f"paste {NAME} 6\n123456paste {NAME} 5\n12345".encode())
+        self.assertEqual(read_now(one), f"refused {NAME} 16 MB wait to be pasted\nstored {NAME}\n".encode())
+        self.say(one, f"paste {OTHER} 999999999\n".encode())
+        self.assertIsNotNone(self.socket.peers[1].upload)
 
     def test_bad(self):
         """What is no such line is told so."""
         one = self.connect()
-        for line in (f"give {NAME} 0", f"give {NAME}", f"give {NAME} 1 plainly", f"give {NAME.upper()} 1", f"give {NAME[1:]} 1",
-                     f"give {NAME} -1", f"give {NAME} 1000000000", f"ask {NAME}0", "ask"):
+        for line in (f"paste {NAME} 0", f"paste {NAME}", f"paste {NAME} 1 plainly", f"paste {NAME.upper()} 1", f"paste {NAME[1:]} 1",
+                     f"paste {NAME} -1", f"paste {NAME} 1000000000", f"status {NAME}0", "status"):
             self.say(one, f"{line}\n".encode())
             self.assertEqual(read_now(one), b"bad line\n", line)
 
     def test_stalled(self):
         """Who gives half of a text, and nothing for 60 seconds, is let go, and takes no room; so is it with who leaves."""
-        one = self.connect(f"give {NAME} {MOST_BYTES}\nhalf".encode())
+        one = self.connect(f"paste {NAME} {MOST_BYTES}\nhalf".encode())
         self.assertEqual(self.socket.texts.coming, MOST_BYTES)
         self.now += KEPT - 1
         self.say(one, b"more")
@@ -443,14 +443,15 @@ class Given(Sockets):
         self.now += 1
         self.loop.turns(2)
         self.assertEqual((self.socket.peers, self.socket.texts.coming), ([], 0))
-        self.connect(f"give {NAME} 100\n".encode()).close()
+        self.connect(f"paste {NAME} 100\n".encode()).close()
         self.loop.turns(2)
         self.assertEqual((self.socket.texts.coming, self.loop.due), (0, {}))
 
     def test_chance(self):
-        """Whatever comes, in whatever pieces, is taken or told to be no line, or its sender let go; nothing is kept without bound."""
+        """Whatever comes, in whatever chunks, is taken or told to be no line, or its sender let go; nothing is kept without bound."""
         chance = random.Random(11)
-        words = (b"give ", NAME.encode(), b" 7", b" 700", b" plain", b"\n", b"\n", b"who", b"here a 1 2 edits", b"ask ", b"commands",
+        words = (b"give ", NAME.encode(), b" 7", b" 700", b" plain", b"\n", b"\n", b"who", b"here a 1 2 read-write", b"status ",
+                 b"commands",
                  b"\xff\x00\x1b", b"x" * 300)
         one = self.connect()
         for _ in range(3000):
@@ -468,7 +469,7 @@ class Given(Sockets):
 
     def test_names(self):
         """Of 64 texts at most one is told what becomes of them."""
-        one = self.connect(b"".join(f"ask {number:016x}\n".encode() for number in range(100)))
+        one = self.connect(b"".join(f"status {number:016x}\n".encode() for number in range(100)))
         self.assertEqual((read_now(one).count(b"lost"), len(self.socket.peers[0].names)), (100, 64))
 
 

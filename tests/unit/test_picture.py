@@ -45,7 +45,7 @@ def shown_by(text):
 
 
 class Told(Case):
-    """The cells of a screen as a client start tells it."""
+    """The cells of a screen as a client process tells it."""
 
     SCREEN = "2 4 1 3 hidden\n\x1b[0;1ma\x1f\x1b[0;1;31m\u4e2d\x1f\x1f\x1b[0m \n \x1fe\u0301\x1f\x1b[0m\x1b[38;2;1;2;3mz\x1f\x1b[m \n"
 
@@ -274,11 +274,11 @@ class Tool(Case):
         self.assertEqual((way.exception.code, "a server is named by its folder" in said.getvalue()), (2, True))
 
     def test_told(self):
-        """The start of the terminals in a folder is asked, where one is there; else one of its own, which has ten seconds and ends."""
+        """The client of the terminals in a folder is asked, where one is there; else one of its own, which has ten seconds and ends."""
         self.stop_clock()
         folder = self.made_folder()
         home = Home(folder=str(folder))
-        with mock.patch.object(picture, "asked_screen", lambda link, asks: (link.path, link.watches, asks)):
+        with mock.patch.object(picture, "asked_screen", lambda link, asks: (link.path, link.is_read_only, asks)):
             self.listening(folder / "terminals")
             self.assertEqual(picture.told_of(home), (f"{folder}/terminals", True, "look sgr"))
             (folder / "terminals").unlink()

@@ -116,20 +116,20 @@ class Gone(Fronts):
         self.assertNotIn("import", self.front.loop.due)
         self.paints()
         self.assertEqual(self.front.loop.due["import"][0], self.now + BEGINS)
-        self.start.send(record("anew", data=painting(23, 80)))
+        self.client.send(record("anew", data=painting(23, 80)))
         self.front.loop.drop("import")
         self.turn()
         self.assertNotIn("import", self.front.loop.due)
 
     def test_key(self):
         """A key that needs a module that is gone is told of, and the next ones are typed."""
-        start = self.connect()
+        client = self.connect()
         self.paints()
         gone = ModuleNotFoundError("No module named 'roam_live.frontend.copymode.keys'")
         with mock.patch.object(controller.Copying, "open", side_effect=gone):
             self.type(b"\x02[x")
         self.assertEqual((self.front.display.told, self.front.left), (REPLACED, None))
-        self.assertIn(b"char 78\n", start.recv(9999))
+        self.assertIn(b"char 78\n", client.recv(9999))
 
     def test_moment(self):
         """So is what is done at a moment, or as something comes; copy mode that is half open is closed."""

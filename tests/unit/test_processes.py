@@ -16,7 +16,7 @@ from roam_live.common.event_loop import READ, WRITE
 from roam_live.common.process import begun
 from roam_live.host import window, windows
 from roam_live.protocol import datagram_stream
-from roam_live.protocol.client_link import StartLink
+from roam_live.protocol.client_link import ClientLink
 from roam_live.protocol.datagram_stream import LONGEST, SHORTEST, Carrier
 from roam_live.protocol.panes import Places, Rect
 from roam_live.protocol.server_address import Home
@@ -56,7 +56,7 @@ class Read(Based):
 
     def test_cut(self):
         """A note that isn't whole is none, wherever it is cut."""
-        self.note(server=OWN, shells=[1, None])
+        self.note(server=OWN, host=[1, None])
         whole = (self.folder / "state.json").read_bytes()
         self.assertEqual(self.session().process("server"), os.getpid())
         for cut in range(len(whole)):
@@ -66,8 +66,8 @@ class Read(Based):
 
     def test_notes(self):
         """A process is noted by two numbers, of which the moment may not be known."""
-        for state, is_one in (({}, True), ({"server": [1, 2]}, True), ({"shells": [1, None]}, True), ({"relay": [1.0, 2]}, False),
-                              ({"server": [True, 2]}, False), ({"server": [1, "2"]}, False), ({"terminals": [1]}, False),
+        for state, is_one in (({}, True), ({"server": [1, 2]}, True), ({"host": [1, None]}, True), ({"relay": [1.0, 2]}, False),
+                              ({"server": [True, 2]}, False), ({"server": [1, "2"]}, False), ({"client": [1]}, False),
                               ({"server": [1, 2, 3]}, False), ({"x": 1}, True), ([], False), (None, False), ({"server": {}}, False)):
             self.assertEqual(is_note(state), is_one, state)
 
@@ -79,10 +79,10 @@ class Read(Based):
 
     def test_runs(self):
         """A process runs that began at the moment that is noted."""
-        self.note(server=[OWN[0], OWN[1] + 1], shells=OWN)
+        self.note(server=[OWN[0], OWN[1] + 1], host=OWN)
         session = self.session()
-        self.assertEqual((session.process("server"), session.process("shells"), session.process("terminals")), (None, os.getpid(), None))
-        self.assertEqual((session.runs(), session.runs("shells"), session.met), (False, True, None))
+        self.assertEqual((session.process("server"), session.process("host"), session.process("client")), (None, os.getpid(), None))
+        self.assertEqual((session.runs(), session.runs("host"), session.met), (False, True, None))
         self.note(server=OWN)
         session.read()
         self.assertTrue(session.runs())
@@ -105,61 +105,62 @@ class Read(Based):
         self.assertEqual(session.ended(), "")
 
     def test_busy(self):
-        """What runs is known by what keeps the shells."""
+        """What runs is known by the pty host."""
         busy = self.patch("roam_live.session.foreground.busy_panes", return_value={1: "vi"})
-        self.note(server=OWN, shells=OWN)
+        self.note(server=OWN, host=OWN)
         self.assertEqual(self.session().busy(), {1: "vi"})
         busy.assert_called_once_with(os.getpid())
         self.assertIsNone(NearSession(self.base / "ssh:a:b").busy())
 
     def test_busy_unknown(self):
-        """Where nobody is known who keeps the shells it isn't known either."""
+        """Where nobody is known the pty host it isn't known either."""
         self.assertIsNone(FolderSession(self.folder, server=os.getpid()).busy())
 
     def test_busy_half(self):
-        """Of a start that was killed before its shells were begun nothing runs."""
+        """Of a client that was killed before its shells were begun nothing runs."""
         self.note(server=OWN)
         self.assertEqual(self.session().busy(), {})
 
     def test_line(self):
-        """A line of `ls`: name, rows and columns, panes, terminals, and the starts from 33 on, with a warning from 48 on."""
-        self.note(server=OWN, shells=OWN)
+        """A line of `ls`: name, rows and columns, panes, terminals, and the clients from 33 on, with a warning from 48 on."""
+        self.note(server=OWN, host=OWN)
         session = self.session()
         self.assertEqual(session.line().split(), ["main", "-", "?", "panes", "0", "terminals"])
         one, two = Places({1: Rect(1, 1, 23, 80)}, 1, 32), Places({1: Rect(1, 1, 23, 39), 2: Rect(1, 41, 23, 40)}, 1, 33)
         for places, told in ((one, "main         24 by 80     1 pane   0 terminals"),
-                             (two, "main         24 by 80     2 panes  0 terminals, 33 of 64 starts"),
-                             (one._replace(starts=47), "main         24 by 80     1 pane   0 terminals, 47 of 64 starts"),
-                             (one._replace(starts=48), "main         24 by 80     1 pane   0 terminals, 48 of 64 starts, new ones of this "
+                             (two, "main         24 by 80     2 panes  0 terminals, 33 of 64 clients"),
+                             (one._replace(clients=47), "main         24 by 80     1 pane   0 terminals, 47 of 64 clients"),
+                             (one._replace(clients=48),
+                              "main         24 by 80     1 pane   0 terminals, 48 of 64 clients, new ones of this "
                                                        "machine alone are taken"),
-                             (one._replace(starts=64), "main         24 by 80     1 pane   0 terminals, 64 of 64 starts, no other is "
+                             (one._replace(clients=64), "main         24 by 80     1 pane   0 terminals, 64 of 64 clients, no other is "
                                                        "taken")):
             self.patch_of(session, "places", lambda places=places: places)
             self.assertEqual(session.line(), told)
         (self.folder / "attached").mkdir()
-        (self.folder / "attached" / str(OWN[0])).write_text(f"{OWN[1]} edits\n", encoding="utf-8")
+        (self.folder / "attached" / str(OWN[0])).write_text(f"{OWN[1]} read-write\n", encoding="utf-8")
         self.assertIn(" 1 terminal,", session.line())
 
     def test_lacking(self):
-        """A line of `ls` says where nothing keeps the shells, or what does is stopped; of another machine's it says nothing."""
+        """A line of `ls` says where no pty host is there, or what does is stopped; of another machine's it says nothing."""
         self.note(server=OWN)
-        self.assertTrue(self.session().line().endswith(" 0 terminals, nothing keeps its shells"))
-        keeper = self.process()
-        self.note(server=OWN, shells=[keeper.pid, begun(keeper.pid)])
+        self.assertTrue(self.session().line().endswith(" 0 terminals, its pty host is not running"))
+        host = self.process()
+        self.note(server=OWN, host=[host.pid, begun(host.pid)])
         self.assertTrue(self.session().line().endswith(" 0 terminals"))
-        keeper.send_signal(signal.SIGSTOP)
-        os.waitid(os.P_PID, keeper.pid, os.WSTOPPED | os.WNOWAIT)
-        self.assertTrue(self.session().line().endswith(" 0 terminals, what keeps its shells is stopped"))
+        host.send_signal(signal.SIGSTOP)
+        os.waitid(os.P_PID, host.pid, os.WSTOPPED | os.WNOWAIT)
+        self.assertTrue(self.session().line().endswith(" 0 terminals, the pty host is stopped"))
         self.assertEqual(NearSession(self.base / "ssh:a:b").lacking(), "")
 
     def test_command_found(self):
-        """One whose note is lost is found by its sockets, and its command by what keeps the shells."""
+        """One whose note is lost is found by its sockets, and its command by the pty host."""
         session = self.session()
         self.patch_of(FolderSession, "listener", lambda _, name: {"clients": OWN[0], "bells": OWN[0]}.get(name))
         with mock.patch.object(session_folder, "command_of", return_value=["vi"]) as asks:
             self.assertTrue(session.find())
         asks.assert_called_once_with(OWN[0], self.folder)
-        self.assertEqual(session.state, {"version": 3, "command": ["vi"], "server": OWN, "shells": OWN})
+        self.assertEqual(session.state, {"version": 3, "command": ["vi"], "server": OWN, "host": OWN})
         session.note_found()
         self.assertEqual(json.loads((self.folder / "state.json").read_text(encoding="utf-8")), session.state)
 
@@ -255,58 +256,58 @@ class Starts(Based):
         session = self.session()
         session.launch(["vi", "x"])
         tools = str(session_folder.TOOLS / "pane_shells")
-        self.assertEqual(self.words, [("server", ["/roam", "serve", "--as-meant", "--dir", str(self.folder)]),
-                                      ("shells", [tools, "--close", "--server", str(OWN[0]), str(self.folder), "vi", "x"])])
+        self.assertEqual(self.words, [("server", ["/roam", "serve", "--normalize", "--dir", str(self.folder)]),
+                                      ("host", [tools, "--close", "--server", str(OWN[0]), str(self.folder), "vi", "x"])])
         role, before, test = self.waits[0]
         self.assertEqual((role, before, test()), ("server", 12, False))
         (self.folder / "session").touch()
         self.assertFalse(test())
         self.listening(self.folder / "clients")
         self.assertTrue(test())
-        self.assertEqual(session.state, {"version": VERSION, "command": ["vi", "x"], "server": OWN, "shells": OWN})
+        self.assertEqual(session.state, {"version": VERSION, "command": ["vi", "x"], "server": OWN, "host": OWN})
         with mock.patch.object(FolderSession, "runs", side_effect=[True, False]):
-            session.demand_shells()
+            session.demand_host()
             self.assertEqual(len(self.words), 2)
-            session.demand_shells()
+            session.demand_host()
         self.assertEqual(self.words[2][1][4:], ["--again", str(self.folder), "vi", "x"])
 
     def test_terminals(self):
-        """The start of the terminals is started where none is there, and waited for."""
+        """The client of the terminals is started where none is there, and waited for."""
         session = self.session()
         (self.folder / "terminals").touch()
-        session.demand_terminals()
+        session.demand_client()
         words = ["/roam", "attach", "--dir", str(self.folder), "--terminals", str(self.folder / "terminals")]
-        self.assertEqual(self.words, [("terminals", words)])
+        self.assertEqual(self.words, [("client", words)])
         self.assertFalse((self.folder / "terminals").exists())
-        self.assertEqual((self.waits[0][0], self.waits[0][2]()), ("terminals", False))
+        self.assertEqual((self.waits[0][0], self.waits[0][2]()), ("client", False))
         self.listening(self.folder / "terminals")
-        self.assertTrue(self.waits[0][2]() and session.has_terminals())
-        session.demand_terminals()
+        self.assertTrue(self.waits[0][2]() and session.has_client())
+        session.demand_client()
         session.revive()
         self.assertEqual(len(self.words), 1)
 
     def test_earlier(self):
-        """In place of a start of an earlier roam another is started, which takes its socket; not where another has done so."""
+        """In place of a client of an earlier roam another is started, which takes its socket; not where another has done so."""
         self.listening(self.folder / "terminals")
         session = self.session()
         session.revive(os.getpid() + 1)
         self.assertEqual(self.words, [])
-        for demands in (session.revive, session.demand_terminals):
+        for demands in (session.revive, session.demand_client):
             self.assertTrue((self.folder / "terminals").exists())
             demands(os.getpid())
             self.assertFalse((self.folder / "terminals").exists())
             self.listening(self.folder / "terminals")
-        self.assertEqual(([role for role, _ in self.words], [role for role, _, _ in self.waits]), (["terminals"] * 2, ["terminals"]))
+        self.assertEqual(([role for role, _ in self.words], [role for role, _, _ in self.waits]), (["client"] * 2, ["client"]))
         with mock.patch.object(FolderSession, "listener", side_effect=Fault("takes none")):
-            self.assertTrue(session.has_terminals(os.getpid()))
+            self.assertTrue(session.has_client(os.getpid()))
 
     def test_full(self):
-        """A server that has had its 64 starts hears no other, which is told."""
+        """A server that has had its 64 clients hears no other, which is told."""
         self.patch_of(FolderSession, "places", lambda _, seconds: Places({1: Rect(1, 1, 23, 80)}, 1, 64, 0))
-        told = ("session main has had the 64 client starts of its life, and hears no other; what runs in it goes on, and `mux kill main` "
+        told = ("session main has had the 64 clients of its life, and hears no other; what runs in it goes on, and `mux kill main` "
                 "ends it")
         with self.assertRaises(Fault) as fault:
-            self.session().demand_terminals()
+            self.session().demand_client()
         self.assertEqual(str(fault.exception), told)
 
     def test_revived(self):
@@ -314,14 +315,14 @@ class Starts(Based):
         session = self.session()
         lock = session.taken_lock(True)
         session.revive()
-        self.assertFalse(session.revive_shells())
+        self.assertFalse(session.revive_host())
         os.close(lock)
         self.assertEqual(self.words, [])
         session.revive()
-        self.assertEqual([role for role, _ in self.words], ["terminals"])
+        self.assertEqual([role for role, _ in self.words], ["client"])
         self.note(server=OWN)
-        with mock.patch.object(FolderSession, "demand_shells", lambda session: session.state.update(shells=OWN)):
-            self.assertTrue(session.revive_shells())
+        with mock.patch.object(FolderSession, "demand_host", lambda session: session.state.update(host=OWN)):
+            self.assertTrue(session.revive_host())
 
     def test_age(self):
         """One that an earlier roam began is left to it."""
@@ -339,7 +340,7 @@ class Starts(Based):
         near = NearSession(self.base / "ssh:a:main", "main")
         with self.assertRaisesRegex(Fault, "^no relay to main is running; `mux ssh` launches one$"):
             near.launch()
-        near.demand_shells()
+        near.demand_host()
         near.close()
         self.assertEqual(self.words, [])
 
@@ -380,7 +381,7 @@ class Spawned(Based):
         self.assertEqual(self.session_here.said(7), "x" * 500)
 
     def test_ended(self):
-        """SIGTERM ends a process, and SIGKILL one that doesn't end in three seconds, which is more than a keeper needs."""
+        """SIGTERM ends a process, and SIGKILL one that doesn't end in three seconds, which is more than a host needs."""
         self.assertGreater(processes.END_WAIT, windows.ALL_END + window.LOGS_END)
         self.stop_clock()
         kills, left = self.patch("os.kill"), [7, 7, 7]
@@ -407,23 +408,23 @@ class Spawned(Based):
         self.session_here.end("server")
         self.assertEqual(-process.wait(), signal.SIGTERM)
 
-    def test_filters(self):
-        """Filters of rows that what keeps the shells left stopped are ended with it, and nothing else that it spawned is."""
+    def test_scrollback_processes(self):
+        """Filters of rows that the pty host left stopped are ended with it, and nothing else that it spawned is."""
         one, other = self.process(), self.process()
         self.patch_of(processes, "children_of", return_value=[one.pid, other.pid])
-        self.patch_of(processes, "is_filter", side_effect=lambda process: process == one.pid)
-        self.session_here.state = {"shells": OWN}
-        self.assertEqual(self.session_here.filters(), [(one.pid, begun(one.pid))])
+        self.patch_of(processes, "is_scrollback_process", side_effect=lambda process: process == one.pid)
+        self.session_here.state = {"host": OWN}
+        self.assertEqual(self.session_here.scrollback_processes(), [(one.pid, begun(one.pid))])
         one.send_signal(signal.SIGSTOP)
         os.waitid(os.P_PID, one.pid, os.WSTOPPED | os.WNOWAIT)
-        processes.end_left(self.session_here.filters())
+        processes.end_left(self.session_here.scrollback_processes())
         self.assertEqual((-one.wait(), other.poll()), (signal.SIGTERM, None))
 
-    def test_is_filter(self):
+    def test_is_scrollback_process(self):
         """A filter is known by its words."""
-        texts = {"5": b"/x/roam\0rows\0--as-meant\0", "6": b"/x/roam\0serve\0rows\0", "7": b"vi\0rows\0", "8": b""}
+        texts = {"5": b"/x/roam\0rows\0--normalize\0", "6": b"/x/roam\0serve\0rows\0", "7": b"vi\0rows\0", "8": b""}
         self.patch_of(processes.pathlib, "Path", side_effect=lambda path: mock.Mock(read_bytes=lambda: texts[path.split("/")[2]]))
-        self.assertEqual([processes.is_filter(int(number)) for number in texts], [True, False, False, False])
+        self.assertEqual([processes.is_scrollback_process(int(number)) for number in texts], [True, False, False, False])
 
     def test_lock(self):
         """Who waits for another longer than half a second says so."""
@@ -508,7 +509,7 @@ class Ports(Case):
         self.session.read()
         self.assertIsNone(self.session.busy())
         self.assertEqual(str(self.session), "at port 9")
-        self.assertEqual((self.session.process("server"), self.session.process("shells"), self.session.runs()), (None, None, False))
+        self.assertEqual((self.session.process("server"), self.session.process("host"), self.session.runs()), (None, None, False))
         self.assertEqual(self.session.ending(), ("[the session has ended]", 0))
         folder = self.made_folder()
         other = PortSession(Home(port=9, session="5e55"), str(folder))
@@ -516,14 +517,14 @@ class Ports(Case):
         self.assertEqual((other.folder, other.name), (folder, "at port 9"))
 
     def test_stopped(self):
-        """A start that was stopped is ended by force, and isn't waited for without end."""
-        start = self.process()
-        start.send_signal(signal.SIGSTOP)
-        os.waitid(os.P_PID, start.pid, os.WSTOPPED | os.WNOWAIT)
-        self.session.start = start
+        """A client that was stopped is ended by force, and isn't waited for without end."""
+        client = self.process()
+        client.send_signal(signal.SIGSTOP)
+        os.waitid(os.P_PID, client.pid, os.WSTOPPED | os.WNOWAIT)
+        self.session.client = client
         self.patch_of(port_session, "END_WAIT", 0.05)
         self.session.close()
-        self.assertEqual(start.returncode, -signal.SIGKILL)
+        self.assertEqual(client.returncode, -signal.SIGKILL)
 
     def test_revived(self):
         """Its start is started where it doesn't run, and ends with the server or the session."""
@@ -532,13 +533,13 @@ class Ports(Case):
             self.session.revive()
             self.session.revive()
         self.assertEqual((started.call_count, started.call_args[0][0]), (1, ["roam", "--terminals", str(self.session.terminals)]))
-        self.assertEqual((self.session.process("terminals"), self.session.process("server")), (self.session.start.pid, None))
+        self.assertEqual((self.session.process("client"), self.session.process("server")), (self.session.client.pid, None))
         with mock.patch.object(Home, "is_served", side_effect=[True, False]):
             self.assertTrue(self.session.is_served())
-            self.assertTrue(self.session.runs("terminals"))
+            self.assertTrue(self.session.runs("client"))
             self.assertFalse(self.session.is_served())
-        self.assertEqual(self.session.start.wait(10), -15)
-        self.assertFalse(self.session.runs("terminals"))
+        self.assertEqual(self.session.client.wait(10), -15)
+        self.assertFalse(self.session.runs("client"))
         own = pathlib.Path(self.session.own)
         self.assertTrue(own.is_dir())
         self.session.close()
@@ -552,8 +553,8 @@ class Sends(Based):
         super().setUp()
         self.stop_clock()
         self.opens = self.patch_of(send, "opened")
-        self.link = self.opens.return_value = StartLink(self.folder / "terminals", False)
-        self.link.peer, self.start = self.pair()
+        self.link = self.opens.return_value = ClientLink(self.folder / "terminals", False)
+        self.link.peer, self.client = self.pair()
         self.link.records.begun = True
         self.runs = self.patch_of(send.subprocess, "run", return_value=mock.Mock(returncode=0))
         self.patch("roam_live.protocol.server_address.program", return_value="/roam")
@@ -561,27 +562,27 @@ class Sends(Based):
         self.patch("roam_live.protocol.client_link.ready", self.ready)
 
     def ready(self, link, events, seconds):
-        """What a start does while it is waited for: the next of its answers, where what is given is taken."""
+        """What a client does while it is waited for: the next of its answers, where what is given is taken."""
         self.asked.append(seconds)
         if events & WRITE:
             return WRITE
         self.pass_time(seconds)
         answer = self.answers.pop(0) if self.answers else b""
         if answer is None:
-            self.start.shutdown(socket.SHUT_WR)
+            self.client.shutdown(socket.SHUT_WR)
         else:
-            self.start.send(answer)
+            self.client.send(answer)
         return READ if answer is None or answer else 0
 
     def test_sent(self):
-        """They are read by a start that takes no turn, and typed once all can be done; it ends once the session has taken all of them."""
+        """They are read by a client that takes no turn, and typed once all can be done; it ends once the session has taken all of them."""
         self.answers = [record("paint", data=b"x"), b"", record("taken", 1), record("taken", 2)]
         self.link.lines = 1
         self.assertEqual(send.send(self.session(), ["a", "Up"]), 0)
         words = ["/roam", "attach", "--dir", str(self.folder), "--keys", "/dev/stdin", "--turns", "0"]
         self.assertEqual((self.runs.call_args[0][0], self.runs.call_args[1]["input"]), (words, b"char 61\nkey up\n"))
         self.assertFalse(self.opens.call_args[0][1])
-        self.assertEqual((read_now(self.start), self.answers, self.link.peer), (b"char 61 ; key up\n", [], None))
+        self.assertEqual((read_now(self.client), self.answers, self.link.peer), (b"char 61 ; key up\n", [], None))
 
     def test_slow(self):
         """Ten seconds may pass between two that are taken."""
@@ -611,11 +612,11 @@ class Sends(Based):
         self.assertEqual(send.send(self.session(), ["focus 2"]), 0)
 
     def test_refused(self):
-        """Why not all is taken is told: a line is refused, the start ends, nothing more is taken; not where the session ended by it."""
-        refused, let_go = "the client start refused a line: out of memory", "this terminal was let go; what was typed last may be lost"
+        """Why not all is taken is told: a line is refused, the client ends, nothing more is taken; not where the session ended by it."""
+        refused, let_go = "the client process refused a line: out of memory", "this terminal was let go; what was typed last may be lost"
         for answers, runs, told in (([record("refused", 1, words="out of memory"), None], True, refused), ([None], True, let_go),
                                     ([], True, ""), ([None], False, None)):
-            self.link.peer, self.start = self.pair()
+            self.link.peer, self.client = self.pair()
             self.link.forget()
             self.link.has_come = self.link.records.begun = True
             self.answers, session = answers, self.session()
@@ -640,13 +641,13 @@ class Captures(Based):
         super().setUp()
         self.stop_clock()
         self.opens = self.patch_of(capture, "opened")
-        self.link = self.opens.return_value = StartLink(self.folder / "terminals", True)
-        self.link.peer, self.start = self.pair()
+        self.link = self.opens.return_value = ClientLink(self.folder / "terminals", True)
+        self.link.peer, self.client = self.pair()
         self.link.has_come = self.link.records.begun = True
 
     def capture(self, told, is_drawn=False):
-        """What capture does where a start tells this."""
-        self.start.send(told)
+        """What capture does where a client tells this."""
+        self.client.send(told)
         return capture.capture(self.session(), is_drawn)
 
     def test_printed(self):
@@ -655,7 +656,7 @@ class Captures(Based):
         with mock.patch("sys.stdout") as printed:
             self.assertEqual(self.capture(told), 0)
         printed.buffer.write.assert_called_once_with("ab  c\n\n \u4e2dx\n".encode())
-        self.assertEqual((read_now(self.start), self.link.peer, self.opens.call_args[0][1]), (b"look\n", None, True))
+        self.assertEqual((read_now(self.client), self.link.peer, self.opens.call_args[0][1]), (b"look\n", None, True))
 
     def test_decomposed(self):
         """What of a character stands in its cell comes whole, as the parts of a Hangul syllable."""
@@ -668,20 +669,20 @@ class Captures(Based):
         with mock.patch.object(capture.subprocess, "run", return_value=mock.Mock(returncode=3)) as runs:
             self.assertEqual(self.capture(record("screen", data=self.SCREEN), True), 3)
         self.assertEqual((runs.call_args[0][0], runs.call_args[1]["input"]), ([str(capture.TOOLS / "picture")], self.SCREEN))
-        self.assertEqual(read_now(self.start), b"look sgr\n")
+        self.assertEqual(read_now(self.client), b"look sgr\n")
 
     def test_none(self):
-        with self.assertRaisesRegex(Fault, "^the client start tells no screen: "):
+        with self.assertRaisesRegex(Fault, "^the client process tells no screen: "):
             self.capture(record("screen", data=b"x"))
 
     def test_early(self):
-        """A start that hasn't heard of the session tells a blank screen, and is asked again, for five seconds at most."""
+        """A client that hasn't heard of the session tells a blank screen, and is asked again, for five seconds at most."""
         blank = record("screen", data=b"1 4 1 1 visible\n \x1f \x1f \x1f \n")
         told = [blank, blank, record("screen", data=self.SCREEN)]
 
         def ready(link, events, seconds):
             if events & WRITE:
-                self.start.send(told.pop(0))
+                self.client.send(told.pop(0))
                 return READ | WRITE
             self.pass_time(seconds)
             return 0
@@ -689,8 +690,8 @@ class Captures(Based):
         with mock.patch("sys.stdout") as printed, mock.patch("roam_live.protocol.client_link.ready", ready):
             capture.capture(self.session(), False)
             printed.buffer.write.assert_called_once_with("ab  c\n\n \u4e2dx\n".encode())
-            self.assertEqual((round(self.now, 3), read_now(self.start)), (100.04, b"look\n" * 3))
-            self.link.peer, self.start = self.pair()
+            self.assertEqual((round(self.now, 3), read_now(self.client)), (100.04, b"look\n" * 3))
+            self.link.peer, self.client = self.pair()
             told += [blank] * 1000
             capture.capture(self.session(), False)
             self.assertTrue(105 <= self.now < 105.1, self.now)
@@ -698,14 +699,14 @@ class Captures(Based):
 
     def test_ended(self):
         """Why none comes is told, as that nothing comes in five seconds."""
-        self.start.send(record("refused", 3, words="bad act"))
-        self.start.close()
-        with self.assertRaisesRegex(Fault, "^the client start refused a line: bad act$"):
+        self.client.send(record("refused", 3, words="bad act"))
+        self.client.close()
+        with self.assertRaisesRegex(Fault, "^the client process refused a line: bad act$"):
             capture.capture(self.session(), False)
-        self.link.peer, self.start = self.pair()
+        self.link.peer, self.client = self.pair()
         self.link.forget()
         with mock.patch("roam_live.protocol.client_link.ready", lambda *_: self.pass_time(1) or 0):
-            with self.assertRaisesRegex(Fault, "^the client start tells nothing$"):
+            with self.assertRaisesRegex(Fault, "^the client process tells nothing$"):
                 capture.capture(self.session(), False)
         self.assertEqual(self.now, 105.0)
         self.assertIsNone(self.link.peer)
@@ -733,9 +734,9 @@ class Carried(Case):
         stream = self.framed(*texts)
         for cut in range(len(stream) + 1):
             found = []
-            for piece in (stream[:cut], stream[cut:]):
-                if piece:
-                    self.other.send(piece)
+            for chunk in (stream[:cut], stream[cut:]):
+                if chunk:
+                    self.other.send(chunk)
                 found += self.carrier.received()
             self.assertEqual(found, texts, cut)
 

@@ -1,4 +1,4 @@
-"""The keeper of shells, made by hand: panes over sockets, commands that never run, and a server that is played."""
+"""The pty host, made by hand: panes over sockets, commands that never run, and a server that is played."""
 import os
 import shutil
 import signal
@@ -13,18 +13,18 @@ from roam_live.common.event_loop import READ, WRITE
 from roam_live.common.process import begun
 from roam_live.host import pane as host_pane, scrollback, window
 from roam_live.host.input_queue import TypedQueue
-from roam_live.host.pending_pastes import GivenTexts
+from roam_live.host.pending_pastes import PendingPastes
 
 def queue():
     """A queue of what is typed into a pane, for which no text was given."""
-    return TypedQueue(GivenTexts(StillLoop(), lambda name, word: None), lambda: False)
+    return TypedQueue(PendingPastes(StillLoop(), lambda name, word: None), lambda: False)
 
 
 tool = loaded("pane_shells")
 
 
-class Keeper(Case):
-    """A keeper that follows a socket `panes` of its own, and keeps no rows."""
+class Host(Case):
+    """A host that follows a socket `panes` of its own, and keeps no rows."""
 
     history = "0"
 
@@ -40,27 +40,27 @@ class Keeper(Case):
         self.kills = self.patch("os.kill")
         self.ended = {}
         self.patch_of(window, "has_ended", side_effect=lambda process: self.ended.get(process, False))
-        self.keeper = self.kept()
+        self.host = self.kept()
         self.server = self.taken(self.listeners["panes"])
 
     def kept(self, **more):
-        """A keeper."""
+        """A host."""
         asked = host_pane.Options(folder=str(self.folder), command=["sh"], **more)
-        keeper = window.Shells(asked, window.Common(self.wakeup, StillLoop()))
-        self.addCleanup(self.leave, keeper)
-        return keeper
+        host = window.WindowHost(asked, window.Common(self.wakeup, StillLoop()))
+        self.addCleanup(self.leave, host)
+        return host
 
-    def leave(self, keeper):
-        """Closes what a keeper has."""
-        keeper.bells.close()
-        keeper.socket.close()
-        for number in list(keeper.panes):
-            keeper.drop(number)
-        keeper.rows.close()
-        for spare in (keeper.common.spare, keeper.common.voice):
+    def leave(self, host):
+        """Closes what a host has."""
+        host.bells.close()
+        host.socket.close()
+        for number in list(host.panes):
+            host.drop(number)
+        host.rows.close()
+        for spare in (host.common.spare, host.common.voice):
             spare.free()
-        if keeper.following.peer:
-            keeper.following.peer.close()
+        if host.subscription.peer:
+            host.subscription.peer.close()
 
     def forked(self, size):
         """A command's process and terminal: a socket here."""
@@ -71,7 +71,7 @@ class Keeper(Case):
     def turn(self, count=3):
         """So many turns that don't wait."""
         for _ in range(count):
-            self.keeper.common.turn()
+            self.host.common.turn()
 
     def tell(self, *lines):
         """Has the server tell of its panes."""
@@ -80,17 +80,17 @@ class Keeper(Case):
 
     def begin(self, *lines):
         """Two panes; the ends of their connections at the server."""
-        self.tell("1 1 1 23 39 4", "2 1 41 23 40 5", "focus 1", "starts 3 of 64", *lines)
+        self.tell("1 1 1 23 39 4", "2 1 41 23 40 5", "focus 1", "clients 3 of 64", *lines)
         return [self.taken(self.listeners[name]) for name in ("p1", "p2")]
 
 
-class Panes(Keeper):
+class Panes(Host):
     """What is told of panes, and what is done for them."""
 
     def test_begun(self):
         """Each pane has a command of its size, and bytes go both ways."""
         panes = self.begin()
-        self.assertEqual([pane.size for pane in self.keeper.panes.values()], [(23, 39), (23, 40)])
+        self.assertEqual([pane.size for pane in self.host.panes.values()], [(23, 39), (23, 40)])
         self.made[0].send(b"out")
         panes[0].send(b"in")
         self.made[1].send(b"two")
@@ -103,55 +103,55 @@ class Panes(Keeper):
         self.begin()
         sizes = self.patch_of(host_pane.tty, "set_size")
         self.tell("1 1 1 23 39 4", "2 1 41 11 40 5", "focus 2")
-        sizes.assert_called_once_with(self.keeper.panes[2].terminal, 11, 40)
+        sizes.assert_called_once_with(self.host.panes[2].terminal, 11, 40)
         sizes.side_effect = OSError(5, "gone")
         self.tell("1 1 1 20 39 4")
-        self.assertEqual(self.keeper.panes[1].size, (20, 39))
+        self.assertEqual(self.host.panes[1].size, (20, 39))
 
     def test_gone(self):
         """A pane that goes is hung up, and one of another life takes its place."""
         panes = self.begin()
         self.tell("2 gone", "focus 1")
         self.assertEqual([call[0] for call in self.kills.call_args_list], [(72, signal.SIGHUP), (72, signal.SIGCONT)])
-        self.assertEqual((panes[1].recv(1), list(self.keeper.panes), self.keeper.common.hung), (b"", [1], [72]))
+        self.assertEqual((panes[1].recv(1), list(self.host.panes), self.host.common.hung), (b"", [1], [72]))
         self.tell("1 1 1 23 80 6", "focus 1")
-        self.assertEqual((panes[0].recv(1), self.keeper.panes[1].process, self.keeper.panes[1].life), (b"", 73, 6))
+        self.assertEqual((panes[0].recv(1), self.host.panes[1].process, self.host.panes[1].generation), (b"", 73, 6))
         self.kills.side_effect = PermissionError(1, "another's")
         self.tell("1 gone")
-        self.assertEqual(self.keeper.panes, {})
+        self.assertEqual(self.host.panes, {})
 
     def test_earlier(self):
         """An earlier server tells no places: it isn't followed, which is logged once, and is connected to again after pauses that grow."""
         panes = self.begin()
         self.tell("1 23 80")
         for _ in range(2):
-            self.now = self.keeper.loop.due["follow panes"][0]
+            self.now = self.host.loop.due["follow panes"][0]
             self.turn()
             self.server = self.taken(self.listeners["panes"])
             self.tell("1 23 80")
         why = "run: the server is of an earlier roam: it doesn't tell where panes are\n"
         self.assertTrue(self.said.getvalue().endswith(why))
-        self.assertEqual((list(self.keeper.panes), self.keeper.is_over, self.keeper.common.faults.count), ([1, 2], False, 3))
+        self.assertEqual((list(self.host.panes), self.host.is_over, self.host.common.faults.count), ([1, 2], False, 3))
         self.assertTrue(panes)
 
     def test_there(self):
-        """Who is at the session is told at the socket `shells`."""
+        """Who is at the session is told at the socket `host`."""
         one = socket.socket(socket.AF_UNIX, socket.SOCK_STREAM)
         self.addCleanup(one.close)
-        one.connect(str(self.folder / "shells"))
-        one.send(b"here a:/dev/pts/1 24 80 edits\nwho\n")
+        one.connect(str(self.folder / "host"))
+        one.send(b"here a:/dev/pts/1 24 80 read-write\nwho\n")
         one.setblocking(False)
         self.turn()
-        self.assertEqual(read_now(one), f"keeper {self.keeper.common.shells.name}\nothers 0\n".encode())
+        self.assertEqual(read_now(one), f"host {self.host.common.registry.name}\nothers 0\n".encode())
 
     def test_commands(self):
         """What runs in front is told there, and looked up again after something was typed or written."""
         names = {1: "sh", 2: "vi"}
-        self.patch_of(window.Fronts, "look", lambda fronts, pane: fronts.tells(pane.number, pane.life, names[pane.number]))
+        self.patch_of(window.Fronts, "look", lambda fronts, pane: fronts.tells(pane.number, pane.generation, names[pane.number]))
         panes = self.begin()
         one = socket.socket(socket.AF_UNIX, socket.SOCK_STREAM)
         self.addCleanup(one.close)
-        one.connect(str(self.folder / "shells"))
+        one.connect(str(self.folder / "host"))
         one.setblocking(False)
         one.send(b"commands\n")
         self.turn(4)
@@ -171,8 +171,8 @@ class Panes(Keeper):
         panes, names = self.begin(), [f"{number:016x}" for number in range(5)]
         one = socket.socket(socket.AF_UNIX, socket.SOCK_STREAM)
         self.addCleanup(one.close)
-        one.connect(str(self.folder / "shells"))
-        one.send("".join(f"give {name} 4\ntext" for name in names).encode())
+        one.connect(str(self.folder / "host"))
+        one.send("".join(f"paste {name} 4\ntext" for name in names).encode())
         self.turn(4)
         plain, bracketed = b"text", b"\x1b[200~text\x1b[201~"
         told = (("", plain), ("modes 1 4 paste\n", bracketed), ("modes 1 4 sgr\n", plain),
@@ -181,38 +181,40 @@ class Panes(Keeper):
             # Both are there at once; what is told of the panes is read first, wherever it stands among what is waited for.
             self.server.send(lines.encode())
             panes[0].send(f"a\u009f{names[number]}\u009cb".encode())
-            self.keeper.panes[1].hear()
+            self.host.panes[1].hear()
             self.turn()
             self.assertEqual(read_now(self.made[0]), b"a" + wanted + b"b", lines)
         one.setblocking(False)
-        self.assertEqual(read_now(one).decode(), "".join(f"held {name}\n" for name in names) + "".join(f"put {name}\n" for name in names))
+        self.assertEqual(read_now(one).decode(),
+                         "".join(f"stored {name}\n" for name in names) + "".join(f"inserted {name}\n" for name in names))
 
     def test_answered(self):
         """What a pane's program asks is answered there, before what the server hands out behind it; a colour once a terminal has told it,
         and never what is asked of another making."""
         panes = self.begin()
-        self.keeper.common.shells.colours.take("colour foreground ffff/ffff/ffff")
-        told = (("asks 1 4 foreground bell\nasks 1 4 background\nasks 1 4 pastes set\n", b"\x1b]10;rgb:ffff/ffff/ffff\x07\x1b[?2004;1$y"),
-                ("asks 1 3 version\nasks 9 4 version\nasks 1 4\nasks 1 4 name\n", b""), ("asks 1 4 frames\n", b"\x1b[?2026;0$y"))
+        self.host.common.registry.colours.take("colour foreground ffff/ffff/ffff")
+        told = (("query 1 4 foreground bell\nquery 1 4 background\nquery 1 4 pastes set\n",
+                 b"\x1b]10;rgb:ffff/ffff/ffff\x07\x1b[?2004;1$y"),
+                ("query 1 3 version\nquery 9 4 version\nquery 1 4\nquery 1 4 name\n", b""), ("query 1 4 frames\n", b"\x1b[?2026;0$y"))
         for lines, wanted in told:
             self.server.send(lines.encode())
             panes[0].send(b"\x1b[?62c")
-            self.keeper.panes[1].hear()
+            self.host.panes[1].hear()
             self.turn()
             self.assertEqual(read_now(self.made[0]), wanted + b"\x1b[?62c", lines)
-        self.keeper.panes[2].close_terminal()
-        self.tell("asks 2 5 version")
+        self.host.panes[2].close_terminal()
+        self.tell("query 2 5 version")
         self.assertEqual(read_now(self.made[1]), b"")
 
     def test_gone_while_typed(self):
         """What was typed into a pane that is told to be gone is nothing."""
         panes = self.begin()
-        pane = self.keeper.panes[1]
+        pane = self.host.panes[1]
         pane.is_settling = True
         panes[0].send(b"typed")
         self.server.send(b"1 gone\nfocus 2\n")
         pane.hear()
-        self.assertEqual((list(self.keeper.panes), pane.terminal, [name for name in self.keeper.loop.due if "1" in name]), ([2], None, []))
+        self.assertEqual((list(self.host.panes), pane.terminal, [name for name in self.host.loop.due if "1" in name]), ([2], None, []))
 
     def test_focus_reported(self):
         """A program that asked for it is told once that the focus comes and goes; what stands beside panes is no pane."""
@@ -223,21 +225,21 @@ class Panes(Keeper):
         self.tell("modes 1 4", "focus 1", "modes 2 5")
         self.assertEqual([read_now(end) for end in self.made], [b"", b"\x1b[O"])
         self.tell("focus 2", "2 gone", "focus 1")
-        self.assertEqual((read_now(self.made[0]), list(self.keeper.panes)), (b"", [1]))
+        self.assertEqual((read_now(self.made[0]), list(self.host.panes)), (b"", [1]))
         self.assertTrue(panes)
 
     def test_rung(self):
         """A bell is told."""
         self.begin()
-        tells = self.patch_of(self.keeper.bells, "tell")
+        tells = self.patch_of(self.host.bells, "tell")
         self.made[1].send(b"x\x07y")
         self.turn()
         tells.assert_called_once_with(2)
 
     def test_limits(self):
         """A pane that takes nothing has 16,384 bytes wait, and then its program does; one that reads nothing 65,536."""
-        pane = self.keeper.panes.get(1) or (self.begin(), self.keeper.panes[1])[1]
-        peer, terminal = (self.keeper.loop.sources[end] for end in (pane.peer.fileno(), pane.terminal))
+        pane = self.host.panes.get(1) or (self.begin(), self.host.panes[1])[1]
+        peer, terminal = (self.host.loop.sources[end] for end in (pane.peer.fileno(), pane.terminal))
         pane.to_pane += bytes(16383)
         self.assertEqual((peer.events(), terminal.events()), (READ | WRITE, READ))
         pane.to_pane += b"x"
@@ -259,7 +261,7 @@ class Panes(Keeper):
         for _ in range(200):
             panes[0].send(b"x" * 4000)
             self.turn(2)
-        pane = self.keeper.panes[1]
+        pane = self.host.panes[1]
         self.assertEqual(len(pane.to_terminal), 65536)
         panes[1].send(b"goes on")
         self.turn()
@@ -274,16 +276,16 @@ class Panes(Keeper):
     def test_folder(self):
         """A new pane's command starts where the program in front in the pane in focus is, else where its command is; the first where the
         server is."""
-        self.keeper.asked.server = 4711
+        self.host.asked.server = 4711
         works = self.patch_of(window, "working_folder", return_value="/there")
         self.patch_of(host_pane, "group_in_front", return_value=99)
         self.begin()
         self.assertEqual([call[0][0] for call in works.call_args_list], [[4711], [4711]])
         self.tell("3 1 1 5 5 1", "focus 3")
-        self.assertEqual((works.call_args[0][0], self.keeper.panes[3].folder), ([99, 71, 4711], "/there"))
+        self.assertEqual((works.call_args[0][0], self.host.panes[3].folder), ([99, 71, 4711], "/there"))
 
     def test_folder_taken(self):
-        """A keeper whose folder was removed, and made anew by another session, goes to none of its sockets, and writes nothing there."""
+        """A host whose folder was removed, and made anew by another session, goes to none of its sockets, and writes nothing there."""
         self.begin()
         self.folder.rename(self.folder.with_name(self.folder.name + "-old"))
         self.addCleanup(shutil.rmtree, str(self.folder) + "-old")
@@ -298,9 +300,9 @@ class Panes(Keeper):
     def test_sockets_removed(self):
         """Its own sockets are made anew a minute after a cleaner removed them, but where somebody else listens there; that is told once."""
         self.begin()
-        for name in ("shells", "bells"):
+        for name in ("host", "bells"):
             (self.folder / name).unlink()
-        other = self.listening(self.folder / "shells")
+        other = self.listening(self.folder / "host")
         for _ in range(3):
             self.now += window.LOOKS
             self.turn(1)
@@ -308,7 +310,7 @@ class Panes(Keeper):
         other.close()
         self.now += window.LOOKS
         self.turn(1)
-        self.assertTrue(self.keeper.is_found())
+        self.assertTrue(self.host.is_found())
         self.assertIn(window.MENDED, self.said.getvalue())
 
     def test_terminal_gone(self):
@@ -317,11 +319,11 @@ class Panes(Keeper):
         self.made[0].close()
         panes[1].close()
         self.turn()
-        self.assertEqual((self.keeper.panes[1].terminal, self.keeper.panes[2].peer), (None, None))
-        self.assertEqual((self.keeper.panes[1].in_front(), self.keeper.panes[2].is_unread()), ([], False))
+        self.assertEqual((self.host.panes[1].terminal, self.host.panes[2].peer), (None, None))
+        self.assertEqual((self.host.panes[1].in_front(), self.host.panes[2].is_unread()), ([], False))
         panes[0].send(b"x")
         self.turn()
-        self.assertEqual(len(self.keeper.panes[1].to_terminal), 0)
+        self.assertEqual(len(self.host.panes[1].to_terminal), 0)
 
     def test_unread(self):
         """What the server doesn't read for three seconds is told of, once."""
@@ -339,14 +341,14 @@ class Panes(Keeper):
         told = "pane 1 isn't shown: the server doesn't read it, as where no descriptor is left for it\n"
         self.assertTrue(self.said.getvalue().endswith(told))
         self.assertEqual(self.said.getvalue().count("isn't shown"), 1)
-        pane = self.keeper.panes[1]
+        pane = self.host.panes[1]
         for written, unread in ((0, False), (1, True), (16384, True), (16385, False)):
             pane.written = written
             with mock.patch.object(host_pane.fcntl, "ioctl", return_value=struct.pack("i", 1)):
                 self.assertEqual(pane.is_unread(), unread, written)
 
 
-class Refused(Keeper):
+class Refused(Host):
     """What the system refuses is told of, and tried again."""
 
     def test_command(self):
@@ -358,7 +360,7 @@ class Refused(Keeper):
         self.patch_of(host_pane.spawn, "forked", side_effect=self.forked)
         panes[0].send(b"x")
         self.turn()
-        self.assertEqual((self.keeper.panes[1].process, self.keeper.panes[2].process, read_now(self.made[0])), (71, None, b""))
+        self.assertEqual((self.host.panes[1].process, self.host.panes[2].process, read_now(self.made[0])), (71, None, b""))
 
     def test_connection(self):
         """A pane that can't be connected says so, is told of once, and is tried again each quarter of a second."""
@@ -366,7 +368,7 @@ class Refused(Keeper):
             says = self.patch_of(window, "say_in")
             self.tell("1 1 1 23 80 4", "focus 1")
             says.assert_called_once_with(f"{self.folder}/p1", "[not run: Too many open files; tried again]\r\n")
-            self.assertEqual(self.keeper.loop.due["again"][0], 100.25)
+            self.assertEqual(self.host.loop.due["again"][0], 100.25)
             self.now += 0.24
             self.turn()
             self.assertEqual(connects.call_count, 1)
@@ -378,7 +380,7 @@ class Refused(Keeper):
         self.assertEqual(self.said.getvalue().count("pane 1: Too many open files; tried again\n"), 1)
         self.now += 0.25
         self.turn()
-        self.assertEqual(("again" in self.keeper.loop.due, self.keeper.common.refused, self.keeper.panes[1].process), (False, set(), 71))
+        self.assertEqual(("again" in self.host.loop.due, self.host.common.refused, self.host.panes[1].process), (False, set(), 71))
 
     def test_not_there(self):
         """A pane whose socket isn't there is no place to say so."""
@@ -389,15 +391,15 @@ class Refused(Keeper):
 
     def test_spares(self):
         """Descriptors are kept for what has to be had."""
-        self.assertTrue(self.keeper.common.spare.end is not None and self.keeper.common.voice.end is not None)
-        self.keeper.common.spare.free()
-        self.keeper.common.spare.free()
+        self.assertTrue(self.host.common.spare.end is not None and self.host.common.voice.end is not None)
+        self.host.common.spare.free()
+        self.host.common.spare.free()
         with mock.patch.object(host_pane.os, "open", side_effect=OSError(24, "Too many open files")):
-            self.keeper.common.keep_spares()
+            self.host.common.keep_spares()
         self.assertIn("a spare descriptor: Too many open files; tried again\n", self.said.getvalue())
         self.now += 0.25
         self.turn()
-        self.assertIsNotNone(self.keeper.common.spare.end)
+        self.assertIsNotNone(self.host.common.spare.end)
 
     def test_said(self):
         """A line is said in a pane that has no shell."""
@@ -406,7 +408,7 @@ class Refused(Keeper):
         host_pane.say_in(self.folder / "none", "why")
 
 
-class Ended(Keeper):
+class Ended(Host):
     """Commands that end, and the session's end."""
 
     def end(self, process, is_left=False):
@@ -423,7 +425,7 @@ class Ended(Keeper):
         self.made[0].send(b"bye")
         self.end(71)
         self.assertEqual(read_now(panes[0]), b"bye\r\n[ended]")
-        self.assertEqual((self.keeper.panes[1].terminal, self.keeper.panes[1].runs(), self.keeper.is_over), (None, False, False))
+        self.assertEqual((self.host.panes[1].terminal, self.host.panes[1].runs(), self.host.is_over), (None, False, False))
 
     def test_last_words(self):
         """All that it wrote is taken, as the pane takes it, however much that is; what is typed behind its end isn't."""
@@ -431,14 +433,14 @@ class Ended(Keeper):
         for _ in range(6):
             self.made[0].send(b"x" * 10_000)
         self.end(71)
-        pane, got = self.keeper.panes[1], b""
+        pane, got = self.host.panes[1], b""
         panes[0].send(b"typed")
-        self.assertEqual((pane.has_ended, self.keeper.done()), (True, []))
+        self.assertEqual((pane.has_ended, self.host.done()), (True, []))
         for _ in range(100):
             got += read_now(panes[0])
             self.turn(1)
         self.assertEqual((got, pane.terminal, len(pane.to_terminal)), (b"x" * 60_000 + b"\r\n[ended]", None, 0))
-        self.assertEqual([name for name in self.keeper.loop.due if name.startswith("last")], [])
+        self.assertEqual([name for name in self.host.loop.due if name.startswith("last")], [])
 
     def test_left(self):
         """Where another process has the terminal still all is read until there was nothing twice, 20 ms apart; or 64 kB came, which no
@@ -446,7 +448,7 @@ class Ended(Keeper):
         panes = self.begin()
         self.made[0].send(b"bye")
         self.end(71, True)
-        pane = self.keeper.panes[1]
+        pane = self.host.panes[1]
         self.now += 0.01
         self.made[0].send(b" and more")
         self.turn()
@@ -455,7 +457,7 @@ class Ended(Keeper):
         self.turn()
         self.assertEqual((read_now(panes[0]), pane.terminal), (b"bye and more\r\n[ended]", None))
         self.end(72, True)
-        pane = self.keeper.panes[2]
+        pane = self.host.panes[2]
         for count in range(8):
             self.assertIsNotNone(pane.terminal, count)
             self.made[1].send(b"x" * 8192)
@@ -466,21 +468,21 @@ class Ended(Keeper):
     def test_last_waits(self):
         """Where the pane takes nothing of an ended command's now nothing is read, and it is looked again, not often."""
         self.begin()
-        pane = self.keeper.panes[1]
+        pane = self.host.panes[1]
         pane.hears = lambda: False
         pane.see_to_ends()
         self.made[0].send(b"bye")
         self.end(71)
-        self.assertEqual((self.keeper.loop.due["last of pane 1"][0], pane.terminal is None), (self.now + 0.25, False))
+        self.assertEqual((self.host.loop.due["last of pane 1"][0], pane.terminal is None), (self.now + 0.25, False))
         pane.hears = lambda: True
         self.now += 0.25
         self.turn(1)
         self.assertIsNone(pane.terminal)
-        self.assertNotIn("last of pane 1", self.keeper.loop.due)
+        self.assertNotIn("last of pane 1", self.host.loop.due)
 
     def test_closes(self):
         """With --close the server is asked to close it, and again after three seconds; the focus goes where it was before."""
-        self.keeper.asked.close = True
+        self.host.asked.close = True
         self.begin("focus 2", "focus 1")
         self.end(71)
         self.assertEqual(read_now(self.server), b"close 1 4 2\n")
@@ -491,11 +493,11 @@ class Ended(Keeper):
         self.turn()
         self.assertEqual(read_now(self.server), b"close 1 4 2\n")
         self.tell("1 gone", "focus 2")
-        self.assertEqual((self.keeper.is_over, self.keeper.history), (False, [2]))
+        self.assertEqual((self.host.is_over, self.host.history), (False, [2]))
 
     def test_other(self):
         """A pane that hasn't the focus leaves it, and the focus goes to none whose command has ended."""
-        self.keeper.asked.close = True
+        self.host.asked.close = True
         self.begin()
         self.end(72)
         self.assertEqual(read_now(self.server), b"close 2 5\n")
@@ -505,30 +507,30 @@ class Ended(Keeper):
 
     def test_last(self):
         """The end of the last is the session's: it is noted, and the server is told to end."""
-        self.keeper.asked.close, self.keeper.asked.server, self.keeper.server_began = True, 4711, 17
+        self.host.asked.close, self.host.asked.server, self.host.server_began = True, 4711, 17
         self.tell("1 1 1 23 80 4", "focus 1")
         self.kills.side_effect = ProcessLookupError(3, "none")
         self.end(71)
-        self.assertEqual((self.keeper.is_over, self.kills.call_args_list), (True, [mock.call(4711, signal.SIGTERM)]))
+        self.assertEqual((self.host.is_over, self.kills.call_args_list), (True, [mock.call(4711, signal.SIGTERM)]))
         self.assertEqual((self.folder / "ended").read_text(encoding="utf-8"), "4711 17\n")
 
     def test_signals(self):
         """SIGTERM and SIGHUP end it, and its shells hang up."""
         for number in (signal.SIGTERM, signal.SIGHUP):
-            self.keeper.common.is_over = False
+            self.host.common.is_over = False
             os.write(self.wakes, bytes([number]))
             self.turn(1)
-            self.assertTrue(self.keeper.common.is_over)
+            self.assertTrue(self.host.common.is_over)
         panes = self.begin()
-        self.assertEqual(self.keeper.common.run(), 0)
-        self.assertEqual((self.keeper.panes, panes[0].recv(1), (self.folder / "bells").exists()), ({}, b"", False))
+        self.assertEqual(self.host.common.run(), 0)
+        self.assertEqual((self.host.panes, panes[0].recv(1), (self.folder / "bells").exists()), ({}, b"", False))
 
     def test_hung(self):
         """The processes of panes that are gone are waited for."""
         self.begin()
         self.tell("2 gone")
         self.end(72)
-        self.assertEqual(self.keeper.common.hung, [])
+        self.assertEqual(self.host.common.hung, [])
 
     def test_server_gone(self):
         """The server's end is the session's; one that runs and doesn't listen is waited for."""
@@ -536,29 +538,29 @@ class Ended(Keeper):
         for end in (self.server, self.listeners["panes"]):
             end.close()
         self.turn()
-        self.assertFalse(self.keeper.is_over)
-        self.keeper.asked.server, self.keeper.server_began = os.getpid(), begun(os.getpid())
+        self.assertFalse(self.host.is_over)
+        self.host.asked.server, self.host.server_began = os.getpid(), begun(os.getpid())
         self.now += 0.1
         self.turn()
-        self.assertFalse(self.keeper.is_over)
-        self.keeper.server_began -= 1
+        self.assertFalse(self.host.is_over)
+        self.host.server_began -= 1
         self.now += 1
         self.turn()
-        self.assertTrue(self.keeper.is_over)
+        self.assertTrue(self.host.is_over)
 
     def test_let_go(self):
         """Panes of which nothing is told once it follows anew are gone, by the first focus."""
         panes = self.begin()
         self.server.close()
         self.turn()
-        self.assertEqual((self.keeper.untold, self.keeper.is_followed()), ({1, 2}, False))
+        self.assertEqual((self.host.untold, self.host.is_followed()), ({1, 2}, False))
         self.now += 0.1
         self.turn()
         self.server = self.taken(self.listeners["panes"])
         self.tell("1 1 1 23 80 4")
-        self.assertEqual((self.keeper.untold, panes[0].fileno() > 0, self.keeper.is_followed()), ({2}, True, False))
+        self.assertEqual((self.host.untold, panes[0].fileno() > 0, self.host.is_followed()), ({2}, True, False))
         self.tell("focus 1")
-        self.assertEqual((list(self.keeper.panes), panes[1].recv(1), self.keeper.is_followed()), ([1], b"", True))
+        self.assertEqual((list(self.host.panes), panes[1].recv(1), self.host.is_followed()), ([1], b"", True))
 
     def test_not_followed(self):
         """A pane says where nothing can be followed from the start, once."""
@@ -566,20 +568,20 @@ class Ended(Keeper):
         for _ in range(3):
             self.server.close()
             self.turn(2)
-            self.now = self.keeper.loop.due["follow panes"][0]
+            self.now = self.host.loop.due["follow panes"][0]
             self.turn(1)
             self.server = self.taken(self.listeners["panes"])
         self.assertEqual(says.call_count, 1)
         self.assertTrue(says.call_args[0][1].startswith("[no shell: the panes can't be followed: the server lets this go"))
-        self.assertTrue(self.keeper.bells.standing.startswith("the panes can't be followed: "))
+        self.assertTrue(self.host.bells.standing.startswith("the panes can't be followed: "))
 
 
-class Again(Keeper):
+class Again(Host):
     """Shells that another kept before."""
 
     def test_dropped(self):
         """What was typed since is dropped before a shell runs, half a second after the last of it."""
-        self.keeper = self.kept(again=True)
+        self.host = self.kept(again=True)
         self.server = self.taken(self.listeners["panes"])
         panes = self.begin()
         self.assertEqual(self.made, [])
@@ -597,28 +599,28 @@ class Again(Keeper):
         self.assertEqual(len(self.made), 3)
 
 
-class Waits(Keeper):
+class Waits(Host):
     """How long nothing is due."""
 
     def wait_time(self):
         """How long it would wait."""
         self.turn(1)
-        return self.keeper.loop.waited
+        return self.host.loop.waited
 
     def test_moments(self):
         self.begin()
-        self.keeper.lasting.due = 160.0
+        self.host.lasting.due = 160.0
         self.assertAlmostEqual(self.wait_time(), 3.0)
         self.now += 3.0
         self.assertEqual(self.wait_time(), 0.0)
         self.assertAlmostEqual(self.wait_time(), 57.0)
-        self.keeper.common.refuse("x", OSError(24, "Too many open files"))
+        self.host.common.refuse("x", OSError(24, "Too many open files"))
         self.assertAlmostEqual(self.wait_time(), 0.25)
         self.now += 0.25
         self.turn()
-        self.keeper.asked.close = True
-        self.keeper.panes[1].close_terminal()
-        self.keeper.panes[1].ends()
+        self.host.asked.close = True
+        self.host.panes[1].close_terminal()
+        self.host.panes[1].ends()
         self.turn()
         self.now += 1.0
         self.assertAlmostEqual(self.wait_time(), 2.0)
@@ -627,8 +629,8 @@ class Waits(Keeper):
         self.assertEqual(read_now(self.server), b"close 1 4\n" * 2)
 
 
-class Rows(Keeper):
-    """What the filter of rows, which is played by hand, is handed of panes."""
+class Rows(Host):
+    """What the scrollback process, which is played by hand, is handed of panes."""
 
     history = "100"
 
@@ -645,7 +647,7 @@ class Rows(Keeper):
         return self.fake.taken()
 
     def test_handed(self):
-        """What is written to panes, their sizes and their ends, and what the keeper itself says there."""
+        """What is written to panes, their sizes and their ends, and what the host itself says there."""
         panes = self.begin()
         self.made[0].send(b"out")
         self.made[1].send(b"two")
@@ -663,8 +665,8 @@ class Rows(Keeper):
     def test_behind(self):
         """A pane isn't read while the filter doesn't keep up, for a second at most."""
         pane = self.begin()[0]
-        self.keeper.rows.set_behind(True)
-        self.keeper.loop.later("rows are behind", scrollback.WAITS, self.keeper.rows.lose)
+        self.host.rows.set_behind(True)
+        self.host.loop.later("rows are behind", scrollback.WAITS, self.host.rows.lose)
         self.made[0].send(b"out")
         self.turn()
         self.assertEqual(read_now(pane), b"")
@@ -677,43 +679,43 @@ class Rows(Keeper):
         """Where the session ends who writes rows down has what stood last in a pane."""
         self.begin()
         self.made[0].send(b"out")
-        one = self.connected("shells", b"log 1 4 0\n")
+        one = self.connected("host", b"log 1 4 0\n")
         self.turn()
         self.assertEqual(self.fake.taken(), b"pane 0 23 39\nbytes 0 3\nout")
-        self.keeper.is_over = True
+        self.host.is_over = True
         self.fake.prints(b"screen 0 2 7\n out\n \n")
-        self.assertEqual(self.keeper.common.run(), 0)
+        self.assertEqual(self.host.common.run(), 0)
         self.assertEqual(read_now(one), b"rows 1 4 0 1 5\n out\nlog 1 4 end\n")
 
     def test_last_blank(self):
         """Where a pane shows nothing he is told its end, although nothing comes behind the screen that tells so."""
         self.begin()
         self.made[0].send(b"out")
-        one = self.connected("shells", b"log 1 4 0\n")
+        one = self.connected("host", b"log 1 4 0\n")
         self.turn()
-        self.keeper.is_over = True
+        self.host.is_over = True
         self.fake.prints(b"screen 0 2 4\n \n \n")
-        self.assertEqual(self.keeper.common.run(), 0)
+        self.assertEqual(self.host.common.run(), 0)
         self.assertEqual(read_now(one), b"log 1 4 end\n")
 
     def test_last_waits(self):
         """For what a filter doesn't tell then it isn't waited long."""
         self.begin()
         self.made[0].send(b"out")
-        one = self.connected("shells", b"log 1 4 0\n")
-        self.keeper.is_over = True
-        turn = self.keeper.loop.turn
+        one = self.connected("host", b"log 1 4 0\n")
+        self.host.is_over = True
+        turn = self.host.loop.turn
 
         def passed():
             self.now += 0.1
             turn()
 
-        self.patch_of(self.keeper.loop, "turn", passed)
-        self.assertEqual(self.keeper.common.run(), 0)
+        self.patch_of(self.host.loop, "turn", passed)
+        self.assertEqual(self.host.common.run(), 0)
         self.assertEqual(one.recv(64), b"")
 
     def connected(self, name, text):
-        """One who connects to a socket of the keeper's, and says this."""
+        """One who connects to a socket of the host's, and says this."""
         one = socket.socket(socket.AF_UNIX, socket.SOCK_STREAM)
         self.addCleanup(one.close)
         one.connect(str(self.folder / name))

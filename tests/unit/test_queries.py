@@ -5,7 +5,7 @@ from aids import Case
 from roam_live.common.process import TOOLS
 from roam_live.input.keys import Key, Keys
 from roam_live.protocol.colours import ASKED, Colours, colour_of, told_in
-from roam_live.protocol.queries import VERSION, holds_frames, question_in
+from roam_live.protocol.queries import VERSION, holds_frames, query_in
 
 ANSWERS = ("\x1b]10;rgb:ffff/ffff/ffff\x07", "\x1b]11;rgb:1e/1E/2e\x1b\\")
 
@@ -14,23 +14,23 @@ class Answered(Case):
     """Lines of `panes`, and what is typed for them."""
 
     def test_answers(self):
-        """Each question has its answer, by what is known; a colour that isn't known has none, and nor has what is no question."""
+        """Each query has its answer, by what is known; a colour that isn't known has none, and nor has what is no query."""
         colours = Colours()
         colours.take("colour background 1e1e/1e1e/2e2e")
         for line, wanted, unheld in (
-                ("asks 1 7 version", f"\x1bP>|roam {VERSION}\x1b\\", None),
-                ("asks 1 7 pastes", "\x1b[?2004;2$y", None), ("asks 1 7 pastes set", "\x1b[?2004;1$y", None),
-                ("asks 1 7 frames", "\x1b[?2026;2$y", "\x1b[?2026;0$y"), ("asks 1 7 frames set", "\x1b[?2026;1$y", "\x1b[?2026;0$y"),
-                ("asks 1 7 background", "\x1b]11;rgb:1e1e/1e1e/2e2e\x1b\\", None),
-                ("asks 1 7 background bell", "\x1b]11;rgb:1e1e/1e1e/2e2e\x07", None),
-                ("asks 1 7 foreground", "", None)):
-            question = question_in(line)
-            self.assertEqual((question.pane, question.life), (1, 7))
-            self.assertEqual(question.answer(colours, True).decode(), wanted, line)
-            self.assertEqual(question.answer(colours, False).decode(), wanted if unheld is None else unheld, line)
-        for line in ("", "asks", "asks 1 7", "asks 1 x version", "asks 1 7 name", "asks 1 7 version set", "asks 1 7 pastes bell",
-                     "modes 1 7", "asks 1 7 pastes set set", "asks \u0661 7 version"):
-            self.assertIsNone(question_in(line), line)
+                ("query 1 7 version", f"\x1bP>|roam {VERSION}\x1b\\", None),
+                ("query 1 7 pastes", "\x1b[?2004;2$y", None), ("query 1 7 pastes set", "\x1b[?2004;1$y", None),
+                ("query 1 7 frames", "\x1b[?2026;2$y", "\x1b[?2026;0$y"), ("query 1 7 frames set", "\x1b[?2026;1$y", "\x1b[?2026;0$y"),
+                ("query 1 7 background", "\x1b]11;rgb:1e1e/1e1e/2e2e\x1b\\", None),
+                ("query 1 7 background bell", "\x1b]11;rgb:1e1e/1e1e/2e2e\x07", None),
+                ("query 1 7 foreground", "", None)):
+            query = query_in(line)
+            self.assertEqual((query.pane, query.generation), (1, 7))
+            self.assertEqual(query.answer(colours, True).decode(), wanted, line)
+            self.assertEqual(query.answer(colours, False).decode(), wanted if unheld is None else unheld, line)
+        for line in ("", "query", "query 1 7", "query 1 x version", "query 1 7 name", "query 1 7 version set", "query 1 7 pastes bell",
+                     "modes 1 7", "query 1 7 pastes set set", "query \u0661 7 version"):
+            self.assertIsNone(query_in(line), line)
 
     def test_version(self):
         """The version that is told is that of the program."""
@@ -41,7 +41,8 @@ class Answered(Case):
         """Whether a server holds frames together is told by its words, and not known where these can't be read."""
         folder = self.made_folder()
         self.patch("roam_live.protocol.queries.pathlib.Path", side_effect=lambda path: folder / path.split("/")[2])
-        for process, words, wanted in ((7, b"roam\0serve\0--as-meant\0--dir\0D\0", True), (8, b"roam\0serve\0--dir\0--as-meanti\0", False)):
+        for process, words, wanted in ((7, b"roam\0serve\0--normalize\0--dir\0D\0", True),
+                                       (8, b"roam\0serve\0--dir\0--as-meanti\0", False)):
             (folder / str(process)).write_bytes(words)
             self.assertEqual(holds_frames(process), wanted)
         self.assertEqual((holds_frames(9), holds_frames(None)), (False, False))

@@ -11,7 +11,7 @@ from roam_live.common.errors import Fault
 from roam_live.protocol.datagram_stream import LONGEST, SHORTEST
 from roam_live.relay import common, far, near
 from test_frames import HOSTILE, ODD
-from roam_live.relay.forwarding import BYTES, CARRIES, OPEN
+from roam_live.relay.forwarding import BYTES, FORWARDS, OPEN
 from roam_live.relay.frames import COUNT, ENDED, HAD, HEADER, KILLED, UNPACKS, WAITING_LIMIT, BadWords, RelayStream, Waiting, greeting
 
 relay = loaded("relay")
@@ -43,7 +43,7 @@ class Other:
             length, peer = HEADER.unpack(text[: HEADER.size])
             found.append((peer, text[HEADER.size : HEADER.size + length]))
             text = text[HEADER.size + length :]
-        return [frame for frame in found if frame not in ((0, UNPACKS), (0, CARRIES))]
+        return [frame for frame in found if frame not in ((0, UNPACKS), (0, FORWARDS))]
 
 
 class FakeLink:
@@ -188,7 +188,7 @@ class Nears(Ends):
         self.near.take_windows({})
         self.assertEqual(list(self.near.window_of.values()), [5])
 
-    def test_carries(self):
+    def test_forwards(self):
         """Datagrams go both ways, each to its own client."""
         self.answer()
         clients = [self.client(), self.client()]
@@ -213,9 +213,9 @@ class Nears(Ends):
         told = [(0, b"p1 1 1 23 80\nfocus 1\n"), (0, b"b\3"), (0, b"b"), (0, b"k\3\1"), (0, b"z?")]
         self.links[0].say(packed(*told))
         self.turn(2)
-        self.assertEqual((self.near.carries, self.near.link), (False, self.links[0]))
+        self.assertEqual((self.near.forwards, self.near.link), (False, self.links[0]))
         self.assertEqual(self.said.getvalue().count("the other machine's roam is an earlier one"), 1)
-        self.assertEqual([name for name in ("panes", "bells", "shells", "rects") if (self.folder / name).exists()], [])
+        self.assertEqual([name for name in ("panes", "bells", "host", "rects") if (self.folder / name).exists()], [])
 
     def test_ended(self):
         """The session's end ends it with status 0, and is noted."""
@@ -261,7 +261,7 @@ class Nears(Ends):
         self.assertNotIn("Traceback", self.said.getvalue())
 
     def test_forgiven(self):
-        """Ten minutes in which the other end is sound without a break have what it said before that forgotten."""
+        """Ten minutes in which the other end is validated without a break have what it said before that forgotten."""
         self.answer()
         for seconds, count in ((599, 2), (600, 1)):
             self.near.broken.count = 1
@@ -429,7 +429,7 @@ class Nears(Ends):
         self.turn(2)
         self.assertEqual((len(self.links), self.links[0].has_ended), (1, False))
 
-    def test_sound(self):
+    def test_validated(self):
         """A link that was there for 5 s has the pauses begin anew."""
         self.answer()
         self.near.try_count = 4
@@ -680,12 +680,12 @@ class Fars(Ends):
         """It greets with the session, where that is known, else with none; it waits neither for what it reads nor for what it writes."""
         self.assertEqual(self.set_blocking.call_args_list, [mock.call(0, False), mock.call(1, False)])
         self.far.turn()
-        self.assertEqual(read_now(self.other.end), b"roam-relay 2 -\n" + packed((0, CARRIES)))
+        self.assertEqual(read_now(self.other.end), b"roam-relay 2 -\n" + packed((0, FORWARDS)))
         one = self.far_end(session="5e55")
         self.assertTrue(one.stream.going.startswith(b"roam-relay 2 5e55\n"))
         self.assertEqual((one.stream.session, self.far_end(greeted=True).stream.session), (None, "-"))
 
-    def test_carries(self):
+    def test_forwards(self):
         """Each client has a stream of its own to the server."""
         self.say(greeting("-") + packed((4, datagram(1)), (7, datagram(2)), (4, datagram(3)), (5, b"XX" + datagram(4)[2:])))
         self.far.turn()
@@ -793,10 +793,10 @@ class Fars(Ends):
             self.far.turn()
         self.assertEqual(self.other.frames()[-1], (0, ENDED))
 
-    def test_shells(self):
-        """Where it knows the server it sees the end of what keeps the shells."""
+    def test_host(self):
+        """Where it knows the server it sees the end of the pty host."""
         self.patch_of(far, "opened_process", return_value=self.pipe()[0])
-        watch = self.patch_of(far, "ShellsWatch")
+        watch = self.patch_of(far, "HostWatchdog")
         self.far = self.far_end(server=os.getpid())
         self.assertEqual(self.far.place.folder, self.folder)
         watch.assert_called_once_with(self.far.place, self.far.loop)
@@ -896,19 +896,19 @@ class Streams(Ends):
         text = greeting("abc") + packed((1, datagram(1)), (0, b"z1"), (0, b"zp"), (9, datagram(2)))
         for cut in range(len(text) + 1):
             self.receiver = RelayStream(self.there[0], self.back[1], "-")
-            found = [frame for piece in (text[:cut], text[cut:]) if piece for frame in self.received(piece)]
+            found = [frame for chunk in (text[:cut], text[cut:]) if chunk for frame in self.received(chunk)]
             self.assertEqual(found, [(1, datagram(1)), (0, b"z1"), (0, b"zp"), (9, datagram(2))], cut)
 
     def test_each_cut_carried(self):
-        """The frames of carried connections, cut at each place: their bytes are counted, and the first frame tells whether there are
+        """The frames of forwarded connections, cut at each place: their bytes are counted, and the first frame tells whether there are
         any."""
-        told = [(0, CARRIES), (0, b"o\0\1panes"), (0, b"d\0\1focus 1\n"), (0, b"t\0\1" + bytes(8)), (0, b"q\0\1"), (1, datagram(1))]
-        for frames, carries in ((told, True), (told[1:], False)):
+        told = [(0, FORWARDS), (0, b"o\0\1panes"), (0, b"d\0\1focus 1\n"), (0, b"t\0\1" + bytes(8)), (0, b"q\0\1"), (1, datagram(1))]
+        for frames, forwards in ((told, True), (told[1:], False)):
             text = greeting("abc") + packed(*frames)
             for cut in range(len(text) + 1):
                 self.receiver = RelayStream(self.there[0], self.back[1], "-")
-                found = [frame for piece in (text[:cut], text[cut:]) if piece for frame in self.received(piece)]
-                self.assertEqual((found, self.receiver.carries), (frames, carries), cut)
+                found = [frame for chunk in (text[:cut], text[cut:]) if chunk for frame in self.received(chunk)]
+                self.assertEqual((found, self.receiver.forwards), (frames, forwards), cut)
                 self.assertEqual(self.receiver.had, 11 + SHORTEST)
 
     def test_versions(self):

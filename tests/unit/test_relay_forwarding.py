@@ -9,7 +9,7 @@ from roam_live.relay.frames import RelayStream
 from test_relay import FakeLink
 from test_transport_switch import KEY, Both
 
-LINES = b"1 1 1 23 80 1\nfocus 1\nstarts 1 of 64\nwatchers 0 of 16\n"
+LINES = b"1 1 1 23 80 1\nfocus 1\nclients 1 of 64\nwatchers 0 of 16\n"
 
 
 class Joined(Both):
@@ -107,7 +107,7 @@ class ByCommand(Joined):
         self.served["panes"][0].send(b"2 1 41 23 39 1\nfocus 2\n")
         self.run_for()
         self.assertEqual((read_now(bells), read_now(held[2])), (b"bell 3\nsay words\n", b"2 1 41 23 39 1\nfocus 2\n"))
-        self.assertIsNotNone(self.connect("shells"))
+        self.assertIsNotNone(self.connect("host"))
 
     def test_cut(self):
         """Where the command ends all of it ends, and is told anew once another is there."""
@@ -155,19 +155,19 @@ class ByCommand(Joined):
 
 
 class ByPath(Joined):
-    """Over a path, where that is sound."""
+    """Over a path, where that is validated."""
 
     udp = None
 
-    def sound(self):
+    def validate(self):
         """Has the path be sound."""
         self.run_for(4)
-        self.assertTrue(self.near.ways.is_sound() and self.fars[0].ways.is_sound())
+        self.assertTrue(self.near.ways.is_validated() and self.fars[0].ways.is_validated())
 
     def test_changes(self):
-        """Once the path is sound they end and begin anew over it; once it is silent they do so over the command."""
+        """Once the path is validated they end and begin anew over it; once it is silent they do so over the command."""
         self.run_for(0.1)
-        self.sound()
+        self.validate()
         self.assertEqual(len(self.served["panes"]), 2)
         panes, bells = self.connect(), self.connect("bells")
         self.run_for()
@@ -179,8 +179,8 @@ class ByPath(Joined):
         self.run_for()
         self.assertEqual((read_now(bells), read_now(panes)), (b"bell 1\n", b"focus 1\n" * 3))
         # Nothing goes by UDP any more; the command is there still.
-        blocked = self.patch_of(self.near.ways.path.seal, "counter_of", lambda packet: 0)
-        self.patch_of(self.fars[0].ways.path.seal, "counter_of", lambda packet: 0)
+        blocked = self.patch_of(self.near.ways.path.aead, "counter_of", lambda packet: 0)
+        self.patch_of(self.fars[0].ways.path.aead, "counter_of", lambda packet: 0)
         self.run_for(12)
         self.assertEqual((panes.recv(1), bells.recv(1)), (b"", b""))
         again = self.connect()
@@ -191,7 +191,7 @@ class ByPath(Joined):
 
     def test_alone(self):
         """Where the command has ended they go on over the path, as if nothing were."""
-        self.sound()
+        self.validate()
         panes = self.connect()
         self.run_for()
         self.assertEqual(read_now(panes), LINES)
@@ -205,7 +205,7 @@ class ByPath(Joined):
 
     def test_much(self):
         """What is large comes whole over a path, both ways."""
-        self.sound()
+        self.validate()
         one = self.connect("bells")
         self.run_for()
         server = self.served["bells"][0]

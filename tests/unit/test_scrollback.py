@@ -1,4 +1,4 @@
-"""What the filter is handed of panes, what is kept of what it prints, and what is lost where it doesn't keep up, or ends."""
+"""What the scrollback process is handed of panes, what is kept of what it prints, and what is lost where it doesn't keep up, or ends."""
 import os
 import signal
 import time
@@ -8,7 +8,7 @@ from aids import Case, StillLoop
 from filtered import FAKE, played
 from roam_live.common.event_loop import Loop
 from roam_live.host import scrollback
-from roam_live.host.scrollback import BEHIND, EARLIER, LAST_WAIT, PAUSES, QUEUE, SCREEN_WAIT, TOLD_FOR, WAITS, RowKeeper, chosen_rows
+from roam_live.host.scrollback import BEHIND, EARLIER, LAST_WAIT, PAUSES, QUEUE, SCREEN_WAIT, TOLD_FOR, WAITS, Scrollback, chosen_rows
 from roam_live.host.scrollback_store import LOST_ROWS, LOST_SOME
 
 SIZE = (23, 80)
@@ -16,36 +16,36 @@ LOST = LOST_SOME[:-1].encode()
 
 
 class Keeping(Case):
-    """A keeper of rows whose filters are played by hand."""
+    """A host of rows whose filters are played by hand."""
 
-    filters = 1
+    processes = 1
 
     def setUp(self):
         self.loop = StillLoop(lambda: self.now)
-        self.fakes = played(self, self.filters)
+        self.fakes = played(self, self.processes)
         self.fake = self.fakes[0]
         self.said, self.told = [], []
         patch = mock.patch.object(scrollback, "program", lambda: "/roam")
         patch.start()
         self.addCleanup(patch.stop)
-        self.keeper = RowKeeper(self.loop, self.said.append, 100)
-        self.addCleanup(self.keeper.close)
+        self.scrollback = Scrollback(self.loop, self.said.append, 100)
+        self.addCleanup(self.scrollback.close)
 
-    def rows(self, pane=1, life=5):
-        """The rows that are kept of a pane."""
-        return self.keeper.pane(pane, life).rows.range().rows(0, 999)[1]
+    def rows(self, pane=1, generation=5):
+        """The scrollback rows of a pane."""
+        return self.scrollback.pane(pane, generation).rows.range().rows(0, 999)[1]
 
-    def ask(self, pane=1, life=5):
+    def ask(self, pane=1, generation=5):
         """Asks for a snapshot."""
-        self.keeper.ask_snapshot(pane, life, self.told.append)
+        self.scrollback.ask_snapshot(pane, generation, self.told.append)
 
     def prints(self, data):
-        """Has the filter print."""
+        """Has the scrollback process print."""
         self.fake.prints(data)
         self.loop.turns(2)
 
     def handed(self):
-        """What the filter was handed."""
+        """What the scrollback process was handed."""
         self.loop.turns(2)
         return self.fake.taken()
 
@@ -56,40 +56,40 @@ class Keeping(Case):
 
 
 class Handed(Keeping):
-    """What the filter is handed."""
+    """What the scrollback process is handed."""
 
     def test_panes(self):
         """A pane has a terminal once something is written there, with its size then; another making has another."""
-        self.keeper.begin(1, 5, SIZE)
-        self.keeper.resize(1, (10, 40))
+        self.scrollback.begin(1, 5, SIZE)
+        self.scrollback.resize(1, (10, 40))
         self.assertEqual(self.handed(), b"")
-        self.keeper.feed(1, b"a")
-        self.keeper.feed(1, b"")
-        self.keeper.feed(9, b"none")
-        self.keeper.resize(1, (10, 40))
-        self.keeper.resize(1, (1, 900))
-        self.keeper.feed(1, b"b")
+        self.scrollback.feed(1, b"a")
+        self.scrollback.feed(1, b"")
+        self.scrollback.feed(9, b"none")
+        self.scrollback.resize(1, (10, 40))
+        self.scrollback.resize(1, (1, 900))
+        self.scrollback.feed(1, b"b")
         self.assertEqual(self.handed(), b"pane 0 10 40\nbytes 0 1\nasize 0 2 500\nbytes 0 1\nb")
-        self.keeper.begin(1, 6, SIZE)
-        self.keeper.feed(1, b"c")
+        self.scrollback.begin(1, 6, SIZE)
+        self.scrollback.feed(1, b"c")
         self.assertEqual(self.handed(), b"gone 0\npane 1 23 80\nbytes 1 1\nc")
         self.prints(b"rows 0 1 3\n a\nrows 1 1 3\n c\n")
-        self.assertEqual(self.rows(life=6), [b" c"])
-        self.assertIsNone(self.keeper.pane(1, 5))
+        self.assertEqual(self.rows(generation=6), [b" c"])
+        self.assertIsNone(self.scrollback.pane(1, 5))
 
     def test_printed(self):
         """What it prints is kept, what is lost told among it, and what is cleared isn't kept."""
-        self.keeper.begin(1, 5, SIZE)
-        self.keeper.feed(1, b"a")
+        self.scrollback.begin(1, 5, SIZE)
+        self.scrollback.feed(1, b"a")
         self.prints(b"rows 0 2 7\n a\n+bc\nlost 0 9\nrows 0 1 3\n d\n")
         self.assertEqual(self.rows(), [b" a", b"+bc", LOST_ROWS.format(9)[:-1].encode(), b" d"])
         self.prints(b"cleared 0\nrows 0 1 3\n e\nrows 77 1 3\n e\n")
         self.assertEqual(self.rows(), [b" e"])
 
     def test_snapshot(self):
-        """What is kept when the filter tells the screen, and the screen."""
-        self.keeper.begin(1, 5, SIZE)
-        self.keeper.feed(1, b"a")
+        """What is kept when the scrollback process tells the screen, and the screen."""
+        self.scrollback.begin(1, 5, SIZE)
+        self.scrollback.feed(1, b"a")
         self.ask()
         self.ask(2, 5)
         self.ask(1, 6)
@@ -102,7 +102,7 @@ class Handed(Keeping):
 
     def test_late(self):
         """A screen that comes too late answers nobody, and each further one its own question."""
-        self.keeper.begin(1, 5, SIZE)
+        self.scrollback.begin(1, 5, SIZE)
         self.ask()
         self.pass_time(SCREEN_WAIT + 0.1)
         self.assertEqual(self.told, [None])
@@ -114,25 +114,25 @@ class Handed(Keeping):
 
     def test_last(self):
         """Who writes rows down has a gone pane's last screen, without the blank rows at its end, before it is forgotten."""
-        self.keeper.begin(1, 5, SIZE)
-        self.keeper.feed(1, b"a")
-        pane = self.keeper.pane(1, 5)
+        self.scrollback.begin(1, 5, SIZE)
+        self.scrollback.feed(1, b"a")
+        pane = self.scrollback.pane(1, 5)
         pane.logs += 1
-        self.keeper.begin(1, 6, SIZE)
+        self.scrollback.begin(1, 6, SIZE)
         self.prints(b"rows 0 1 3\n a\nscreen 0 3 9\n s\n t\n  \n")
         self.assertEqual(pane.rows.range().rows(0, 9)[1], [b" a", b" s", b" t"])
-        self.assertIs(self.keeper.pane(1, 5), pane)
-        self.assertEqual(self.keeper.pane(1, 6).rows.end, 0)
+        self.assertIs(self.scrollback.pane(1, 5), pane)
+        self.assertEqual(self.scrollback.pane(1, 6).rows.end, 0)
         pane.logs -= 1
-        self.keeper.unlogged(pane)
-        self.assertIsNone(self.keeper.pane(1, 5))
-        pane = self.keeper.pane(1, 6)
+        self.scrollback.unlogged(pane)
+        self.assertIsNone(self.scrollback.pane(1, 5))
+        pane = self.scrollback.pane(1, 6)
         pane.logs += 1
-        self.keeper.drop(1)
+        self.scrollback.drop(1)
         self.pass_time(SCREEN_WAIT + 0.1)
         self.pass_time(LAST_WAIT + 0.1)
         self.assertTrue(pane.is_gone)
-        self.assertEqual((self.keeper.leaving, self.keeper.room.panes), ([], []))
+        self.assertEqual((self.scrollback.leaving, self.scrollback.room.panes), ([], []))
 
 
 class Behind(Keeping):
@@ -141,59 +141,59 @@ class Behind(Keeping):
     def fill(self):
         """Writes to a pane while it is read."""
         for _ in range(1000):
-            if not self.keeper.hears():
+            if not self.scrollback.hears():
                 return
-            self.keeper.feed(1, b"x" * 4096)
+            self.scrollback.feed(1, b"x" * 4096)
             self.loop.turns()
 
     def test_waits(self):
         """Panes aren't read while too much waits, until half of it is taken; nothing is lost then."""
-        self.keeper.begin(1, 5, SIZE)
+        self.scrollback.begin(1, 5, SIZE)
         self.fill()
-        size = self.keeper.filter.size()
+        size = self.scrollback.process.size()
         self.assertGreaterEqual(size, QUEUE)
-        self.assertFalse(self.keeper.hears())
+        self.assertFalse(self.scrollback.hears())
         found = b""
-        while not self.keeper.hears():
+        while not self.scrollback.hears():
             found += self.fake.taken()
             self.loop.turns()
-        self.assertLessEqual(self.keeper.filter.size(), QUEUE // 2)
+        self.assertLessEqual(self.scrollback.process.size(), QUEUE // 2)
         self.pass_time(WAITS + 1)
-        while self.keeper.filter.size():
+        while self.scrollback.process.size():
             found += self.fake.taken()
             self.loop.turns()
         self.assertEqual((self.said, found.count(b"pane")), ([], 1))
 
     def test_lost(self):
         """After a second panes are read again; rows are lost then, which is told, and stands among those that are kept."""
-        self.keeper.begin(1, 5, SIZE)
-        self.keeper.begin(2, 5, SIZE)
-        self.keeper.feed(2, b"quiet")
+        self.scrollback.begin(1, 5, SIZE)
+        self.scrollback.begin(2, 5, SIZE)
+        self.scrollback.feed(2, b"quiet")
         self.fill()
         self.pass_time(WAITS - 0.1)
-        self.assertFalse(self.keeper.hears())
+        self.assertFalse(self.scrollback.hears())
         self.pass_time(0.2)
-        self.assertTrue(self.keeper.hears())
+        self.assertTrue(self.scrollback.hears())
         self.assertEqual(self.said, [BEHIND])
-        size = self.keeper.filter.size()
+        size = self.scrollback.process.size()
         for number in range(1000):
-            self.keeper.feed(1, b"y" * 4096)
-            self.keeper.resize(1, (10, 40 + number % 2))
+            self.scrollback.feed(1, b"y" * 4096)
+            self.scrollback.resize(1, (10, 40 + number % 2))
             self.ask()
-        self.assertEqual(self.keeper.filter.size(), size)
+        self.assertEqual(self.scrollback.process.size(), size)
         self.assertEqual(set(self.told), {None})
         self.fake.taken()
         self.loop.turns()
-        self.assertGreater(self.keeper.filter.size(), 0)
-        self.keeper.feed(1, b"y" * 4096)
+        self.assertGreater(self.scrollback.process.size(), 0)
+        self.scrollback.feed(1, b"y" * 4096)
         found = b""
         for _ in range(100):
             found += self.fake.taken()
             self.loop.turns()
         self.assertFalse(b"yy" in found)
         self.prints(b"rows 1 1 3\n a\n")
-        self.keeper.feed(1, b"z")
-        self.keeper.feed(2, b"z")
+        self.scrollback.feed(1, b"z")
+        self.scrollback.feed(2, b"z")
         self.assertEqual(self.handed(), b"pane 2 10 41\nbytes 2 1\nzbytes 0 1\nz")
         self.prints(b"rows 1 1 3\n b\nrows 2 1 3\n z\nrows 0 1 3\n q\n")
         self.assertEqual(self.rows(), [b" a", b" b", LOST, b" z"])
@@ -201,11 +201,11 @@ class Behind(Keeping):
 
     def test_told(self):
         """It is told once in a while, however often it happens."""
-        self.keeper.begin(1, 5, SIZE)
+        self.scrollback.begin(1, 5, SIZE)
         for _ in range(3):
             self.fill()
             self.pass_time(WAITS + 0.1)
-            while self.keeper.filter.size():
+            while self.scrollback.process.size():
                 self.fake.taken()
                 self.loop.turns()
         self.assertEqual(self.said, [BEHIND])
@@ -216,77 +216,77 @@ class Behind(Keeping):
 
     def test_bounded(self):
         """What is asked of one that takes nothing, and sizes, don't wait without end."""
-        self.keeper.begin(1, 5, SIZE)
-        self.keeper.feed(1, b"a")
+        self.scrollback.begin(1, 5, SIZE)
+        self.scrollback.feed(1, b"a")
         for number in range(60_000):
-            self.keeper.resize(1, (10, 40 + number % 2))
+            self.scrollback.resize(1, (10, 40 + number % 2))
             self.ask()
-        self.assertLess(self.keeper.filter.size(), 3 * QUEUE)
-        self.assertLess(len(self.keeper.ending), 2)
+        self.assertLess(self.scrollback.process.size(), 3 * QUEUE)
+        self.assertLess(len(self.scrollback.ending), 2)
 
 
 class Ended(Keeping):
     """A filter that ends, again and again."""
 
-    filters = 3
+    processes = 3
 
     def end(self):
-        """Has the filter end that is there."""
+        """Has the scrollback process end that is there."""
         self.fakes.pop(0).end()
         self.fake = self.fakes[0] if self.fakes else None
         self.loop.turns(2)
 
     def test_again(self):
         """Another is spawned after a pause that grows, and each pane has a new terminal there; what is lost is told and stands there."""
-        self.keeper.begin(1, 5, SIZE)
-        self.keeper.begin(2, 5, SIZE)
-        self.keeper.feed(1, b"a")
+        self.scrollback.begin(1, 5, SIZE)
+        self.scrollback.begin(2, 5, SIZE)
+        self.scrollback.feed(1, b"a")
         self.prints(b"rows 0 1 3\n a\n")
         self.ask()
         self.end()
         self.assertEqual(self.told, [None])
         self.assertEqual(self.said, [scrollback.ENDED.format("it took nothing more")])
-        self.keeper.feed(1, b"lost")
+        self.scrollback.feed(1, b"lost")
         self.ask()
         self.assertEqual(self.told, [None, None])
         self.pass_time(PAUSES[0])
-        self.keeper.feed(1, b"b")
-        self.keeper.feed(2, b"c")
+        self.scrollback.feed(1, b"b")
+        self.scrollback.feed(2, b"c")
         self.assertEqual(self.handed(), b"pane 1 23 80\nbytes 1 1\nbpane 2 23 80\nbytes 2 1\nc")
         self.prints(b"rows 1 1 3\n b\nrows 2 1 3\n c\n")
         self.assertEqual((self.rows(), self.rows(2)), ([b" a", LOST, b" b"], [b" c"]))
         self.end()
         self.pass_time(PAUSES[0])
-        self.assertIsNone(self.keeper.filter)
+        self.assertIsNone(self.scrollback.process)
         self.pass_time(PAUSES[1])
-        self.assertIsNotNone(self.keeper.filter)
+        self.assertIsNotNone(self.scrollback.process)
         self.end()
         self.pass_time(PAUSES[2])
         self.assertEqual(self.said[-1], "no rows of history are kept: no process is left; tried again")
         self.pass_time(PAUSES[3])
-        self.assertIsNone(self.keeper.filter)
-        self.assertTrue(self.keeper.hears())
+        self.assertIsNone(self.scrollback.process)
+        self.assertTrue(self.scrollback.hears())
 
     def test_other(self):
         """A new terminal behind a loss shows the other screen where the pane's program does, so that no row leaves it; a first one not."""
-        self.keeper.is_other = lambda number: number == 1
+        self.scrollback.is_other = lambda number: number == 1
         for number in (1, 2):
-            self.keeper.begin(number, 5, SIZE)
-            self.keeper.feed(number, b"a")
+            self.scrollback.begin(number, 5, SIZE)
+            self.scrollback.feed(number, b"a")
         self.assertEqual(self.handed(), b"pane 0 23 80\nbytes 0 1\napane 1 23 80\nbytes 1 1\na")
         self.end()
         self.pass_time(PAUSES[0])
         for number in (1, 2):
-            self.keeper.feed(number, b"b")
+            self.scrollback.feed(number, b"b")
         self.assertEqual(self.handed(), b"pane 2 23 80\nbytes 2 9\n\x1b[?1049hbpane 3 23 80\nbytes 3 1\nb")
 
     def test_nonsense(self):
         """One that prints nonsense is ended."""
-        self.keeper.begin(1, 5, SIZE)
-        self.keeper.feed(1, b"a")
+        self.scrollback.begin(1, 5, SIZE)
+        self.scrollback.feed(1, b"a")
         self.prints(b"rows 0 1 3\n a\n")
         self.prints(b"rows 0 2 3\n a\n")
-        self.assertIsNone(self.keeper.filter)
+        self.assertIsNone(self.scrollback.process)
         self.assertEqual(self.said, [scrollback.ENDED.format("it printed another number of rows than it said")])
         self.assertEqual(self.rows(), [b" a"])
 
@@ -296,20 +296,20 @@ class Ended(Keeping):
             self.pass_time(scrollback.SOUND)
             self.end()
             self.pass_time(PAUSES[0])
-            self.assertIsNotNone(self.keeper.filter)
+            self.assertIsNotNone(self.scrollback.process)
 
     def test_earlier(self):
         """An earlier program keeps no rows, and isn't spawned again; all else goes on."""
-        self.keeper.begin(1, 5, SIZE)
-        self.keeper.feed(1, b"a")
-        self.keeper.ended("usage", 2)
+        self.scrollback.begin(1, 5, SIZE)
+        self.scrollback.feed(1, b"a")
+        self.scrollback.ended("usage", 2)
         self.assertEqual(self.said, [EARLIER])
-        self.keeper.feed(1, b"a")
+        self.scrollback.feed(1, b"a")
         self.ask()
         self.assertEqual(self.told, [None])
         self.pass_time(PAUSES[-1])
-        self.assertIsNone(self.keeper.filter)
-        self.assertTrue(self.keeper.hears())
+        self.assertIsNone(self.scrollback.process)
+        self.assertTrue(self.scrollback.hears())
 
 
 class Chosen(Case):
@@ -324,26 +324,26 @@ class Chosen(Case):
             self.assertEqual((chosen, bool(wrong)), (10000 if count is None else count, count is None), word)
 
     def test_none(self):
-        """Where none are to be kept no filter runs."""
+        """Where none are to be kept no scrollback process runs."""
         said = []
-        with mock.patch.object(RowKeeper, "words", side_effect=AssertionError):
-            keeper = RowKeeper(StillLoop(lambda: self.now), said.append, 0)
-        keeper.begin(1, 5, SIZE)
-        keeper.feed(1, b"a\n" * 100)
-        self.assertEqual((said, keeper.pane(1, 5)), ([], None))
-        keeper.close()
+        with mock.patch.object(Scrollback, "words", side_effect=AssertionError):
+            scrollback = Scrollback(StillLoop(lambda: self.now), said.append, 0)
+        scrollback.begin(1, 5, SIZE)
+        scrollback.feed(1, b"a\n" * 100)
+        self.assertEqual((said, scrollback.pane(1, 5)), ([], None))
+        scrollback.close()
 
     def test_absent(self):
         """Where the program isn't there it is tried again."""
         said = []
         loop = StillLoop(lambda: self.now)
         with mock.patch.dict(os.environ, {"ROAM": "/no/such/roam"}):
-            keeper = RowKeeper(loop, said.append, 10)
+            scrollback = Scrollback(loop, said.append, 10)
             for pause in (*PAUSES, PAUSES[-1]):
                 self.now += pause
                 loop.turns()
         self.assertEqual(said, ["no rows of history are kept: /no/such/roam isn't there; make builds it; tried again"] * 3)
-        keeper.close()
+        scrollback.close()
 
 
 class Real(Case):
@@ -360,20 +360,20 @@ class Real(Case):
         """The last rows are kept, whole and in order; of one that is killed what came before, and what is written then."""
         self.loop, said = Loop(), []
         self.loop.each(lambda: self.loop.clock() + 0.02)
-        with mock.patch.object(RowKeeper, "words", lambda self: FAKE):
-            keeper = RowKeeper(self.loop, said.append, 1000)
-            self.addCleanup(keeper.close)
-            keeper.begin(1, 5, (2, 80))
+        with mock.patch.object(Scrollback, "words", lambda self: FAKE):
+            scrollback = Scrollback(self.loop, said.append, 1000)
+            self.addCleanup(scrollback.close)
+            scrollback.begin(1, 5, (2, 80))
             for number in range(0, 5000, 100):
-                keeper.feed(1, b"".join(b"%d\r\n" % one for one in range(number, number + 100)))
-            rows = keeper.pane(1, 5).rows
+                scrollback.feed(1, b"".join(b"%d\r\n" % one for one in range(number, number + 100)))
+            rows = scrollback.pane(1, 5).rows
             self.until(lambda: rows.end == 4999)
             self.assertEqual(rows.range().rows(0, 2000), (3999, [b" %d" % one for one in range(3999, 4999)]))
-            os.kill(keeper.filter.process, signal.SIGKILL)
+            os.kill(scrollback.process.process, signal.SIGKILL)
             self.until(lambda: said)
-            self.until(lambda: keeper.filter)
-            keeper.feed(1, b"a\r\nb\r\n")
+            self.until(lambda: scrollback.process)
+            scrollback.feed(1, b"a\r\nb\r\n")
             self.until(lambda: rows.end == 5001)
             self.assertEqual(rows.range().rows(4998, 9), (4998, [b" 4998", LOST, b" a"]))
-            keeper.feed(1, b"\x1b[3J")
+            scrollback.feed(1, b"\x1b[3J")
             self.until(lambda: rows.first == rows.end)

@@ -1,11 +1,11 @@
-"""What a front end asks of kept rows and buffers: its lines, what is told, cut anywhere, and what can't be an answer."""
+"""What a front end asks of scrollback rows and buffers: its lines, what is told, cut anywhere, and what can't be an answer."""
 import socket
 
 from aids import Case, StillLoop
-from roam_live.protocol.host_client import ShellsLink
-from roam_live.protocol.scrollback_client import MOST_ANSWER, MOST_LISTED, AnswerReader, BadAnswer, BufferNote, RowsLink, Snapshot
+from roam_live.protocol.host_client import HostClient
+from roam_live.protocol.scrollback_client import MOST_ANSWER, MOST_LISTED, AnswerReader, BadAnswer, BufferNote, ScrollbackClient, Snapshot
 
-TOLD = (b"keeper 00\nrows 2 5 10 2 9 \nrows 2 5 10 2 9\n +ab\n+c\x1b\nothers 0\nsnapshot 2 5 0 7 1 3\n x\nbuffers 2\n4 5 a b\n3 1 \n"
+TOLD = (b"host 00\nrows 2 5 10 2 9 \nrows 2 5 10 2 9\n +ab\n+c\x1b\nothers 0\nsnapshot 2 5 0 7 1 3\n x\nbuffers 2\n4 5 a b\n3 1 \n"
         b"buffer show 4 5\na\n\nb\nbuffer show 9 none\nmore 2 5 3\nbuffers 0\n")
 
 
@@ -14,7 +14,7 @@ class Asked(Case):
 
     def setUp(self):
         self.said, self.told, self.is_connected = [], [], True
-        self.link = RowsLink(self.ask)
+        self.link = ScrollbackClient(self.ask)
 
     def ask(self, line, data):
         """Takes a question, while it is connected."""
@@ -47,7 +47,7 @@ class Asked(Case):
                                      ([BufferNote(4, 2, "a b")],)])
 
     def test_none(self):
-        """What can't be answered is told so, and so is all where no keeper is connected, or where it is lost."""
+        """What can't be answered is told so, and so is all where no host is connected, or where it is lost."""
         asks = (lambda: self.link.count(2, 5, self.tell), lambda: self.link.rows(2, 5, 3, 1, self.tell),
                 lambda: self.link.find(2, 5, 0, False, "a", self.tell), lambda: self.link.snapshot(2, 5, self.tell),
                 lambda: self.link.buffer(4, self.tell), lambda: self.link.buffers(self.tell), lambda: self.link.add_buffer(b"a", self.tell))
@@ -74,7 +74,7 @@ class Asked(Case):
         self.assertEqual((self.said, self.told), ([], [(None,)] * 4))
 
     def test_added(self):
-        """A buffer's bytes go once a keeper is known to take them for that; an earlier one takes none."""
+        """A buffer's bytes go once a host is known to take them for that; an earlier one takes none."""
         self.link.add_buffer(b"a\nb", self.tell)
         self.assertEqual(self.said, [b"buffer list\n"])
         self.take(b"bad line\n")
@@ -124,7 +124,7 @@ class Read(Case):
         told = TOLD.replace(b"rows 2 5 10 2 9 \n", b"")
         whole = shown(AnswerReader().fed(told))
         self.assertEqual([words[0] for words, _, _ in whole],
-                         ["keeper", "rows", "others", "snapshot", "buffers", "buffer", "buffer", "more", "buffers"])
+                         ["host", "rows", "others", "snapshot", "buffers", "buffer", "buffer", "more", "buffers"])
         self.assertEqual([data for _, data, _ in whole if data], [b" +ab\n+c\x1b\n", b" x\n", b"a\n\nb\n"])
         for cut in range(len(told)):
             reader = AnswerReader()
@@ -134,49 +134,49 @@ class Read(Case):
 
 
 class Linked(Case):
-    """The same over a front end's connection to a keeper."""
+    """The same over a front end's connection to a host."""
 
     def setUp(self):
         self.loop = StillLoop(lambda: self.now)
-        self.link = ShellsLink(None, self.loop, lambda: (24, 80), False, lambda: None)
-        ours, self.keeper = socket.socketpair()
-        for end in (ours, self.keeper):
+        self.link = HostClient(None, self.loop, lambda: (24, 80), False, lambda: None)
+        ours, self.host = socket.socketpair()
+        for end in (ours, self.host):
             end.setblocking(False)
             self.addCleanup(end.close)
         self.link.begin(ours)
         self.loop.turns(2)
-        self.keeper.recv(4096)
+        self.host.recv(4096)
         self.told = []
 
     def test_asked(self):
         """Answers with bytes come between what is told of who is there; what can't be an answer ends the connection."""
-        self.link.kept.rows(1, 2, 0, 5, lambda first, rows: self.told.append((first, rows)))
+        self.link.scrollback.rows(1, 2, 0, 5, lambda first, rows: self.told.append((first, rows)))
         self.loop.turns(2)
-        self.assertEqual(self.keeper.recv(4096), b"rows 1 2 0 5\n")
-        self.keeper.send(b"keeper 00\nrows 1 2 0 2 8\n gone\n\nx\nothers 0\n"[:-1])
+        self.assertEqual(self.host.recv(4096), b"rows 1 2 0 5\n")
+        self.host.send(b"host 00\nrows 1 2 0 2 8\n gone\n\nx\nothers 0\n"[:-1])
         self.loop.turns(2)
         self.assertFalse(self.link.is_known)
-        self.keeper.send(b"\n")
+        self.host.send(b"\n")
         self.loop.turns(2)
         self.assertTrue(self.link.is_known)
         self.assertEqual(self.told, [(0, [b" gone", b""])])
-        self.link.kept.count(1, 2, self.told.append)
-        self.keeper.send(b"rows 1 2 none\n")
+        self.link.scrollback.count(1, 2, self.told.append)
+        self.host.send(b"rows 1 2 none\n")
         self.loop.turns(2)
         self.assertIsNone(self.link.peer)
         self.assertEqual(self.link.why, "rows isn't what was asked for")
 
     def test_buffer_given(self):
-        """A buffer is given by its number, again to a keeper that comes again."""
-        self.keeper.send(b"keeper 00\nothers 0\n")
+        """A buffer is given by its number, again to a host that comes again."""
+        self.host.send(b"host 00\nothers 0\n")
         self.loop.turns(2)
-        self.link.give("00112233445566aa", 7)
+        self.link.store("00112233445566aa", 7)
         self.loop.turns(2)
-        self.assertEqual(self.keeper.recv(4096), b"give 00112233445566aa buffer 7\n")
+        self.assertEqual(self.host.recv(4096), b"paste 00112233445566aa buffer 7\n")
         self.link.answers = lambda *told: self.told.append(told)
         self.link.meet("00")
         self.loop.turns(2)
-        self.assertEqual(self.keeper.recv(4096), b"give 00112233445566aa buffer 7\n")
-        self.keeper.send(b"refused 00112233445566aa no buffer has this number\n")
+        self.assertEqual(self.host.recv(4096), b"paste 00112233445566aa buffer 7\n")
+        self.host.send(b"refused 00112233445566aa no buffer has this number\n")
         self.loop.turns(2)
         self.assertEqual(self.told, [("00112233445566aa", "refused", "no buffer has this number")])

@@ -1,4 +1,4 @@
-"""The filter of rows as a process: records to it and from it, cut anywhere, and its end in each way."""
+"""The scrollback process as a process: records to it and from it, cut anywhere, and its end in each way."""
 import fcntl
 import gc
 import os
@@ -11,8 +11,9 @@ from aids import Case, StillLoop
 from filtered import FAKE, played
 from roam_live.common.event_loop import Loop
 from roam_live.host import scrollback_process
-from roam_live.host.scrollback_process import (BATCH, ENDS, GATHERS, LONGEST_LINE, MOST_RECORD, PIPE_SIZE, SAID_SIZE, BadRecord, RowFilter,
-                                               RowRecords, spawned)
+from roam_live.host.scrollback_process import (BATCH, ENDS, GATHERS, LONGEST_LINE, MOST_RECORD, PIPE_SIZE, SAID_SIZE, BadRecord,
+                                               ScrollbackProcess,
+                                               ScrollbackRecords, spawned)
 
 PRINTED = b"rows 0 2 7\n a\n+bc\nlost 3 17\ncleared 1023\nscreen 2 0 0\nrows 1 1 2\n \nscreen 4 1 9\n \x1b[1mrow\n"
 RECORDS = [("rows", 0, 2, b" a\n+bc\n"), ("lost", 3, 17, b""), ("cleared", 1023, 0, b""), ("screen", 2, 0, b""), ("rows", 1, 1, b" \n"),
@@ -23,11 +24,11 @@ class Printed(Case):
     """Records that it prints."""
 
     def test_cut(self):
-        """They come in any pieces."""
+        """They come in any chunks."""
         for cut in range(len(PRINTED) + 1):
-            records = RowRecords()
+            records = ScrollbackRecords()
             self.assertEqual([tuple(one) for one in records.fed(PRINTED[:cut]) + records.fed(PRINTED[cut:])], RECORDS, cut)
-        records = RowRecords()
+        records = ScrollbackRecords()
         self.assertEqual([tuple(one) for at in range(len(PRINTED)) for one in records.fed(PRINTED[at : at + 1])], RECORDS)
 
     def test_nonsense(self):
@@ -37,7 +38,7 @@ class Printed(Case):
                         b"rows 1 0 1\nx", f"rows 1 1 {MOST_RECORD + 1}\n".encode(), b"lost 1 " + b"9" * 16 + b"\n", b"lost " * 30,
                         b"\xff" * LONGEST_LINE, "rows \u0661 1 2\n".encode(), b"ROWS 1 1 2\n \n"):
             with self.assertRaises(BadRecord, msg=printed):
-                records = RowRecords()
+                records = ScrollbackRecords()
                 records.fed(printed[:5])
                 records.fed(printed[5:])
 
@@ -49,9 +50,9 @@ class Handed(Case):
         self.loop = StillLoop(lambda: self.now)
         self.fake = played(self)[0]
         self.records, self.ends, self.writes = [], [], 0
-        self.filter = RowFilter(self.loop, ["none"], lambda record: self.records.append(tuple(record)), self.wrote,
-                                lambda why, status: self.ends.append((why, status)))
-        self.addCleanup(self.filter.end, "the test ends")
+        self.process = ScrollbackProcess(self.loop, ["none"], lambda record: self.records.append(tuple(record)), self.wrote,
+                                         lambda why, status: self.ends.append((why, status)))
+        self.addCleanup(self.process.end, "the test ends")
 
     def wrote(self):
         """Counts that something was written."""
@@ -59,24 +60,24 @@ class Handed(Case):
 
     def test_joined(self):
         """What is written for one terminal goes as one record, and stays before what comes behind it."""
-        self.filter.add("pane 1 2 4")
+        self.process.add("pane 1 2 4")
         for data in (b"ab", b"c\n"):
-            self.filter.add_bytes(1, data)
-        self.filter.add_bytes(2, b"d")
-        self.filter.add("screen 2")
-        self.filter.add_bytes(1, b"e")
-        self.assertEqual(self.filter.size(), len(b"pane 1 2 4\nbytes 1 4\nabc\nbytes 2 1\ndscreen 2\n" + b"e"))
+            self.process.add_bytes(1, data)
+        self.process.add_bytes(2, b"d")
+        self.process.add("screen 2")
+        self.process.add_bytes(1, b"e")
+        self.assertEqual(self.process.size(), len(b"pane 1 2 4\nbytes 1 4\nabc\nbytes 2 1\ndscreen 2\n" + b"e"))
         self.loop.turns(2)
         self.assertEqual(self.fake.taken(), b"pane 1 2 4\nbytes 1 4\nabc\nbytes 2 1\ndscreen 2\nbytes 1 1\ne")
-        self.assertEqual((self.filter.size(), self.writes), (0, 1))
+        self.assertEqual((self.process.size(), self.writes), (0, 1))
 
     def test_full(self):
         """What it doesn't take waits, and goes in order."""
         data = bytes(range(256)) * 4096
         for at in range(0, len(data), 4096):
-            self.filter.add_bytes(1, data[at : at + 4096])
+            self.process.add_bytes(1, data[at : at + 4096])
         self.loop.turns(40)
-        self.assertGreater(self.filter.size(), 0)
+        self.assertGreater(self.process.size(), 0)
         found = b""
         for _ in range(60):
             found += self.fake.taken()
@@ -86,21 +87,21 @@ class Handed(Case):
 
     def test_gathered(self):
         """What is written waits a little for more; not where there is much of it, or something else is to go."""
-        self.filter.add_bytes(1, b"a")
+        self.process.add_bytes(1, b"a")
         self.loop.turns(2)
         self.assertEqual(self.fake.taken(), b"")
         self.assertAlmostEqual(self.loop.waited, GATHERS)
-        self.filter.add_bytes(1, b"b")
+        self.process.add_bytes(1, b"b")
         self.now += GATHERS
         self.loop.turns(2)
         self.assertEqual(self.fake.taken(), b"bytes 1 2\nab")
-        self.filter.add_bytes(1, b"x" * BATCH)
+        self.process.add_bytes(1, b"x" * BATCH)
         self.loop.turns(2)
         self.assertEqual(len(self.fake.taken()), len(f"bytes 1 {BATCH}\n") + BATCH)
         self.now += GATHERS
         self.loop.turns(2)
-        self.filter.add_bytes(1, b"c")
-        self.filter.add("screen 1")
+        self.process.add_bytes(1, b"c")
+        self.process.add("screen 1")
         self.loop.turns(2)
         self.assertEqual(self.fake.taken(), b"bytes 1 1\ncscreen 1\n")
 
@@ -118,7 +119,7 @@ class Handed(Case):
         self.loop.turns()
         self.assertEqual(self.records, [])
         self.assertEqual(self.ends, [("it printed what is no record", None)])
-        self.filter.write = self.fail
+        self.process.write = self.fail
         self.loop.turns(3)
 
     def test_ended(self):
@@ -127,7 +128,7 @@ class Handed(Case):
         self.loop.turns(2)
         self.assertEqual(self.ends, [("it ended", None)])
         other = played(self, 1, b"roam: line 3: bad record\x1b[2J\nmore\n")[0]
-        one = RowFilter(self.loop, ["none"], self.fail, self.wrote, lambda why, status: self.ends.append((why, status)))
+        one = ScrollbackProcess(self.loop, ["none"], self.fail, self.wrote, lambda why, status: self.ends.append((why, status)))
         os.close(other.input)
         other.open.discard(other.input)
         one.add("pane 1 2 4")
@@ -158,8 +159,8 @@ class Spawned(Case):
     def spawn(self, words):
         """A filter."""
         self.records, self.ends = [], []
-        one = RowFilter(self.loop, words, lambda record: self.records.append(tuple(record)), lambda: None,
-                        lambda why, status: self.ends.append((why, status)))
+        one = ScrollbackProcess(self.loop, words, lambda record: self.records.append(tuple(record)), lambda: None,
+                                lambda why, status: self.ends.append((why, status)))
         self.addCleanup(one.signal_kill)
         return one
 

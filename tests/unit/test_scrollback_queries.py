@@ -1,14 +1,14 @@
-"""What the keeper's socket `shells` answers of kept rows, and of buffers."""
+"""What the host's socket `host` answers of scrollback rows, and of buffers."""
 import socket
 from unittest import mock
 
 from aids import read_now
 from filtered import played
 from roam_live.host import scrollback, socket_server
-from roam_live.host.paste_buffers import (EMPTY, MOST_BUFFER, MOST_BUFFERS, MOST_COMING, TOO_LONG, TOO_MUCH, UNKNOWN, WATCHES, Buffers,
+from roam_live.host.paste_buffers import (EMPTY, MOST_BUFFER, MOST_BUFFERS, MOST_COMING, READ_ONLY, TOO_LONG, TOO_MUCH, UNKNOWN, Buffers,
                                           sample)
-from roam_live.host.scrollback import SCREEN_WAIT, RowKeeper
-from roam_live.host.socket_server import MOST_WAITING, UNREAD, CommonShells, ShellsSocket
+from roam_live.host.scrollback import SCREEN_WAIT, Scrollback
+from roam_live.host.socket_server import MOST_WAITING, UNREAD, HostRegistry, HostServer
 from test_socket_server import NAMED, Sockets
 
 NAME = "00112233445566aa"
@@ -22,17 +22,17 @@ class Rows(Sockets):
         self.socket.close()
         self.fake = played(self)[0]
         with mock.patch.object(scrollback, "program", lambda: "/roam"):
-            self.keeper = RowKeeper(self.loop, self.fail, 100)
-        self.addCleanup(self.keeper.close)
-        self.socket = ShellsSocket(self.folder, self.loop, lambda: None, CommonShells(self.loop, self.keeper))
+            self.scrollback = Scrollback(self.loop, self.fail, 100)
+        self.addCleanup(self.scrollback.close)
+        self.socket = HostServer(self.folder, self.loop, lambda: None, HostRegistry(self.loop, self.scrollback))
         self.socket.common.name = NAMED
         self.addCleanup(self.socket.close)
-        self.keeper.begin(1, 5, (23, 80))
-        self.keeper.feed(1, b"a")
+        self.scrollback.begin(1, 5, (23, 80))
+        self.scrollback.feed(1, b"a")
         self.prints(b"rows 0 3 15\n Alpha\n+be\n ta\n")
 
     def prints(self, data):
-        """Has the filter print."""
+        """Has the scrollback process print."""
         self.fake.prints(data)
         self.loop.turns(3)
         return self.fake.taken()
@@ -63,12 +63,12 @@ class Asked(Rows):
         lines = ("count", "count 1", "count 1 5 6", "count 0 5", "count 10 5", "count x 5", "rows 1 5 0", "rows 1 5 -1 2", "rows 1 5 0 x",
                  "find 1 5 0 up a", "find 1 5 0 on", "find 1 5 0 on ", "find 1 5 a on b", "snapshot 1", "release", "log 1 5",
                  "count 1 " + "9" * 16, "count  1 5", "buffer", "buffer add", "buffer add x", "buffer add 9999999999", "buffer show",
-                 f"give {NAME} buffer", f"give {NAME} buffer x", "rows 1 5 \u0661 1", "counts 1 5")
+                 f"paste {NAME} buffer", f"paste {NAME} buffer x", "rows 1 5 \u0661 1", "counts 1 5")
         for line in lines:
             self.assertEqual(self.asked(one, line), b"bad line\n", line)
 
     def test_cut(self):
-        """Questions come in any pieces."""
+        """Questions come in any chunks."""
         text = b"count 1 5\nrows 1 5 0 2\nbuffer add 3\na\nbfind 1 5 0 on be\nbuffer list\n"
         for cut in range(len(text)):
             self.socket.buffers = Buffers()
@@ -92,20 +92,20 @@ class Asked(Rows):
         self.assertEqual(self.asked(one, "count 1 5", "find 1 5 9 back t", "find 1 5 0 on e"), b"count 1 5 0 6\nfound 1 5 5\nfound 1 5 1\n")
         self.assertEqual(self.asked(other, "count 1 5"), b"count 1 5 4 6\n")
         self.assertEqual(self.asked(one, "release 2 5", "count 1 5", "release 1 5", "count 1 5"), b"count 1 5 0 6\ncount 1 5 4 6\n")
-        self.assertEqual(self.keeper.room.held, 0)
+        self.assertEqual(self.scrollback.room.held, 0)
         self.say(one, b"snapshot 1 5\n")
         self.prints(b"screen 0 1 3\n u\n")
-        self.assertEqual(len(self.keeper.room.snapshots), 1)
+        self.assertEqual(len(self.scrollback.room.snapshots), 1)
         self.say(one, b"snapshot 1 5\n")
-        self.assertEqual(len(self.keeper.room.snapshots), 0)
+        self.assertEqual(len(self.scrollback.room.snapshots), 0)
         one.close()
         self.loop.turns(2)
         self.prints(b"screen 0 1 3\n u\n")
-        self.assertEqual((len(self.keeper.room.snapshots), self.keeper.room.held), (0, 0))
+        self.assertEqual((len(self.scrollback.room.snapshots), self.scrollback.room.held), (0, 0))
         one = self.connect(b"snapshot 1 5\n")
         self.socket.drop(self.socket.peers[-1])
         self.prints(b"screen 0 1 3\n u\n")
-        self.assertEqual((len(self.keeper.room.snapshots), self.keeper.room.held), (0, 0))
+        self.assertEqual((len(self.scrollback.room.snapshots), self.scrollback.room.held), (0, 0))
 
     def test_silent(self):
         """A filter that tells no screen is waited for a while; so is what was asked behind that."""
@@ -139,7 +139,7 @@ class Asked(Rows):
         self.now += 1
         self.loop.turns(3)
         self.assertEqual(read_now(one), b"")
-        self.keeper.drop(1)
+        self.scrollback.drop(1)
         self.loop.turns(3)
         self.assertEqual(self.asked(one, "count 1 5"), b"count 1 5 0 4\n")
 
@@ -148,7 +148,7 @@ class Asked(Rows):
         one = self.connect(b"snapshot 1 5\n")
         self.prints(b"screen 0 1 3\n u\n")
         read_now(one)
-        self.keeper.room.most_held = 0
+        self.scrollback.room.most_held = 0
         self.prints(b"cleared 0\n")
         self.assertEqual(self.asked(one, "count 1 5", "rows 1 5 0 1", "find 1 5 0 on a", "release 1 5", "count 1 5"),
                          b"count 1 5 none\nrows 1 5 none\nfound 1 5 none\ncount 1 5 3 3\n")
@@ -159,12 +159,12 @@ class Asked(Rows):
         self.assertEqual(read_now(one), b"")
         self.prints(b"rows 0 2 6\n c\n d\n")
         self.assertEqual(read_now(one), b"rows 1 5 3 2 6\n c\n d\n")
-        self.keeper.drop(1)
+        self.scrollback.drop(1)
         self.loop.turns(3)
         self.prints(b"rows 0 1 3\n e\nscreen 0 3 8\n s\n t\n \n")
         self.loop.turns(3)
         self.assertEqual(read_now(one), b"rows 1 5 5 1 3\n e\nrows 1 5 6 2 6\n s\n t\nlog 1 5 end\n")
-        self.assertEqual((self.keeper.leaving, self.keeper.room.panes), ([], []))
+        self.assertEqual((self.scrollback.leaving, self.scrollback.room.panes), ([], []))
         self.assertEqual(self.asked(one, "log 1 5 0"), b"log 1 5 none\n")
 
     def test_log_lost(self):
@@ -173,15 +173,15 @@ class Asked(Rows):
         rows = [f" {number}".encode() for number in range(3000)]
         for at in range(0, 3000, 100):
             data = b"".join(row + b"\n" for row in rows[at : at + 100])
-            self.keeper.panes[1].rows.add(100, data)
-        self.keeper.came()
+            self.scrollback.panes[1].rows.add(100, data)
+        self.scrollback.came()
         self.loop.turns(3)
         self.assertEqual(read_now(one).split(b"\n")[:2], [b"rows 1 5 2903 100 600", b" 2900"])
 
 
     def test_log_waits(self):
-        """Who writes rows down and doesn't take them is waited for, for a second: the filter's rows aren't read meanwhile. Once he takes
-        them nothing was lost; who takes none misses some, and isn't waited for again until he has all."""
+        """Who writes rows down and doesn't take them is waited for, for a second: the scrollback process's rows aren't read meanwhile. Once
+        he takes them nothing was lost; who takes none misses some, and isn't waited for again until he has all."""
         one = self.connect(b"log 1 5 3\n")
         one.setsockopt(socket.SOL_SOCKET, socket.SO_RCVBUF, 4096)
         rows, printed, found = b"".join(b" %04d\n" % number for number in range(100)), 0, b""
@@ -190,22 +190,22 @@ class Asked(Rows):
                 break
             self.prints(b"rows 0 100 600\n" + rows)
             printed += 1
-        self.assertFalse(self.keeper.reads())
+        self.assertFalse(self.scrollback.reads())
         self.prints(b"rows 0 100 600\n" + rows)
-        self.assertEqual(self.keeper.panes[1].rows.end, 3 + 100 * printed)
+        self.assertEqual(self.scrollback.panes[1].rows.end, 3 + 100 * printed)
         for _ in range(1000):
             found += read_now(one)
             self.loop.turns()
-        self.assertTrue(self.keeper.reads())
+        self.assertTrue(self.scrollback.reads())
         self.assertEqual(found.count(rows), printed + 1)
         while not self.socket.common.has_full_log():
             self.prints(b"rows 0 100 600\n" + rows)
         self.now += socket_server.LOG_WAIT
         self.loop.turns(2)
-        self.assertTrue(self.keeper.reads())
+        self.assertTrue(self.scrollback.reads())
         for _ in range(300):
             self.prints(b"rows 0 100 600\n" + rows)
-        self.assertTrue(self.keeper.reads())
+        self.assertTrue(self.scrollback.reads())
         self.assertLess(len(self.socket.peers[0].waiting), MOST_WAITING + 2000)
         self.now += UNREAD + 1
         self.loop.turns(2)
@@ -223,7 +223,7 @@ class Taken(Rows):
 
     def wide(self):
         """A pane with rows of 2 kB."""
-        self.keeper.panes[1].rows.add(100, b"".join(b" " + b"x" * 2000 + b"\n" for _ in range(100)))
+        self.scrollback.panes[1].rows.add(100, b"".join(b" " + b"x" * 2000 + b"\n" for _ in range(100)))
 
     def test_back_pressure(self):
         """Who takes nothing isn't heard while much waits for him, and is answered in order once he takes it."""
@@ -298,7 +298,7 @@ class Buffered(Rows):
 
     def test_refused(self):
         """One that is too long, one of those that come at once, one of who watches, and an empty one; the bytes are passed over."""
-        one, other, watching = self.connect(), self.connect(), self.connect(b"here x 1 1 watches\n")
+        one, other, watching = self.connect(), self.connect(), self.connect(b"here x 1 1 read-only\n")
         self.say(one, f"buffer add {MOST_BUFFER + 1}\n".encode())
         left = MOST_BUFFER + 1
         while left:
@@ -307,7 +307,7 @@ class Buffered(Rows):
         self.loop.turns(20)
         self.assertEqual(read_now(one), f"buffer add none {TOO_LONG}\n".encode())
         self.assertEqual(self.asked(one, "buffer add 0"), f"buffer add none {EMPTY}\n".encode())
-        self.assertEqual(self.asked(watching, "buffer add 2\na"), f"buffer add none {WATCHES}\n".encode())
+        self.assertEqual(self.asked(watching, "buffer add 2\na"), f"buffer add none {READ_ONLY}\n".encode())
         self.assertEqual(self.socket.buffers.coming, 0)
         self.socket.buffers.coming = MOST_COMING - 1
         self.assertEqual(self.asked(one, "buffer add 2\na"), f"buffer add none {TOO_MUCH}\n".encode())
@@ -325,12 +325,12 @@ class Buffered(Rows):
         """A buffer is given as a text: what of it is pasted, once; an unknown one is refused."""
         one = self.connect()
         self.asked(one, "buffer add 12\na\nb\t\x1b[201~c")
-        self.assertEqual(self.asked(one, f"give {NAME} buffer 1"), f"held {NAME}\n".encode())
+        self.assertEqual(self.asked(one, f"paste {NAME} buffer 1"), f"stored {NAME}\n".encode())
         self.assertEqual(self.socket.texts.texts[NAME].data, b"a\rb\t[201~c\r")
-        self.assertEqual(self.asked(one, f"give {NAME} buffer 9"), f"held {NAME}\n".encode())
-        self.assertEqual(self.asked(one, f"give {NAME[::-1]} buffer 9"), f"refused {NAME[::-1]} {UNKNOWN}\n".encode())
+        self.assertEqual(self.asked(one, f"paste {NAME} buffer 9"), f"stored {NAME}\n".encode())
+        self.assertEqual(self.asked(one, f"paste {NAME[::-1]} buffer 9"), f"refused {NAME[::-1]} {UNKNOWN}\n".encode())
         self.assertEqual((self.socket.texts.coming, len(self.socket.texts.texts)), (0, 1))
-        self.assertEqual(self.asked(one, f"ask {NAME}", f"ask {NAME[::-1]}"), f"held {NAME}\nlost {NAME[::-1]}\n".encode())
+        self.assertEqual(self.asked(one, f"status {NAME}", f"status {NAME[::-1]}"), f"stored {NAME}\nlost {NAME[::-1]}\n".encode())
 
     def test_sample(self):
         """The first printable characters, and what stands for a line's end."""

@@ -1,9 +1,9 @@
-"""Rows that are kept as pieces: the last of each pane, whole and in order, within limits, and what is looked for in them."""
+"""Rows that are kept as chunks: the last of each pane, whole and in order, within limits, and what is looked for in them."""
 import random
 import time
 import unittest
 
-from roam_live.host.scrollback_store import BESIDE, LOST_ROWS, LOST_SOME, KeptRange, Piece, RowsRoom, Search, all_of, characters
+from roam_live.host.scrollback_store import BESIDE, LOST_ROWS, LOST_SOME, Chunk, RowsRoom, ScrollbackRange, Search, all_of, characters
 
 
 def rows_of(*texts):
@@ -11,16 +11,16 @@ def rows_of(*texts):
     return "".join(f"{'' if text.startswith('+') else ' '}{text}\n" for text in texts).encode()
 
 
-def kept(room, *pieces, pane=1):
-    """A pane's rows, of pieces of texts."""
+def kept(room, *chunks, pane=1):
+    """A pane's rows, of chunks of texts."""
     rows = room.pane(pane, 1)
-    for texts in pieces:
+    for texts in chunks:
         rows.add(len(texts), rows_of(*texts))
     return rows
 
 
 def all_rows(rows):
-    """All rows that are kept."""
+    """All scrollback rows."""
     first, found = rows.range().rows(0, 1 << 30, 1 << 30, 1 << 30)
     return first, [row.decode() for row in found]
 
@@ -37,25 +37,25 @@ class Kept(unittest.TestCase):
             self.assertEqual(all_rows(rows), (4000, [f" {number}" for number in numbers[4000:]]))
 
     def test_joined(self):
-        """Small pieces are joined to larger ones, but to none that a snapshot holds, and no rows to a row that tells of a loss."""
+        """Small chunks are joined to larger ones, but to none that a snapshot holds, and no rows to a row that tells of a loss."""
         room = RowsRoom(1000)
         rows = kept(room, *(["x" * 98] for _ in range(200)))
-        self.assertEqual([len(piece.data) // 100 for piece in rows.pieces], [82, 82, 36])
+        self.assertEqual([len(chunk.data) // 100 for chunk in rows.chunks], [82, 82, 36])
         snapshot = room.snapshot(rows, 1, rows_of("s"))
         rows.add(1, rows_of("a"))
         rows.add(1, rows_of("b"))
         rows.lose(None)
         rows.add(1, rows_of("c"))
-        self.assertEqual([piece.count for piece in rows.pieces], [82, 82, 36, 2, 1, 1])
+        self.assertEqual([chunk.count for chunk in rows.chunks], [82, 82, 36, 2, 1, 1])
         self.assertEqual((snapshot.end, len(snapshot.rows(0, 999)[1])), (201, 201))
 
     def test_newest(self):
-        """What came last is had of the last pieces alone, and is the same."""
+        """What came last is had of the last chunks alone, and is the same."""
         room = RowsRoom(5000)
         rows = kept(room, *([f"{number} {'x' * 9000}"] for number in range(40)))
         for first in (0, 1, 17, 38, 39, 40, 99):
             self.assertEqual(rows.newest(first).rows(first, 99), rows.range().rows(first, 99), first)
-        self.assertEqual([len(rows.newest(first).pieces) for first in (0, 38, 39, 40)], [40, 2, 1, 1])
+        self.assertEqual([len(rows.newest(first).chunks) for first in (0, 38, 39, 40)], [40, 2, 1, 1])
 
     def test_asked(self):
         """Rows are told as far as they are there, no more than so many rows, nor bytes, but one at least."""
@@ -69,14 +69,14 @@ class Kept(unittest.TestCase):
             self.assertEqual(among.rows(*asked), told)
 
     def test_bytes(self):
-        """The oldest pieces of all panes go first, where they are too many bytes; pieces that were read before are as they were."""
+        """The oldest chunks of all panes go first, where they are too many bytes; chunks that were read before are as they were."""
         room = RowsRoom(1000, 20 * (BESIDE + 9002))
         one, other = room.pane(1, 1), room.pane(2, 1)
         for number in range(15):
             for rows in (one, other):
                 rows.add(1, rows_of(f"{number}".ljust(9000, "x")))
         self.assertLessEqual(room.kept, room.most_bytes)
-        self.assertEqual([(rows.first, rows.end, len(rows.pieces)) for rows in (one, other)], [(5, 15, 10), (5, 15, 10)])
+        self.assertEqual([(rows.first, rows.end, len(rows.chunks)) for rows in (one, other)], [(5, 15, 10), (5, 15, 10)])
         room.drop(other)
         self.assertEqual(room.kept, 10 * (BESIDE + 9002))
         room.drop(one)
@@ -124,10 +124,10 @@ class Kept(unittest.TestCase):
                 room.release(held.pop(random.randrange(len(held))))
             elif random.random() < 0.05:
                 rows.clear()
-            pieces = {id(piece): piece for rows in panes for piece in rows.pieces}
-            alone = {id(piece): piece for one in room.snapshots for piece in one.pieces if id(piece) not in pieces}
-            self.assertEqual(room.kept, sum(piece.charge() for piece in pieces.values()))
-            self.assertEqual(room.held, sum(piece.charge() for piece in alone.values()))
+            chunks = {id(chunk): chunk for rows in panes for chunk in rows.chunks}
+            alone = {id(chunk): chunk for one in room.snapshots for chunk in one.chunks if id(chunk) not in chunks}
+            self.assertEqual(room.kept, sum(chunk.charge() for chunk in chunks.values()))
+            self.assertEqual(room.held, sum(chunk.charge() for chunk in alone.values()))
             self.assertLessEqual(room.kept + room.held, 60_000)
             self.assertLessEqual(room.held, 20_000)
             for rows in panes:
@@ -146,7 +146,7 @@ class Snapshots(unittest.TestCase):
         rows.add(3, rows_of("d", "e", "f"))
         rows.lose(None)
         self.assertEqual(snapshot.rows(0, 9), (0, [b" a", b" b", b" c", b" s", b" t"]))
-        self.assertEqual((snapshot.first, snapshot.kept_end, snapshot.end), (0, 3, 5))
+        self.assertEqual((snapshot.first, snapshot.scrollback_end, snapshot.end), (0, 3, 5))
         rows.clear()
         self.assertEqual(snapshot.rows(2, 9), (2, [b" c", b" s", b" t"]))
         self.assertGreater(room.held, 0)
@@ -189,22 +189,22 @@ class Sought(unittest.TestCase):
             self.assertEqual(self.found(among, start, is_back, text), row, (start, is_back, text))
 
     def test_joined(self):
-        """Rows that went on are one text, over pieces too; the row is that in which it begins."""
+        """Rows that went on are one text, over chunks too; the row is that in which it begins."""
         texts = ["+ab", "+cd", "+", "ef", "ab"]
         for cut in range(1, 5):
-            among = KeptRange(0, 5, [Piece(0, cut, rows_of(*texts[:cut])), Piece(cut, 5 - cut, rows_of(*texts[cut:]))])
+            among = ScrollbackRange(0, 5, [Chunk(0, cut, rows_of(*texts[:cut])), Chunk(cut, 5 - cut, rows_of(*texts[cut:]))])
             for start, is_back, text, row in ((-1, False, "bc", 0), (-1, False, "bcdef", 0), (0, False, "bc", None), (5, True, "de", 1),
                                               (5, True, "ab", 4), (4, True, "ab", 0), (-1, False, "fa", None), (2, True, "ef", None),
                                               (5, True, "ef", 3), (1, True, "abcdef", 0)):
                 self.assertEqual(self.found(among, start, is_back, text), row, (cut, start, is_back, text))
 
     def test_first(self):
-        """What isn't kept any more isn't found, though its piece is there."""
+        """What isn't kept any more isn't found, though its chunk is there."""
         room = RowsRoom(2)
         rows = room.pane(1, 1)
         rows.add(4, rows_of("x1", "x2", "y", "z"))
         self.assertEqual(self.found(rows.range(), 9, True, "x"), None)
-        self.assertEqual(self.found(KeptRange(1, 4, rows.pieces), 9, True, "x"), 1)
+        self.assertEqual(self.found(ScrollbackRange(1, 4, rows.chunks), 9, True, "x"), 1)
 
     def test_any(self):
         """As by a plain definition, on rows by chance."""
@@ -212,10 +212,11 @@ class Sought(unittest.TestCase):
         for _ in range(300):
             texts = ["+" * random.randrange(2) + "".join(random.choices("abB", k=random.randrange(4))) for _ in range(12)]
             cuts = sorted(random.sample(range(1, 12), 3))
-            pieces = [Piece(a, b - a, rows_of(*texts[a:b])) for a, b in zip([0, *cuts], [*cuts, 12])]
+            chunks = [Chunk(a, b - a, rows_of(*texts[a:b])) for a, b in zip([0, *cuts], [*cuts, 12])]
             text = "".join(random.choices("abB", k=random.randrange(1, 6)))
             start, is_back = random.randrange(-1, 13), bool(random.randrange(2))
-            self.assertEqual(self.found(KeptRange(0, 12, pieces), start, is_back, text), plain(texts, start, is_back, text), (texts, text))
+            self.assertEqual(self.found(ScrollbackRange(0, 12, chunks), start, is_back, text), plain(texts, start, is_back, text),
+                             (texts, text))
 
     def test_quick(self):
         """10,000 rows are looked through in much less than 50 ms."""

@@ -11,10 +11,10 @@ from unittest import mock
 from aids import Case, StillLoop, read_now
 from roam_live.common.errors import Fault
 from roam_live.host.pane import Options, surroundings
-from roam_live.host.socket_server import ShellsSocket
+from roam_live.host.socket_server import HostServer
 from roam_live.session import environment
-from roam_live.session.environment import (BRINGS, BROUGHT, LONGEST_VALUE, Brought, agent_in, asked_values, begin_agent, bring, brings_to,
-                                           renew_agent, shell_lines)
+from roam_live.session.environment import (ENVIRONMENT, LONGEST_VALUE, PaneEnvironment, agent_in, asked_values, begin_agent,
+                                           environment_lines, renew_agent, send_environment, shell_lines)
 
 HOSTILE = "$(touch x)'\";`id`\\ #"
 
@@ -27,13 +27,13 @@ class Values(Case):
 
     def test_lines(self):
         """What is told and taken again is what was told; none where none is set."""
-        self.assertEqual(Brought().lines(), ["brought DISPLAY 3a30", "brought WAYLAND_DISPLAY none",
-                                             "brought SSH_CONNECTION 3a3a312035203a3a31203232"])
+        self.assertEqual(PaneEnvironment().lines(), ["environment DISPLAY 3a30", "environment WAYLAND_DISPLAY none",
+                                                     "environment SSH_CONNECTION 3a3a312035203a3a31203232"])
         for value in ("x", HOSTILE, " ", "~" * LONGEST_VALUE, ""):
             self.environment(WAYLAND_DISPLAY=value)
-            line = environment.value_lines(BRINGS, environment.own_values())[1]
+            line = environment.value_lines(ENVIRONMENT, environment.own_values())[1]
             self.assertLess(len(line), 255)
-            known = Brought()
+            known = PaneEnvironment()
             known.values = dict.fromkeys(environment.NAMES, "other")
             self.assertTrue(known.take(line))
             self.assertEqual(known.values["WAYLAND_DISPLAY"], value)
@@ -42,17 +42,20 @@ class Values(Case):
         """What is longer, or isn't printable ASCII, is as if it weren't set."""
         for value in ("x" * (LONGEST_VALUE + 1), "a\x1b[2J", "a\nb", "\u00e9", "\udcff", "\x7f"):
             self.environment(DISPLAY=value)
-            self.assertEqual((Brought().lines()[0], Brought().set_values()), ("brought DISPLAY none", {"SSH_CONNECTION": "::1 5 ::1 22"}))
+            self.assertEqual((PaneEnvironment().lines()[0], PaneEnvironment().set_values()),
+                             ("environment DISPLAY none", {"SSH_CONNECTION": "::1 5 ::1 22"}))
 
     def test_refused(self):
         """What is no such line changes nothing."""
-        known = Brought()
-        for line in ("", "brings", "brings DISPLAY", "brings DISPLAY ", "brings DISPLAY 3", "brings DISPLAY 3A", "brings DISPLAY 3a 3a",
-                     "brings DISPLAY 3a ", "brings DISPLAY 1b", "brings DISPLAY e9", "brings DISPLAY 0a", "brings LD_PRELOAD 3a30",
-                     "brought DISPLAY 3a31", "brings  3a", f"brings DISPLAY {'3a' * (LONGEST_VALUE + 1)}", "brings DISPLAY \u0663\u0663"):
+        known = PaneEnvironment()
+        for line in ("", "environment", "environment DISPLAY", "environment DISPLAY ", "environment DISPLAY 3", "environment DISPLAY 3A",
+                     "environment DISPLAY 3a 3a",
+                     "environment DISPLAY 3a ", "environment DISPLAY 1b", "environment DISPLAY e9", "environment DISPLAY 0a",
+                     "environment LD_PRELOAD 3a30",
+                     "environment  3a", f"environment DISPLAY {'3a' * (LONGEST_VALUE + 1)}", "environment DISPLAY \u0663\u0663"):
             self.assertFalse(known.take(line), line)
         self.assertEqual(known.values, {"DISPLAY": ":0", "WAYLAND_DISPLAY": "", "SSH_CONNECTION": "::1 5 ::1 22"})
-        self.assertTrue(known.take("brings DISPLAY none"))
+        self.assertTrue(known.take("environment DISPLAY none"))
         self.assertEqual(known.set_values(), {"SSH_CONNECTION": "::1 5 ::1 22"})
 
 
@@ -123,7 +126,7 @@ class Agents(Case):
         self.assertEqual(self.renew(str(self.other / "further")), str(self.other / "further"))
 
     def test_begun(self):
-        """The keeper makes one where none is; one that is there stays, though it leads nowhere now."""
+        """The host makes one where none is; one that is there stays, though it leads nowhere now."""
         self.environment(SSH_AUTH_SOCK=self.one)
         begin_agent(self.folder)
         self.assertEqual(os.readlink(self.link), self.one)
@@ -144,7 +147,7 @@ class Agents(Case):
 
 
 class Brings(Case):
-    """Who brings, and to which keeper."""
+    """Who brings, and to which host."""
 
     def setUp(self):
         self.folder = self.made_folder()
@@ -153,9 +156,9 @@ class Brings(Case):
         self.session = types.SimpleNamespace(name="main", folder=self.folder, common=self.folder, served="server")
         self.loop = StillLoop(lambda: self.now)
 
-    def keeper(self):
-        """A keeper's socket there."""
-        one = ShellsSocket(self.folder, self.loop)
+    def host(self):
+        """A host's socket there."""
+        one = HostServer(self.folder, self.loop)
         self.addCleanup(one.close)
         return one
 
@@ -165,46 +168,46 @@ class Brings(Case):
 
     def test_attach(self):
         """One that types brings; one that watches, and one of another machine or without a folder, brings nothing."""
-        self.assertEqual((brings_to(self.session, True), self.has_link()), ([], False))
+        self.assertEqual((environment_lines(self.session, True), self.has_link()), ([], False))
         for more in ({"served": "relay"}, {"folder": None}):
-            self.assertEqual(brings_to(types.SimpleNamespace(**{**vars(self.session), **more}), False), [])
+            self.assertEqual(environment_lines(types.SimpleNamespace(**{**vars(self.session), **more}), False), [])
         self.assertFalse(self.has_link())
-        self.assertEqual(brings_to(self.session, False)[0], "brings DISPLAY 3a37")
+        self.assertEqual(environment_lines(self.session, False)[0], "environment DISPLAY 3a37")
         self.assertTrue(self.has_link())
 
     def test_relayed(self):
-        """To a relay's folder nothing is brought, however the session was named: its keeper is at another machine."""
+        """To a relay's folder nothing is brought, however the session was named: its host is at another machine."""
         self.assertFalse(environment.is_relayed(self.folder))
         self.listening(self.folder / "clients")
         told = (("python3\0/usr/bin/roam-relay\0--dir\0d\0", True), ("python3\0/x/live/relay\0", True), ("/x/relay\0", True),
                 ("/x/roam\0serve\0--dir\0relay\0", False), ("", False))
         for words, is_relayed in told:
             with mock.patch.object(environment, "open", mock.mock_open(read_data=words.encode()), create=True) as opens:
-                self.assertEqual(brings_to(self.session, False) == [], is_relayed, words)
+                self.assertEqual(environment_lines(self.session, False) == [], is_relayed, words)
             opens.assert_called_once_with(f"/proc/{os.getpid()}/cmdline", "rb")
             self.assertEqual(self.has_link(), not is_relayed)
             (self.folder / "agent").unlink(missing_ok=True)
 
     def test_far(self):
-        """The far end brings at once, where a keeper is; where none is it goes on."""
-        bring(self.session)
+        """The far end brings at once, where a host is; where none is it goes on."""
+        send_environment(self.session)
         self.assertTrue(self.has_link())
-        keeper = self.keeper()
-        keeper.common.brought.values = dict.fromkeys(environment.NAMES, "old")
-        bring(self.session)
+        host = self.host()
+        host.common.pane_environment.values = dict.fromkeys(environment.NAMES, "old")
+        send_environment(self.session)
         self.loop.turns(4)
-        self.assertEqual((keeper.common.brought.set_values(), keeper.peers), ({"DISPLAY": ":7"}, []))
+        self.assertEqual((host.common.pane_environment.set_values(), host.peers), ({"DISPLAY": ":7"}, []))
 
-    def told(self, *keeper_says):
-        """What a shell is told where a keeper says this to who connects."""
-        (self.folder / "shells").unlink(missing_ok=True)
-        listener = self.listening(self.folder / "shells")
+    def told(self, *host_lines):
+        """What a shell is told where a host says this to who connects."""
+        (self.folder / "host").unlink(missing_ok=True)
+        listener = self.listening(self.folder / "host")
         listener.setblocking(True)
 
         def answer():
             with contextlib.suppress(OSError), listener.accept()[0] as peer:
                 peer.recv(100)
-                peer.send("".join(f"{line}\n" for line in keeper_says).encode())
+                peer.send("".join(f"{line}\n" for line in host_lines).encode())
 
         thread = threading.Thread(target=answer)
         thread.start()
@@ -217,7 +220,8 @@ class Brings(Case):
         """A shell has exactly what was brought, and runs nothing of it; the link where there is one."""
         renew_agent(self.folder)
         waits = self.patch_of(environment, "comes", side_effect=environment.comes)
-        lines = self.told(f"brought DISPLAY {HOSTILE.encode().hex()}", "brought WAYLAND_DISPLAY none", "brought SSH_CONNECTION 2d6e")
+        lines = self.told(f"environment DISPLAY {HOSTILE.encode().hex()}", "environment WAYLAND_DISPLAY none",
+                          "environment SSH_CONNECTION 2d6e")
         # Once all is told nothing more is waited for.
         self.assertEqual(waits.call_count, 1)
         script = "\n".join([*lines, 'printf "%s|" "$DISPLAY" "${WAYLAND_DISPLAY-unset}" "$SSH_CONNECTION" "$SSH_AUTH_SOCK"; ls'])
@@ -226,33 +230,34 @@ class Brings(Case):
         self.assertEqual((run.stdout.decode(), run.stderr), (f"{HOSTILE}|unset|-n|{self.folder}/agent|", b""))
 
     def test_not_told(self):
-        """Where no keeper is, or one that knows no such words, that is told."""
-        with self.assertRaisesRegex(Fault, "^session main: nothing keeps its shells: "):
+        """Where no host is, or one that knows no such words, that is told."""
+        with self.assertRaisesRegex(Fault, "^session main: its pty host is not running: "):
             asked_values(self.session)
-        for says in (["bad line"], ["brought DISPLAY none", "brought DISPLAY none", "brought PATH 3a"], []):
-            with self.assertRaisesRegex(Fault, "^session main: what keeps its shells doesn't tell what they have, as an earlier roam's$"):
+        for says in (["bad line"], ["environment DISPLAY none", "environment DISPLAY none", "environment PATH 3a"], []):
+            with self.assertRaisesRegex(Fault, "^session main: the pty host doesn't tell what they have, as an earlier roam's$"):
                 self.told(*says)
 
-    def test_keeper(self):
-        """The keeper takes values of who types, tells them to who asks, and takes none of who watches."""
-        keeper = self.keeper()
+    def test_host(self):
+        """The host takes values of who types, tells them to who asks, and takes none of who watches."""
+        host = self.host()
         one = socket.socket(socket.AF_UNIX)
         self.addCleanup(one.close)
-        one.connect(str(self.folder / "shells"))
+        one.connect(str(self.folder / "host"))
         one.setblocking(False)
-        for text, answer in (("brought\n", f"{BROUGHT} DISPLAY 3a37\n{BROUGHT} WAYLAND_DISPLAY none\n{BROUGHT} SSH_CONNECTION none\n"),
-                             ("brings WAYLAND_DISPLAY 3a38\n", ""), ("here a 24 80 edits\nbrings DISPLAY none\n", ""),
-                             ("here a 24 80 watches\nbrings DISPLAY 3a39\n", "bad line\n"), ("brings PATH 3a\n", "bad line\n")):
+        for text, answer in (("environment\n",
+                              f"{ENVIRONMENT} DISPLAY 3a37\n{ENVIRONMENT} WAYLAND_DISPLAY none\n{ENVIRONMENT} SSH_CONNECTION none\n"),
+                             ("environment WAYLAND_DISPLAY 3a38\n", ""), ("here a 24 80 read-write\nenvironment DISPLAY none\n", ""),
+                             ("here a 24 80 read-only\nenvironment DISPLAY 3a39\n", "bad line\n"), ("environment PATH 3a\n", "bad line\n")):
             one.send(text.encode())
             self.loop.turns(3)
             self.assertEqual(read_now(one).decode(), answer, text)
-        self.assertEqual(keeper.common.brought.set_values(), {"WAYLAND_DISPLAY": ":8"})
+        self.assertEqual(host.common.pane_environment.set_values(), {"WAYLAND_DISPLAY": ":8"})
 
     def test_pane(self):
-        """A new pane has what was brought, in place of what the keeper's own environment has."""
-        known = Brought()
-        known.take("brings WAYLAND_DISPLAY 3a38")
-        known.take("brings DISPLAY none")
+        """A new pane has what was brought, in place of what the host's own environment has."""
+        known = PaneEnvironment()
+        known.take("environment WAYLAND_DISPLAY 3a38")
+        known.take("environment DISPLAY none")
         found = surroundings(Options(folder=str(self.folder)), 2, known)
         self.assertEqual([found.get(name) for name in (*environment.NAMES, "ROAM_PANE")], [None, ":8", None, f"{self.folder}:2"])
         self.assertEqual(found["SSH_AUTH_SOCK"], str(self.folder / "own"))

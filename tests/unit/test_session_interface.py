@@ -18,7 +18,7 @@ from roam_live.frontend.commands import Commands
 from roam_live.frontend.display import Display
 from roam_live.protocol.panes import Places, Rect
 from roam_live.protocol.server_address import Home
-from roam_live.protocol.session_interface import AnySession, Kept
+from roam_live.protocol.session_interface import AnySession, HostedSession
 from roam_live.session.folder import FolderSession
 from roam_live.session.foreground import busy_panes
 from roam_live.session.port_session import PortSession
@@ -49,7 +49,7 @@ class Folder(unittest.TestCase):
             (self.folder / "state.json").write_text(json.dumps({"version": 3, **noted}), encoding="utf-8")
         return FolderSession(self.folder, server=os.getpid())
 
-    def keep_shells(self):
+    def keep_host(self):
         """Has this process listen where bells are told, as what keeps shells does."""
         listener = socket.socket(socket.AF_UNIX, socket.SOCK_STREAM)
         self.addCleanup(listener.close)
@@ -75,17 +75,17 @@ class Busy(Folder):
         self.assertIsNone(self.by_hand().busy())
         self.assertIsNone(FolderSession(self.folder).busy())
 
-    def test_start_noted(self):
-        """The client start alone is noted by a front end that was started by hand, which tells nothing of shells."""
-        self.assertIsNone(self.by_hand(terminals=ENDED).busy())
+    def test_client_noted(self):
+        """The client process alone is noted by a front end that was started by hand, which tells nothing of shells."""
+        self.assertIsNone(self.by_hand(client=ENDED).busy())
 
     def test_ended(self):
-        """Where what kept the shells has ended they were hung up."""
-        self.assertEqual(self.by_hand(shells=ENDED).busy(), {})
+        """Where the pty host has ended they were hung up."""
+        self.assertEqual(self.by_hand(host=ENDED).busy(), {})
 
     def test_found(self):
         """What keeps shells is found by its socket."""
-        self.keep_shells()
+        self.keep_host()
         self.assertEqual(self.by_hand().busy(), {})
         self.child(ROAM_PANE=f"{self.folder}:2")
         self.assertEqual(self.by_hand().busy(), {2: "a program"})
@@ -124,7 +124,7 @@ class Known(Folder):
 
     def test_all_there(self):
         """Each has all that a front end needs."""
-        needed = {name for kind in (Kept, AnySession) for name in (*vars(kind), *kind.__annotations__) if not name.startswith("_")}
+        needed = {name for kind in (HostedSession, AnySession) for name in (*vars(kind), *kind.__annotations__) if not name.startswith("_")}
         self.assertGreaterEqual(len(needed), 12)
         for session in self.sessions():
             self.assertEqual({name for name in needed if not hasattr(session, name)}, set(), type(session))
@@ -143,10 +143,10 @@ class Kill(Folder):
         self.assertEqual(mux.lost_with(NearSession(self.folder, "main")), "")
 
 
-class StartLink:
+class ClientLink:
     """What is typed."""
 
-    watches = False
+    is_read_only = False
 
     def __init__(self):
         self.acts = []
@@ -173,7 +173,7 @@ class OuterTerminal:
         """Its rows and columns."""
         return 24, 80
 
-    def give(self, title, shape):
+    def set_title_and_shape(self, title, shape):
         """Nothing stands beside it here."""
 
 
@@ -182,7 +182,7 @@ class Close(Folder):
 
     def person(self, session, places):
         """The keys of the person, what they ask for, and what is shown."""
-        link, loop = StartLink(), Loop()
+        link, loop = ClientLink(), Loop()
         with mock.patch.object(display, "OuterTerminal", OuterTerminal):
             shown = Display(loop, lambda line: None)
         commands = Commands(session, PlayedPanes(mock.Mock(told=places)), link, shown, loop, lambda line: None)
@@ -200,7 +200,7 @@ class Close(Folder):
 
     def test_unasked(self):
         """Where shells alone are known to run it is closed at once."""
-        self.keep_shells()
+        self.keep_host()
         _, link, shown = self.person(self.by_hand(), TWO)
         self.assertEqual((link.acts, shown.told), (["close"], ""))
 

@@ -51,7 +51,7 @@ class Sessions(unittest.TestCase):
         self.folder.mkdir()
         for name in ("session", "rects", "log"):
             (self.folder / name).touch()
-        self.note(server=ENDED, shells=ENDED)
+        self.note(server=ENDED, host=ENDED)
 
     def note(self, folder=None, **processes):
         """Notes processes."""
@@ -98,8 +98,8 @@ class Listed(Sessions):
         """While a front end is there that reads how it ended, that stays, and the front end's note does; then all goes."""
         (self.folder / "attached").mkdir()
         own = self.folder / "attached" / str(os.getpid())
-        own.write_text(f"{begun(os.getpid())} edits\n", encoding="ascii")
-        (self.folder / "attached/1").write_text("7 edits\n", encoding="ascii")
+        own.write_text(f"{begun(os.getpid())} read-write\n", encoding="ascii")
+        (self.folder / "attached/1").write_text("7 read-write\n", encoding="ascii")
         (self.folder / "ended").touch()
         lookup.sweep()
         self.assertEqual((self.names(), self.names(self.folder / "attached")), (["attached", "ended", "lock", "log"], [own.name]))
@@ -155,23 +155,23 @@ class Found(Sessions):
     """A session whose note is lost."""
 
     def test_found(self):
-        """Its processes are those that listen at its sockets; what keeps its shells tells the command."""
-        server, shells = self.listening("clients"), self.listening("bells")
+        """Its processes are those that listen at its sockets; the pty host tells the command."""
+        server, host = self.listening("clients"), self.listening("bells")
         for text in (None, "", "{", "[]", '{"server": 1}', '{"server": [1]}', '{"server": ["a", "b"]}', "\xff"):
             (self.folder / "state.json").unlink(missing_ok=True)
             if text is not None:
                 (self.folder / "state.json").write_text(text, encoding="latin-1")
             session = FolderSession.named("main")
             self.assertTrue(session.find(), text)
-            found = [session.process(role) for role in ("server", "shells", "terminals")]
-            self.assertEqual(found, [server.pid, shells.pid, None])
+            found = [session.process(role) for role in ("server", "host", "client")]
+            self.assertEqual(found, [server.pid, host.pid, None])
         with session.locked():
             self.assertTrue(session.find())
             session.note_found()
         self.assertEqual(FolderSession.named("main").process("server"), server.pid)
 
     def test_command(self):
-        """The command of a keeper of shells stands behind the folder in its words."""
+        """The command of a pty host stands behind the folder in its words."""
         words = [sys.executable, "-c", "import time; print(flush=True); time.sleep(60)", "--close", str(self.folder), "sh", "-c", "a b"]
         process = subprocess.Popen(words, stdout=subprocess.PIPE)
         self.addCleanup(process.wait)
@@ -194,7 +194,7 @@ class Found(Sessions):
             with self.assertRaisesRegex(Fault, "somebody answers at"):
                 session.clean()
             self.assertEqual(self.names(), before)
-            self.assertTrue(session.has_terminals())
+            self.assertTrue(session.has_client())
 
     def test_takes_none(self):
         """Where who listens takes no connection nothing is done, and that is told."""
@@ -234,10 +234,10 @@ class Starts(Sessions):
         """What was started ends again where the rest can't be, and no folder stays where nothing was logged."""
         with self.session.locked():
             self.session.state = {"version": VERSION}
-            with self.assertRaisesRegex(Fault, "^session new: what keeps the shells can't be spawned: /no/such: No such file"):
+            with self.assertRaisesRegex(Fault, "^session new: the pty host can't be spawned: /no/such: No such file"):
                 with self.session.whole():
                     server = self.session.spawned("server", ["sleep", "60"])
-                    self.session.spawned("shells", ["/no/such"])
+                    self.session.spawned("host", ["/no/such"])
         self.assertIsNotNone(server.poll())
         self.assertFalse(self.session.folder.exists())
 
@@ -245,10 +245,10 @@ class Starts(Sessions):
         """Where something was logged the folder stays with its log alone, and the fault has what was said in one line."""
         with self.session.locked():
             self.session.state = {"version": VERSION}
-            with self.assertRaisesRegex(Fault, "^session new: the client start didn't come up: one; two$"):
+            with self.assertRaisesRegex(Fault, "^session new: the client process didn't come up: one; two$"):
                 with self.session.whole():
-                    self.session.spawned("terminals", ["sh", "-c", "echo one >&2; echo; echo two >&2"])
-                    self.session.wait_for("terminals", 0, lambda: False)
+                    self.session.spawned("client", ["sh", "-c", "echo one >&2; echo; echo two >&2"])
+                    self.session.wait_for("client", 0, lambda: False)
         self.assertEqual(self.names(self.session.folder), ["lock", "log"])
 
     def test_unnoted(self):

@@ -120,7 +120,7 @@ class Attach(Case):
     """A front end by a folder or a port."""
 
     def setUp(self):
-        self.environment(ROAM_PREFIX=None, ROAM_GUESS=None)
+        self.environment(ROAM_PREFIX=None, ROAM_PREDICT=None)
         self.follows = self.patch_of(attach, "follow", return_value=5)
         self.patch_of(attach, "program", return_value="/roam")
         self.folder = self.made_folder()
@@ -136,12 +136,12 @@ class Attach(Case):
             self.attach(str(self.folder))
         self.listening(self.folder / "clients")
         self.assertEqual(self.attach(str(self.folder)), 5)
-        place, watches, prefix, guessing = self.follows.call_args[0]
+        place, is_read_only, prefix, prediction = self.follows.call_args[0]
         self.assertEqual((type(place), place.folder, place.by_hand), (FolderSession, self.folder, None))
-        self.assertEqual((watches, prefix, guessing), (False, "C-b", "adaptive"))
-        self.assertEqual(self.attach("--watch", "--guess", "never", "--server", "7", str(self.folder)), 5)
-        place, watches, _, guessing = self.follows.call_args[0]
-        self.assertEqual((place.by_hand, watches, guessing), (7, True, "never"))
+        self.assertEqual((is_read_only, prefix, prediction), (False, "C-b", "adaptive"))
+        self.assertEqual(self.attach("--watch", "--predict", "never", "--server", "7", str(self.folder)), 5)
+        place, is_read_only, _, prediction = self.follows.call_args[0]
+        self.assertEqual((place.by_hand, is_read_only, prediction), (7, True, "never"))
 
     def test_known_server(self):
         """Where its process is named nobody has to listen yet."""

@@ -1,4 +1,4 @@
-"""The keeper's socket `shells`: who is at a session, as each terminal says it and the others are told."""
+"""The host's socket `host`: who is at a session, as each terminal says it and the others are told."""
 import os
 import socket
 import time
@@ -9,26 +9,26 @@ from aids import Case, StillLoop, read_now
 from roam_live.common.process import begun
 from roam_live.host import foreground_watch
 from roam_live.host.pending_clients import MEETS, TICKS, ticks
-from roam_live.host.socket_server import LONGEST_LINE, MEETS_AGAIN, MOST_PEERS, MOST_WAITING, ShellsSocket
+from roam_live.host.socket_server import LONGEST_LINE, MEETS_AGAIN, MOST_PEERS, MOST_WAITING, HostServer
 from roam_live.protocol import presence
-from roam_live.protocol.host_client import KNOWS, ShellsLink
+from roam_live.protocol.host_client import KNOWS, HostClient
 from roam_live.protocol.panes_client import PAUSES
-from roam_live.protocol.presence import MOST_OTHERS, Presence, ToldOthers, presence_said, terminal_name
+from roam_live.protocol.presence import MOST_OTHERS, OtherTerminals, Presence, presence_said, terminal_name
 from roam_live.protocol.zoom_record import OVER, ZoomNote
 
-A, B = "here:/dev/pts/1 24 80 edits", "there:/dev/pts/2 12 40 watches"
+A, B = "here:/dev/pts/1 24 80 read-write", "there:/dev/pts/2 12 40 read-only"
 
 
 NAMED = "00112233445566aa"
 
 
 class Sockets(Case):
-    """The socket in a folder of its own, at which the keeper has a name."""
+    """The socket in a folder of its own, at which the host has a name."""
 
     def setUp(self):
         self.folder = self.made_folder()
         self.loop = StillLoop(lambda: self.now)
-        self.socket = ShellsSocket(self.folder, self.loop)
+        self.socket = HostServer(self.folder, self.loop)
         self.socket.common.name = NAMED
         self.addCleanup(self.socket.close)
 
@@ -36,7 +36,7 @@ class Sockets(Case):
         """One who connects, and says this."""
         one = socket.socket(socket.AF_UNIX, socket.SOCK_STREAM)
         self.addCleanup(one.close)
-        one.connect(str(self.folder / "shells"))
+        one.connect(str(self.folder / "host"))
         one.setblocking(False)
         one.send(text)
         self.loop.turns(3)
@@ -54,15 +54,15 @@ class Told(Sockets):
     def test_others(self):
         """Who asks is told who else is there, and each change; itself it isn't told of, nor who has said nothing."""
         first = self.connect(f"here {A}\nwho\n".encode())
-        self.assertEqual(read_now(first), f"keeper {NAMED}\nothers 0\n".encode())
+        self.assertEqual(read_now(first), f"host {NAMED}\nothers 0\n".encode())
         self.connect()
         second = self.connect(f"here {B}\n".encode())
         self.assertEqual((read_now(first), read_now(second)), (f"there 3 {B}\nothers 1\n".encode(), b""))
         self.say(second, b"who\n")
-        self.assertEqual(read_now(second), f"keeper {NAMED}\nthere 1 {A}\nothers 1\n".encode())
-        self.say(first, b"here here:/dev/pts/1 20 80 edits\n")
-        self.assertEqual((read_now(first), read_now(second)), (b"", b"there 1 here:/dev/pts/1 20 80 edits\nothers 1\n"))
-        self.say(first, b"here here:/dev/pts/1 20 80 edits\n")
+        self.assertEqual(read_now(second), f"host {NAMED}\nthere 1 {A}\nothers 1\n".encode())
+        self.say(first, b"here here:/dev/pts/1 20 80 read-write\n")
+        self.assertEqual((read_now(first), read_now(second)), (b"", b"there 1 here:/dev/pts/1 20 80 read-write\nothers 1\n"))
+        self.say(first, b"here here:/dev/pts/1 20 80 read-write\n")
         self.assertEqual(read_now(second), b"")
         first.close()
         self.loop.turns(3)
@@ -72,15 +72,15 @@ class Told(Sockets):
         """Of what comes at once the newest is told, and each number once."""
         first = self.connect(b"who\n")
         self.connect("".join(f"here {A.replace('24', str(rows))}\n" for rows in range(1, 31)).encode())
-        self.assertEqual(read_now(first), f"keeper {NAMED}\nothers 0\n".encode() + f"there 2 {A.replace('24', '30')}\nothers 1\n".encode())
+        self.assertEqual(read_now(first), f"host {NAMED}\nothers 0\n".encode() + f"there 2 {A.replace('24', '30')}\nothers 1\n".encode())
 
     def test_cut(self):
-        """Lines come in any pieces."""
+        """Lines come in any chunks."""
         text = f"here {A}\nwho\n".encode()
         for cut in range(len(text)):
             one = self.connect(text[:cut])
             self.say(one, text[cut:])
-            self.assertEqual(read_now(one), f"keeper {NAMED}\nothers 0\n".encode())
+            self.assertEqual(read_now(one), f"host {NAMED}\nothers 0\n".encode())
             one.close()
             self.loop.turns(2)
 
@@ -88,11 +88,12 @@ class Told(Sockets):
         """What is no line is answered so, and the connection goes on."""
         one = self.connect(b"who\n")
         read_now(one)
-        for line in ("", "whom", "here", f"here {A} x", "here a\x1b[2J 24 80 edits", "here a 0 80 edits", "here a 24 80 reads",
-                     "here  24 80 edits", f"here {'a' * 65} 24 80 edits", "here a 100000 80 edits", "here \u00e9 24 80 edits"):
+        for line in ("", "whom", "here", f"here {A} x", "here a\x1b[2J 24 80 read-write", "here a 0 80 read-write", "here a 24 80 reads",
+                     "here  24 80 read-write", f"here {'a' * 65} 24 80 read-write", "here a 100000 80 read-write",
+                     "here \u00e9 24 80 read-write"):
             self.say(one, f"{line}\n".encode())
             self.assertEqual(read_now(one), b"bad line\n", line)
-        self.say(one, b"here \xff\xfe 24 80 edits\n")
+        self.say(one, b"here \xff\xfe 24 80 read-write\n")
         self.assertEqual((read_now(one), [peer.presence for peer in self.socket.peers]), (b"bad line\n", [None]))
 
     def test_long(self):
@@ -145,7 +146,7 @@ class Fronts(Case):
         self.loop, self.told = StillLoop(lambda: self.now), []
         self.fronts = foreground_watch.Fronts(self.loop, lambda *words: self.told.append(words))
         self.fronts.is_wanted = True
-        self.pane = mock.Mock(number=3, life=7, terminal=5)
+        self.pane = mock.Mock(number=3, generation=7, terminal=5)
         self.looks = self.patch_of(foreground_watch, "group_in_front", return_value=70)
         self.patch_of(foreground_watch, "name_of", side_effect=lambda group: f"a{group}")
 
@@ -194,16 +195,16 @@ class Fronts(Case):
         self.assertEqual((self.looks.call_count, self.fronts.looked), (0, {}))
 
 
-class Unmet(Sockets):
+class PendingClients(Sockets):
     """Front ends that are noted, and not connected yet."""
 
     def setUp(self):
         super().setUp()
-        self.other, self.unmet = self.process().pid, self.socket.common.unmet
-        self.unmet.folder, self.unmet.since = str(self.folder), 0
+        self.other, self.pending_clients = self.process().pid, self.socket.common.pending_clients
+        self.pending_clients.folder, self.pending_clients.since = str(self.folder), 0
         self.age(0)
         (self.folder / "attached").mkdir()
-        self.note("edits")
+        self.note("read-write")
 
     def note(self, kind):
         """Notes another front end."""
@@ -211,7 +212,7 @@ class Unmet(Sockets):
 
     def age(self, seconds):
         """Has it been there for so long."""
-        self.unmet.clock = lambda: begun(self.other) + seconds * TICKS
+        self.pending_clients.clock = lambda: begun(self.other) + seconds * TICKS
 
     def told(self, one):
         """What one is told of the others, a moment later."""
@@ -223,36 +224,36 @@ class Unmet(Sockets):
         """Who asks isn't told that nobody is there while one may be about to connect; who was told already is told of others meanwhile."""
         before = self.connect(b"who\n")
         self.age(MEETS)
-        self.assertEqual(self.told(before), [f"keeper {NAMED}", "others 0"])
+        self.assertEqual(self.told(before), [f"host {NAMED}", "others 0"])
         self.age(MEETS / 2)
         one = self.connect(f"here {A}\nwho\n".encode())
-        self.assertEqual([self.told(one), self.told(one), self.told(before)], [[f"keeper {NAMED}"], [], [f"there 2 {A}", "others 1"]])
+        self.assertEqual([self.told(one), self.told(one), self.told(before)], [[f"host {NAMED}"], [], [f"there 2 {A}", "others 1"]])
         self.connect(f"here {B}\n".encode())
         self.assertEqual(self.told(one), [])
         self.socket.peers[-1].process = self.other
         self.assertEqual(self.told(one), [f"there 3 {B}", "others 1"])
 
     def test_not_for_long(self):
-        """It is waited for no longer than it takes to connect, but anew by a keeper that has just begun; and not where it has ended."""
+        """It is waited for no longer than it takes to connect, but anew by a host that has just begun; and not where it has ended."""
         for seconds, since, is_awaited in ((MEETS - 0.1, 0, True), (MEETS, 0, False), (900, 0, False), (900, 900 - MEETS + 0.1, True)):
             self.age(seconds)
-            self.unmet.since = begun(self.other) + since * TICKS if since else 0
-            self.assertEqual(self.unmet.are_awaited(), is_awaited, (seconds, since))
+            self.pending_clients.since = begun(self.other) + since * TICKS if since else 0
+            self.assertEqual(self.pending_clients.are_awaited(), is_awaited, (seconds, since))
         one = self.connect(b"who\n")
-        self.assertEqual(self.told(one), [f"keeper {NAMED}"])
-        (self.folder / "attached" / str(self.other)).write_text("5 edits\n", encoding="utf-8")
+        self.assertEqual(self.told(one), [f"host {NAMED}"])
+        (self.folder / "attached" / str(self.other)).write_text("5 read-write\n", encoding="utf-8")
         self.assertEqual((self.told(one), self.told(one), "others of 0" in self.loop.due), (["others 0"], [], False))
 
     def test_needless(self):
         """Nobody waits for one that only watches, or where no folder is known or can be read."""
-        self.assertTrue(self.unmet.are_awaited())
-        self.note("watches")
-        self.assertFalse(self.unmet.are_awaited())
-        self.note("edits")
+        self.assertTrue(self.pending_clients.are_awaited())
+        self.note("read-only")
+        self.assertFalse(self.pending_clients.are_awaited())
+        self.note("read-write")
         with mock.patch("pathlib.Path.glob", side_effect=OSError(24, "none")):
-            self.assertFalse(self.unmet.are_awaited())
-        self.unmet.folder = ""
-        self.assertFalse(self.unmet.are_awaited())
+            self.assertFalse(self.pending_clients.are_awaited())
+        self.pending_clients.folder = ""
+        self.assertFalse(self.pending_clients.are_awaited())
         self.assertEqual(round(ticks() / TICKS - time.clock_gettime(time.CLOCK_BOOTTIME)), 0)
         self.assertLess(abs(begun(self.other) - ticks()), 60 * TICKS)
 
@@ -314,25 +315,26 @@ class Bounds(Sockets):
         self.assertEqual(read_now(one), b"")
         self.now += 1
         self.loop.turns(4)
-        self.assertEqual(read_now(one), f"keeper {NAMED}\nothers 0\n".encode())
+        self.assertEqual(read_now(one), f"host {NAMED}\nothers 0\n".encode())
 
     def test_taken(self):
         """Where another listens there it is left to it, which is told, and nobody is known to be there."""
         said = self.heard()
-        other = ShellsSocket(self.folder, StillLoop())
+        other = HostServer(self.folder, StillLoop())
         self.assertIn("who is at the session isn't told: somebody listens at ", said.getvalue())
         other.loop.turns(2)
         other.close()
-        self.assertTrue((self.folder / "shells").exists())
+        self.assertTrue((self.folder / "host").exists())
 
 
 class Links(Sockets):
     """A front end's connection there."""
 
-    def link(self, watches=False, folder=None, size=(24, 80)):
+    def link(self, is_read_only=False, folder=None, size=(24, 80)):
         """One of a terminal."""
         sizes = [size]
-        one = ShellsLink(folder or self.folder, StillLoop(lambda: self.now), lambda: sizes[-1], watches, lambda: self.known.append(one))
+        one = HostClient(folder or self.folder, StillLoop(lambda: self.now), lambda: sizes[-1], is_read_only,
+                         lambda: self.known.append(one))
         one.sizes = sizes
         self.addCleanup(one.leave)
         return one
@@ -354,7 +356,7 @@ class Links(Sockets):
         self.assertEqual((one.is_awaited(), one.has_others(), KNOWS), (True, None, 2.0))
         self.turn(one)
         self.assertEqual((one.is_awaited(), one.has_others(), self.known), (False, False, [one]))
-        watcher = self.link(watches=True)
+        watcher = self.link(is_read_only=True)
         self.turn(one, watcher)
         self.assertEqual((one.has_others(), watcher.has_others()), (False, True))
         other = self.link()
@@ -371,24 +373,24 @@ class Links(Sockets):
         one.say_here()
         one.say_here()
         self.turn(one, other)
-        self.assertEqual(list(other.others.there.values()), [Presence(terminal_name(), 12, 40, "edits")])
+        self.assertEqual(list(other.others.there.values()), [Presence(terminal_name(), 12, 40, "read-write")])
         self.assertEqual(one.waiting, b"")
 
     def test_lost(self):
-        """Without the keeper nothing is known; it is connected to again after pauses, says again that it is there and is told all."""
+        """Without the host nothing is known; it is connected to again after pauses, says again that it is there and is told all."""
         one, other = self.link(), self.link()
         self.turn(one, other)
         self.socket.close()
         self.turn(one, other)
         self.assertEqual((one.has_others(), one.is_awaited(), one.peer), (None, True, None))
-        self.socket = ShellsSocket(self.folder, self.loop)
+        self.socket = HostServer(self.folder, self.loop)
         self.addCleanup(self.socket.close)
         self.now += PAUSES[0]
         self.turn(one, other)
         self.assertEqual((one.has_others(), other.has_others()), (True, True))
 
     def test_zoom(self):
-        """A zoom is told of at once, anew to a keeper that comes, and stays noted where its terminal has left; who comes is told of it
+        """A zoom is told of at once, anew to a host that comes, and stays noted where its terminal has left; who comes is told of it
         before it knows of the others."""
         one, other = self.link(), self.link()
         self.turn(one, other)
@@ -451,12 +453,12 @@ class Links(Sockets):
         link.take(["zoomed 0 24 80 48 160", "zoomed 1 \x1b[c 80 48 160", "zoomed", "zoomed none none", "zoomed -1 24 80 48 160"])
         self.assertEqual(link.zoomed, (0, ZoomNote((24, 80), ((48, 160),))))
 
-    def test_brings(self):
-        """What a terminal brings is brought once to each keeper, and not again where a connection to the same one comes again."""
+    def test_environment_sent(self):
+        """What a terminal brings is brought once to each host, and not again where a connection to the same one comes again."""
         one = self.link()
-        one.brings = ["brings DISPLAY 3a37", "brings SSH_CONNECTION none"]
+        one.environment = ["environment DISPLAY 3a37", "environment SSH_CONNECTION none"]
         self.turn(one)
-        values = self.socket.common.brought.values
+        values = self.socket.common.pane_environment.values
         self.assertEqual((values["DISPLAY"], values["SSH_CONNECTION"]), (":7", ""))
         for name, wanted in ((NAMED, "later"), ("another", ":7")):
             self.socket.common.name, values["DISPLAY"] = name, "later"
@@ -466,8 +468,8 @@ class Links(Sockets):
             self.assertEqual(values["DISPLAY"], wanted)
 
     def test_colours(self):
-        """A terminal that edits tells each keeper once what colours it has, as soon as it has answered; one that watches tells none."""
-        one, watcher = self.link(), self.link(watches=True)
+        """A terminal that edits tells each host once what colours it has, as soon as it has answered; one that watches tells none."""
+        one, watcher = self.link(), self.link(is_read_only=True)
         one.tell_colour("\x1b]10;rgb:ff/ff/ff\x07")
         watcher.tell_colour("\x1b]11;rgb:0/0/0\x07")
         self.turn(one, watcher)
@@ -499,25 +501,25 @@ class Links(Sockets):
             self.now += pause
             one.loop.turn()
             self.assertEqual((one.has_others(), one.is_awaited(), one.peer), (None, is_awaited, None), pause)
-        listener = self.listening(folder / "shells")
+        listener = self.listening(folder / "host")
         self.now += PAUSES[3]
         one.loop.turn()
         self.assertTrue(one.is_awaited())
         self.now += KNOWS
         self.assertEqual((one.has_others(), one.is_awaited()), (None, False))
         self.assertTrue(listener)
-        nowhere = ShellsLink(None, StillLoop(), lambda: (24, 80), False, list)
+        nowhere = HostClient(None, StillLoop(), lambda: (24, 80), False, list)
         self.assertEqual((nowhere.loop.due, nowhere.is_connecting(), nowhere.is_awaited()), ({}, False, False))
 
     def test_ended_at_once(self):
-        """A socket that ends each connection at once, as a relay's to an earlier keeper, is tried ever more seldom."""
+        """A socket that ends each connection at once, as a relay's to an earlier host, is tried ever more seldom."""
         folder = self.made_folder()
-        listener = self.listening(folder / "shells")
+        listener = self.listening(folder / "host")
         one, waits = self.link(folder=folder), []
         for _ in range(8):
             self.taken(listener).close()
             one.loop.turn()
-            waits.append(round(one.loop.due["follow shells"][0] - self.now, 3))
+            waits.append(round(one.loop.due["follow host"][0] - self.now, 3))
             self.now += waits[-1]
             one.loop.turn()
         self.assertEqual(waits, [*PAUSES, PAUSES[-1], PAUSES[-1]])
@@ -528,17 +530,17 @@ class Lines(unittest.TestCase):
 
     def test_said(self):
         """What says that a terminal is there; its name comes in printable ASCII, bounded, without a terminal too."""
-        self.assertEqual(presence_said(f"here {A}"), Presence("here:/dev/pts/1", 24, 80, "edits"))
+        self.assertEqual(presence_said(f"here {A}"), Presence("here:/dev/pts/1", 24, 80, "read-write"))
         self.assertEqual(f"here {presence_said(f'here {B}')}", f"here {B}")
         for path in ("/dev/pts/7", "/dev/a b\x1b\u00e9" * 20):
             with mock.patch("os.ttyname", return_value=path):
-                self.assertTrue(presence_said(f"here {terminal_name()} 24 80 edits"), path)
+                self.assertTrue(presence_said(f"here {terminal_name()} 24 80 read-write"), path)
         with mock.patch("os.ttyname", side_effect=OSError(25, "none")):
             self.assertTrue(terminal_name().endswith(":?"))
 
     def test_told(self):
         """What can't be told is nothing, all is known once as many were told as there are, and no more are kept than may be."""
-        told = ToldOthers()
+        told = OtherTerminals()
         for line in (f"there 0 {A}", f"there 1 {A} 1", "there 1 a 24 80 wants", "gone", "gone 0", "others", "others 100", "others -1",
                      "other 1", f"there \u00b2 {A}"):
             self.assertFalse(told.take(line), line)

@@ -1,4 +1,4 @@
-"""Commands that are handed over for new panes and windows: at the keeper's socket, at a front end, and from outside."""
+"""Commands that are handed over for new panes and windows: at the host's socket, at a front end, and from outside."""
 import os
 import unittest
 from unittest import mock
@@ -34,12 +34,12 @@ class Packed(unittest.TestCase):
         self.assertEqual((Begins(["htop", "-d"]).command(), Begins([]).command()), (["htop", "-d"], []))
 
 
-class AtKeeper(Sockets):
+class AtHost(Sockets):
     """The socket at which they are handed over."""
 
     def setUp(self):
         super().setUp()
-        self.socket.handed.rect_of = lambda pane, life: FIRST if (pane, life) == (1, 7) else None
+        self.socket.handed.rect_of = lambda pane, generation: FIRST if (pane, generation) == (1, 7) else None
         self.socket.handed.folder_beside = lambda pane: str(self.folder)
 
     def hand(self, beside, begins, name=NAME, one=None):
@@ -100,10 +100,10 @@ class AtKeeper(Sockets):
         self.say(one, data[60000:] + b"who\n")
         told = read_now(one).decode()
         self.assertIn(f"run {NAME} refused a command has 65536 bytes at most\n", told)
-        self.assertIn("keeper", told)
+        self.assertIn("host", told)
         one = self.connect(f"run {NAME} 1 7 2\n\0\x1b".encode())
         self.assertEqual(read_now(one).decode(), f"run {NAME} refused its words can't be read\n")
-        one = self.connect(b"here test:/dev/pts/1 24 80 watches\n")
+        one = self.connect(b"here test:/dev/pts/1 24 80 read-only\n")
         self.assertEqual(self.hand("1 7", Begins(["a"]), one=one)[1].split("\n")[0], "bad line")
         one, _ = self.hand("1 7", Begins(["htop"]))
         for number in range(8):
@@ -119,8 +119,8 @@ class AtFrontEnd(Case):
 
     def setUp(self):
         self.loop, self.commands = StillLoop(lambda: self.now), mock.Mock()
-        self.commands.loop, self.commands.link.watches = self.loop, False
-        self.commands.awaits_focus.return_value = self.commands.shells.is_connecting.return_value = False
+        self.commands.loop, self.commands.link.is_read_only = self.loop, False
+        self.commands.awaits_focus.return_value = self.commands.host.is_connecting.return_value = False
         self.commands.places.return_value = self.commands.zooming.unzoomed.return_value = Places({1: FIRST}, 1)
         self.commands.panes.making.return_value = "1 7"
         self.commands.windows.why_one.return_value = ""
@@ -136,30 +136,30 @@ class AtFrontEnd(Case):
         """The pane is split once the command waits; what stands behind in the line is done then."""
         self.runner.typed("split-window -h htop -d 5; send-keys x")
         data = Begins(["htop", "-d", "5"]).packed()
-        self.commands.shells.ask_with.assert_called_once_with(f"run {NAME} 1 7 {len(data)}", data)
+        self.commands.host.ask_with.assert_called_once_with(f"run {NAME} 1 7 {len(data)}", data)
         self.assertFalse(self.commands.act_together.called or self.commands.type_key.called)
-        self.commands.shells.ran(f"{NAME} ready")
+        self.commands.host.ran(f"{NAME} ready")
         self.commands.act_together.assert_called_once_with("split right")
         self.commands.type_key.assert_called_once_with(["char 78"])
-        self.commands.shells.ran(f"{NAME} done")
+        self.commands.host.ran(f"{NAME} done")
         self.now += 3
         self.loop.turns(2)
         self.assertEqual(self.told(), [])
-        self.commands.shells.ran(f"{NAME} late")
+        self.commands.host.ran(f"{NAME} late")
         self.assertEqual(self.told(), ["not run: no pane came in its place"])
 
     def test_scroll_paint(self):
         """It is split where the person asked for that, and with -d the focus is there again."""
         self.runner.typed("splitw -d htop")
         self.commands.places.return_value = Places({1: FIRST, 2: RIGHT}, 2)
-        self.commands.shells.ran(f"{NAME} ready")
+        self.commands.host.ran(f"{NAME} ready")
         self.commands.act_together.assert_called_once_with("focus 1", "split down", "focus 1")
 
     def test_window(self):
         for line, stays in (("neww -n logs htop", False), ("neww -d", True)):
             self.commands.windows.open.reset_mock()
             self.runner.typed(line)
-            self.commands.shells.ran(f"{NAME} ready")
+            self.commands.host.ran(f"{NAME} ready")
             self.commands.windows.open.assert_called_once_with(NAME, stays)
 
     def test_awaited(self):
@@ -168,32 +168,32 @@ class AtFrontEnd(Case):
         self.runner.typed("splitw htop")
         self.now += 0.1
         self.loop.turns(2)
-        self.assertFalse(self.commands.shells.ask_with.called)
+        self.assertFalse(self.commands.host.ask_with.called)
         self.commands.awaits_focus.return_value = False
         self.now += 0.1
         self.loop.turns(2)
-        self.assertTrue(self.commands.shells.ask_with.called)
-        self.commands.shells.ask_with.return_value, self.commands.shells.is_connecting.return_value = False, True
+        self.assertTrue(self.commands.host.ask_with.called)
+        self.commands.host.ask_with.return_value, self.commands.host.is_connecting.return_value = False, True
         self.runner.typed("splitw htop")
         for _ in range(3):
             self.now += 0.9
             self.loop.turns(2)
-        self.assertEqual(self.told()[-1], "not run: what keeps the shells isn't there just now")
+        self.assertEqual(self.told()[-1], "not run: the pty host isn't there just now")
 
     def test_refused(self):
         """Why nothing is run is told, and nothing is split then."""
         self.runner.typed("splitw htop; send-keys x")
-        self.commands.shells.ran(f"{NAME} refused the folder \x1b isn't there")
+        self.commands.host.ran(f"{NAME} refused the folder \x1b isn't there")
         self.runner.typed("splitw htop; send-keys x")
         self.now += 2.1
         self.loop.turns(2)
-        self.commands.shells.ran(f"{NAME} ready")
-        self.commands.shells.ask_with.return_value = False
+        self.commands.host.ran(f"{NAME} ready")
+        self.commands.host.ask_with.return_value = False
         self.runner.typed("splitw htop")
-        self.commands.link.watches = True
+        self.commands.link.is_read_only = True
         self.runner.typed("splitw htop")
-        self.assertEqual(self.told(), ["not run: the folder ? isn't there", "not run: what keeps the shells is silent, or an earlier roam's",
-                                       "not run: what keeps the shells isn't there just now",
+        self.assertEqual(self.told(), ["not run: the folder ? isn't there", "not run: the pty host is silent, or an earlier roam's",
+                                       "not run: the pty host isn't there just now",
                                        "a terminal that only watches runs nothing"])
         self.assertFalse(self.commands.act_together.called or self.commands.type_key.called)
 

@@ -4,7 +4,7 @@ import unittest
 from lived import Lived, by_chance
 from roam_live.common.tty import MOST
 from roam_live.frontend.borders import least_of, splits_of
-from roam_live.frontend.split_math import Evened, above, area_of, growths, laid, length_of, row_of, shares, size_at, size_for
+from roam_live.frontend.split_math import Evened, above, area_of, growths, laid, length_of, row_of, size_at, size_for, split_sizes
 from roam_live.protocol.panes import Rect
 
 SIZES = ((24, 80), (50, 160))
@@ -78,7 +78,7 @@ class Shares(unittest.TestCase):
     def test_shares(self):
         for whole, least, wanted in ((80, [4, 4], [39, 40]), (80, [4, 4, 4], [26, 26, 26]), (81, [4, 4, 4], [26, 26, 27]),
                                      (20, [9, 4, 4], [9, 4, 5]), (14, [4, 4, 4], [4, 4, 4]), (12, [4, 9], [2, 9])):
-            found = shares(whole, least)
+            found = split_sizes(whole, least)
             if sum(least) + len(least) - 1 <= whole:
                 self.assertEqual((found, sum(found) + len(least) - 1), (wanted, whole))
 

@@ -49,10 +49,10 @@ class Lines(Case):
 
     def test_painted(self):
         """After two seconds in which something was painted a person is told, until a line is taken."""
-        self.lines.given()
+        self.lines.note_sent()
         self.wait(1, True)
         self.assertEqual(self.display.told, "")
-        self.lines.given()
+        self.lines.note_sent()
         self.wait(1, True)
         self.assertEqual((self.display.told, UNTAKEN), (NO_KEYS, 2.0))
         self.wait(30)
@@ -67,7 +67,7 @@ class Lines(Case):
 
     def test_unpainted(self):
         """Where nothing is painted that isn't known before a silence would have been told; what was painted just before isn't that."""
-        self.lines.given()
+        self.lines.note_sent()
         self.lines.heard()
         self.wait(UNTAKEN_SILENTLY - 1)
         self.assertEqual(self.display.told, "")
@@ -78,7 +78,7 @@ class Lines(Case):
         """A server that answers while no line is taken shows that soon; each look asks it again."""
         asked = []
         self.lines.asks = lambda: asked.append(self.now)
-        self.lines.given()
+        self.lines.note_sent()
         for _ in range(2):
             self.assertEqual(self.display.told, "")
             self.wait(1)
@@ -88,7 +88,7 @@ class Lines(Case):
 
     def test_silent(self):
         """A silence of the server is told instead, and so is anything else."""
-        self.lines.given()
+        self.lines.note_sent()
         self.display.silent = 10
         self.wait(30, True)
         self.assertEqual(self.display.told, "")
@@ -104,7 +104,7 @@ class Lines(Case):
 
     def test_elsewhere(self):
         """In another window, or without the connection, it is counted anew, or isn't."""
-        self.lines.given()
+        self.lines.note_sent()
         self.wait(2, True)
         self.one = Link()
         self.wait(1, True)
@@ -118,7 +118,7 @@ class Lines(Case):
     def test_progress(self):
         """While lines are taken, however slowly, nothing is told."""
         self.one.lines = 99
-        self.lines.given()
+        self.lines.note_sent()
         for _ in range(20):
             self.wait(1, True)
             self.one.taken += 1
@@ -130,17 +130,17 @@ class Keys(Fronts):
 
     def test_told(self):
         """It is told of keys that aren't taken while the session is painted."""
-        start = self.connect()
+        client = self.connect()
         self.paints()
-        start.send(record("taken", self.front.link.lines))
+        client.send(record("taken", self.front.link.lines))
         self.turn()
         self.type(b"x")
         for _ in range(3):
             self.now += 1
-            start.send(record("paint", data=b"y"))
+            client.send(record("paint", data=b"y"))
             self.turn()
         self.assertIn(NO_KEYS.encode(), self.shown())
-        start.send(record("taken", self.front.link.lines))
+        client.send(record("taken", self.front.link.lines))
         self.turn()
         self.now += 1
         self.turn()

@@ -54,19 +54,19 @@ class Person(Attached):
         self.attach(session, **more)
         self.heard.clear()
         self.commands = self.person.commands
-        self.commands.link.guess = self.guessed.append
-        self.commands.synchronizing.guesses = lambda: "adaptive"
+        self.commands.link.predict = self.predicted.append
+        self.commands.synchronizing.predictions = lambda: "adaptive"
 
     def setUp(self):
         super().setUp()
-        self.guessed = []
+        self.predicted = []
 
     def switch(self):
         """Switches it."""
         self.commands.grant("synchronize", None)
 
     def test_switched(self):
-        """Keys go to all panes while it is on, which the last row tells, and nothing is guessed; then to the one in focus."""
+        """Keys go to all panes while it is on, which the last row tells, and nothing is predicted; then to the one in focus."""
         self.begin()
         self.switch()
         self.assertEqual((self.commands.display.told, self.commands.display.panes_label()),
@@ -76,7 +76,7 @@ class Person(Attached):
                                       "key up ; focus 3"])
         self.switch()
         self.types(b"c")
-        self.assertEqual((self.heard[1:], self.guessed, self.commands.display.panes_label()),
+        self.assertEqual((self.heard[1:], self.predicted, self.commands.display.panes_label()),
                          (["char 63"], ["never", "adaptive"], " 1  2 [3]"))
 
     def test_commands(self):
@@ -148,7 +148,7 @@ class Person(Attached):
         self.assertEqual((self.heard, self.commands.display.panes_label()[-3:]), (["char 61"], " ZS"))
         self.types(b"\x02zb")
         self.assertIn("char 62 ; focus 1 ; char 62 ; focus 2", self.heard)
-        self.begin(2, watches=True)
+        self.begin(2, is_read_only=True)
         self.switch()
         self.assertFalse(self.commands.synchronizing.is_on())
 

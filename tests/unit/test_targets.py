@@ -12,7 +12,7 @@ from roam_live.common.errors import Fault
 from roam_live.common.event_loop import ready
 from roam_live.protocol.display_records import screen_of
 from roam_live.protocol.panes import Places, Rect
-from roam_live.protocol.paste_text import MOST_BYTES, PUT, mark_acts
+from roam_live.protocol.paste_text import INSERTED, MOST_BYTES, placeholder_acts
 from roam_live.protocol.screen_cells import cells_of, part_of, sgr_of
 from test_socket_server import Sockets
 
@@ -64,9 +64,9 @@ class Lines(unittest.TestCase):
         self.assertTrue(all(line.startswith("focus 2 ; ") and line.endswith(" ; focus 1") for line in many))
         self.assertEqual([line.count(";") + 1 for line in lines_in_pane(["char 61"] * 65, 0, 0)], [32, 32, 1])
 
-    def test_mark(self):
-        """A mark stands in one line, also in another pane."""
-        lines = lines_in_pane(mark_acts("0" * 16), 2, 1, "paste ; ")
+    def test_placeholder(self):
+        """A placeholder stands in one line, also in another pane."""
+        lines = lines_in_pane(placeholder_acts("0" * 16), 2, 1, "paste ; ")
         self.assertEqual((len(lines), lines[0][:28], lines[0][-20:]), (1, "paste ; focus 2 ; char 9f ; ", " ; char 9c ; focus 1"))
 
 
@@ -136,7 +136,7 @@ class Panes(Case):
 
     def test_closed(self):
         """A pane is closed by its life, and that is waited for."""
-        self.answers = [b"1 1 1 2 3 7\n2 1 5 2 4 9\n", b"focus 1\nstarts 1 of 64\n", b"watchers 0 of 16\n"]
+        self.answers = [b"1 1 1 2 3 7\n2 1 5 2 4 9\n", b"focus 1\nclients 1 of 64\n", b"watchers 0 of 16\n"]
         with mock.patch.object(targets.AskedPanes, "hear_all", lambda asked: [asked.heard(1) for _ in range(3)]):
             self.answers += [b"modes 1 7\n", b"2 gone\nfocus 1\n"]
             close_pane(self.session, 2)
@@ -144,7 +144,7 @@ class Panes(Case):
 
     def test_not_closed(self):
         """One that isn't there, the last one, and one that isn't closed in time are told of."""
-        panes = b"1 1 1 2 3 7\nfocus 1\nstarts 1 of 64\nwatchers 0 of 16\n"
+        panes = b"1 1 1 2 3 7\nfocus 1\nclients 1 of 64\nwatchers 0 of 16\n"
         for answers, pane, why in (([panes], 2, "session main has no pane 2"), ([], 1, "session main has no pane 1"),
                                    ([panes, b"", b"last pane\n"], 1, "pane 1 is the last one, and goes with its session"),
                                    ([panes, b"", b"bad line\n"], 1, "session main: pane 1 isn't closed"),
@@ -159,7 +159,7 @@ class Panes(Case):
 
     def test_making(self):
         """A pane, or that in focus, and its life; one that isn't there, and a server that tells nothing, are told of."""
-        panes = b"1 1 1 2 3 7\n2 1 5 2 4 9\nfocus 2\nstarts 1 of 64\nwatchers 0 of 16\n"
+        panes = b"1 1 1 2 3 7\n2 1 5 2 4 9\nfocus 2\nclients 1 of 64\nwatchers 0 of 16\n"
         for pane, making in ((1, (1, 7)), (2, (2, 9)), (0, (2, 9))):
             self.server, self.answers = None, [panes]
             self.assertEqual(targets.making_of(self.session, pane), making)
@@ -173,17 +173,17 @@ class Panes(Case):
 
     def test_brackets(self):
         """Whether a program wants brackets is asked of a server that knows the word; what is told right behind the places counts."""
-        panes = b"1 1 1 2 3 7\n2 1 5 2 4 9\nfocus 1\nstarts 1 of 64\nwatchers 0 of 16\n"
+        panes = b"1 1 1 2 3 7\n2 1 5 2 4 9\nfocus 1\nclients 1 of 64\nwatchers 0 of 16\n"
         for pane, wanted in ((0, False), (1, False), (2, True)):
             self.server, self.asked, self.answers = None, b"", [panes[:20], panes[20:], b"modes 2 9 paste\n"]
             with mock.patch.object(targets, "runs_program", return_value=True):
-                self.assertEqual((wants_brackets(self.session, pane), self.asked), (wanted, b"beside\n"))
+                self.assertEqual((wants_brackets(self.session, pane), self.asked), (wanted, b"metadata\n"))
         self.server, self.asked, self.answers = None, b"", [None]
         self.assertEqual((wants_brackets(self.session, 1), self.asked), (False, b""))
 
 
 class Given(Sockets):
-    """`mux paste` and `mux send -l`, with a keeper here and a start that is played."""
+    """`mux paste` and `mux send -l`, with a host here and a start that is played."""
 
     def setUp(self):
         super().setUp()
@@ -196,48 +196,48 @@ class Given(Sockets):
         self.patch_of(paste, "wants_brackets", lambda session, pane: self.wants)
         self.patch_of(paste, "ready", self.ready)
         self.patch_of(paste, "random_name", return_value="0123456789abcdef")
-        self.is_put = True
+        self.is_inserted = True
 
     def ready(self, end, events, seconds):
-        """Has the keeper go on; where nothing comes the time passes."""
+        """Has the host go on; where nothing comes the time passes."""
         self.loop.turns(3)
         found = ready(end, events, 0)
         self.pass_time(0.0 if found else seconds)
         return found
 
     def type(self, session, link, lines):
-        """The session takes lines, and the keeper finds the mark."""
+        """The session takes lines, and the host finds the placeholder."""
         self.typed += lines
-        if self.is_put:
+        if self.is_inserted:
             text = self.socket.texts.placed("0123456789abcdef")
             self.texts += [(text.data, text.is_plain)] if text else []
-        elif self.is_put is None:
+        elif self.is_inserted is None:
             self.socket.close()
 
     def test_given(self):
-        """A text is given, its mark typed in one line, and it ends once the text is put there."""
+        """A text is given, its placeholder typed in one line, and it ends once the text is put there."""
         text = "\u00e9" * 100000
         self.assertEqual(paste.type_text(self.session, text, 0, False), 0)
         self.assertEqual(self.texts, [(text.encode(), False)])
-        self.assertEqual(self.typed, [" ; ".join(["paste", *mark_acts("0123456789abcdef")])])
+        self.assertEqual(self.typed, [" ; ".join(["paste", *placeholder_acts("0123456789abcdef")])])
         self.socket.texts.texts.clear()
         self.assertEqual(paste.type_text(self.session, "ab", 2, True), 0)
         self.assertEqual((self.texts[1:], self.typed[1][:18], self.typed[1][-7:]), ([(b"ab", True)], "paste ; focus 2 ; ", "focus 1"))
 
-    def test_no_keeper(self):
-        """Where no keeper takes it, it is typed as acts, between brackets where the program wants them and it isn't plain."""
+    def test_no_host(self):
+        """Where no host takes it, it is typed as acts, between brackets where the program wants them and it isn't plain."""
         self.socket.close()
         paste.type_text(self.session, "a\r", 0, False)
         paste.type_text(self.session, "a\r", 0, True)
         self.assertEqual([line.count("char") for line in self.typed], [14, 1])
         self.assertEqual(self.typed[1], "paste ; char 61 ; key return")
-        listener = self.listening(self.folder / "shells")
+        listener = self.listening(self.folder / "host")
         with mock.patch.object(paste, "ready", lambda end, events, seconds: (self.taken(listener).close(), events)[1]):
             paste.type_text(self.session, "b", 0, True)
         self.assertEqual(self.typed[2], "paste ; char 62")
 
     def test_refused(self):
-        """What can't be is told, and nothing is typed: no text, too much of it, no room, no such pane, a keeper that takes nothing."""
+        """What can't be is told, and nothing is typed: no text, too much of it, no room, no such pane, a host that takes nothing."""
         for text, pane, why in (("", 0, "there is nothing to be typed"),
                                 ("x" * (MOST_BYTES + 1), 0, "a text has 16 MB at most; nothing was typed"),
                                 ("x", 3, "session main has no pane 3")):
@@ -247,14 +247,14 @@ class Given(Sockets):
             with self.assertRaisesRegex(Fault, "^session main: 64 texts wait to be pasted. Nothing was typed$"):
                 paste.type_text(self.session, "x", 0, False)
         with mock.patch.object(paste, "ready", lambda end, events, seconds: self.pass_time(seconds) or 0):
-            with self.assertRaisesRegex(Fault, "^session main: what keeps its shells doesn't take the text$"):
+            with self.assertRaisesRegex(Fault, "^session main: the pty host doesn't take the text$"):
                 paste.type_text(self.session, "x", 0, False)
-        self.assertEqual((self.typed, PUT), ([], "put"))
+        self.assertEqual((self.typed, INSERTED), ([], "inserted"))
 
     def test_lost(self):
-        """Where the keeper ends before the mark comes that is told."""
-        self.is_put = None
-        with self.assertRaisesRegex(Fault, "^session main: what keeps its shells ended, and nothing was typed$"):
+        """Where the host ends before the placeholder comes that is told."""
+        self.is_inserted = None
+        with self.assertRaisesRegex(Fault, "^session main: the pty host ended, and nothing was typed$"):
             paste.type_text(self.session, "x", 0, False)
 
     def test_read(self):

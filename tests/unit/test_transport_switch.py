@@ -1,4 +1,5 @@
-"""Both ends of a relay with a sealed path beside the command: real sockets of loopback, a clock that stands, and commands made by hand."""
+"""Both ends of a relay with an encrypted path beside the command: real sockets of loopback, a clock that stands, and commands made by
+hand."""
 import argparse
 import contextlib
 import os
@@ -8,12 +9,12 @@ from unittest import mock
 from aids import Case, StillLoop, ended, read_now
 from roam_live.common.errors import Fault
 from roam_live.relay import far, near, path_setup, transport_switch
-from roam_live.relay.aead_packets import Seal, udp_end
-from roam_live.relay.batches import MOST_BUNDLES
+from roam_live.relay.aead_packets import AeadPackets, udp_end
+from roam_live.relay.batches import MOST_BATCHES
 from roam_live.relay.common import Ended
-from roam_live.relay.forwarding import CARRIES
+from roam_live.relay.forwarding import FORWARDS
 from roam_live.relay.frames import ENDED, HAD, KILLED, LEAVES, WINDOWS, RelayStream, Waiting, greeting
-from roam_live.relay.path_setup import SEALED_HEAD, wish
+from roam_live.relay.path_setup import AEAD_HEAD, wish
 from roam_live.relay.udp_path import Path
 from roam_live.session.attached import count_front_ends
 from test_batches import shown, typed
@@ -73,7 +74,7 @@ class Near(Both):
         self.links = []
         self.patch_of(near, "RunningCommand", side_effect=self.new_link)
         self.printed()
-        self.far = Path(Seal(Foolish(KEY), False), self.end())
+        self.far = Path(AeadPackets(Foolish(KEY), False), self.end())
         self.port = self.far.end.getsockname()[1]
         self.patch_of(path_setup, "PORTS", range(1, 65536))
         self.patch_of(path_setup.Finder, "look", lambda _, path: setattr(path, "places", [self.place(path.port)]))
@@ -114,14 +115,14 @@ class Near(Both):
         self.links[-1].say(greeting("abc"))
         self.near.turn()
         if tells:
-            self.links[-1].tell((0, CARRIES), (0, SEALED_HEAD.pack(b"s", 1, self.port, KEY) + b"127.0.0.1"))
+            self.links[-1].tell((0, FORWARDS), (0, AEAD_HEAD.pack(b"s", 1, self.port, KEY) + b"127.0.0.1"))
         self.near.turn()
 
-    def sound(self):
+    def validate(self):
         """Has the path be sound."""
         self.answer()
         self.run_for(2)
-        self.assertTrue(self.near.ways.is_sound() and self.far.is_sound())
+        self.assertTrue(self.near.ways.is_validated() and self.far.is_validated())
 
     def frames(self, number=-1):
         """What a command was told, without the counts."""
@@ -135,12 +136,12 @@ class Near(Both):
         self.near.ways.drop_path()
         with mock.patch.dict(os.environ, ROAM_UDP="never"):
             self.near.ask_for_path()
-            self.near.take(0, SEALED_HEAD.pack(b"s", 1, self.port, KEY))
+            self.near.take(0, AEAD_HEAD.pack(b"s", 1, self.port, KEY))
         self.near.turn()
         self.assertEqual((len(self.frames()), self.near.ways.path), (1, None))
 
-    def test_carries(self):
-        """Before the path is sound the command carries all, and then the path; both ways."""
+    def test_forwards(self):
+        """Before the path is validated the command carries all, and then the path; both ways."""
         self.answer()
         self.near.waiting.add(3, typed(1)[0])
         self.near.turn()
@@ -159,7 +160,7 @@ class Near(Both):
 
     def test_told(self):
         """The end that the far end tells over the path ends this one, which says that it heard."""
-        self.sound()
+        self.validate()
         self.far.tell(0, KILLED)
         with self.ends():
             self.run_for(1)
@@ -169,8 +170,8 @@ class Near(Both):
         self.assertEqual((self.folder / "ended").read_text(encoding="utf-8"), "killed")
 
     def test_rests(self):
-        """Once the path has been sound for 5 s nothing goes over the command, which stays, and nothing else is started."""
-        self.sound()
+        """Once the path has been validated for 5 s nothing goes over the command, which stays, and nothing else is started."""
+        self.validate()
         self.run_for(6)
         count = len(self.links[0].other.text)
         self.frames()
@@ -183,7 +184,7 @@ class Near(Both):
 
     def test_rests_and_acknowledges(self):
         """What comes over a command that rests is acknowledged all the same."""
-        self.sound()
+        self.validate()
         self.run_for(6)
         self.frames()
         count = len(self.links[0].other.text)
@@ -193,8 +194,8 @@ class Near(Both):
         self.assertGreater(len(self.links[0].other.text), count)
 
     def test_command_ends(self):
-        """A command that ends while the path is sound isn't started again."""
-        self.sound()
+        """A command that ends while the path is validated isn't started again."""
+        self.validate()
         self.links[0].hang_up()
         self.run_for(60)
         self.assertEqual((len(self.links), self.near.link, self.near.is_silent()), (1, None, False))
@@ -202,14 +203,14 @@ class Near(Both):
 
     def test_falls_silent_beside_a_command(self):
         """Where the path falls silent the command that is there carries what waits, at once; one that is silent too is followed."""
-        self.sound()
+        self.validate()
         self.run_for(60)
         self.is_open = False
         self.near.waiting.add(3, typed(1)[0])
         self.run_for(3)
         self.assertNotIn((3, typed(2)[0]), self.frames())
         self.run_for(2)
-        self.assertFalse(self.near.ways.is_sound() or self.near.ways.rests)
+        self.assertFalse(self.near.ways.is_validated() or self.near.ways.rests)
         self.near.waiting.add(3, typed(2)[0])
         self.near.turn()
         self.assertEqual((self.frames()[-1], len(self.links)), ((3, typed(2)[0]), 1))
@@ -221,7 +222,7 @@ class Near(Both):
 
     def test_comes_back(self):
         """A path that is heard again carries all, and what was started meanwhile is ended."""
-        self.sound()
+        self.validate()
         self.links[0].hang_up()
         self.run_for(20)
         self.is_open = False
@@ -230,14 +231,14 @@ class Near(Both):
         self.assertGreater(len(self.links), 2)
         self.is_open = True
         self.run_for(2)
-        self.assertTrue(self.near.ways.is_sound())
+        self.assertTrue(self.near.ways.is_validated())
         self.assertEqual((self.near.tries, [link.has_ended for link in self.links[1:]]), ([], [True] * (len(self.links) - 1)))
         self.assertEqual(self.came[-1], (3, typed(1)[0]))
         self.assertIn("the other end answers again\n", self.said.getvalue())
 
     def test_another_command(self):
         """Another command that answers is asked for another path, and the old one is dropped."""
-        self.sound()
+        self.validate()
         self.links[0].hang_up()
         self.is_open = False
         self.near.waiting.add(3, typed(1)[0])
@@ -248,8 +249,8 @@ class Near(Both):
 
     def test_spent(self):
         """A path without numbers is dropped, and another asked for over the command that is there; else one is started."""
-        self.sound()
-        self.near.ways.path.bundles.last = MOST_BUNDLES
+        self.validate()
+        self.near.ways.path.batches.last = MOST_BATCHES
         self.near.turn()
         self.assertEqual((self.near.ways.path, [text[:1] for _, text in self.frames()].count(b"w")), (None, 2))
         self.near.turn()
@@ -257,7 +258,7 @@ class Near(Both):
 
     def test_leaves(self):
         """Where it ends it tells the far end so, as long as that hears, and a second at most."""
-        self.sound()
+        self.validate()
         begun = self.now
         self.is_closed = True
         self.patch_of(transport_switch, "comes", lambda end, seconds: self.pass_time(seconds) or self.came.extend(drained(self.far))
@@ -268,7 +269,7 @@ class Near(Both):
 
     def test_leaves_nobody(self):
         """Where nobody hears it ends after a second; without an answer over the path at once."""
-        self.sound()
+        self.validate()
         self.is_closed, begun = True, self.now
         self.patch_of(transport_switch, "comes", lambda end, seconds: self.pass_time(seconds))
         self.near.close()
@@ -280,16 +281,16 @@ class Near(Both):
         self.near.turn()
         before = len(os.listdir("/proc/self/fd"))
         for number in range(50):
-            self.near.take(0, SEALED_HEAD.pack(b"s", 1, self.port, bytes([number]) * 32) + b"evil.example")
+            self.near.take(0, AEAD_HEAD.pack(b"s", 1, self.port, bytes([number]) * 32) + b"evil.example")
             self.near.take(0, b"s" + bytes(number))
         self.assertEqual(len(os.listdir("/proc/self/fd")), before)
         with mock.patch.object(path_setup, "udp_end", return_value=None):
-            self.near.take(0, SEALED_HEAD.pack(b"s", 1, self.port, KEY))
-        self.assertEqual(self.near.ways.path.seal.cipher.key, bytes([49]) * 32)
+            self.near.take(0, AEAD_HEAD.pack(b"s", 1, self.port, KEY))
+        self.assertEqual(self.near.ways.path.aead.cipher.key, bytes([49]) * 32)
 
     def test_update_paint(self):
         """A path that goes on from another port is heard there."""
-        self.sound()
+        self.validate()
         self.near.ways.path.hop(self.now)
         self.waiting.add(3, shown(1)[0])
         delivered = self.patch_of(self.near, "deliver")
@@ -312,7 +313,7 @@ class Far(Both):
         self.closes = self.patch_of(far, "close_standard")
         self.parts = self.patch_of(far, "part_from_command", side_effect=self.part)
         self.letting_go = None
-        self.near = Path(Seal(Foolish(KEY), True), self.end())
+        self.near = Path(AeadPackets(Foolish(KEY), True), self.end())
         self.patch_of(path_setup, "random_key", return_value=KEY)
         self.waiting, self.came, self.is_open = Waiting(), [], True
         self.far = far.Far(self.asked(far=True, command=[]), self.wakeup, StillLoop())
@@ -347,14 +348,14 @@ class Far(Both):
         for _ in range(3):
             self.far.turn()
 
-    def sound(self, asks=True):
+    def validate(self, asks=True):
         """Has the path be sound."""
         if asks:
             self.ask()
         told = next(text for peer, text in self.other.frames() if text[:1] == b"s")
-        self.near.places = [self.place(SEALED_HEAD.unpack_from(told)[2])]
+        self.near.places = [self.place(AEAD_HEAD.unpack_from(told)[2])]
         self.run_for(2)
-        self.assertTrue(self.near.is_sound() and self.far.ways.is_sound())
+        self.assertTrue(self.near.is_validated() and self.far.ways.is_validated())
 
     def frames(self):
         """What the other end was told over the command, without the counts."""
@@ -363,8 +364,8 @@ class Far(Both):
     def test_makes(self):
         """It goes on in another process, notes itself, and tells port, key and address."""
         self.ask()
-        kind, version, port, key = SEALED_HEAD.unpack_from(self.frames()[0][1])
-        self.assertEqual((kind, version, key, self.frames()[0][1][SEALED_HEAD.size :]), (b"s", 1, KEY, b"127.0.0.1"))
+        kind, version, port, key = AEAD_HEAD.unpack_from(self.frames()[0][1])
+        self.assertEqual((kind, version, key, self.frames()[0][1][AEAD_HEAD.size :]), (b"s", 1, KEY, b"127.0.0.1"))
         self.assertIn(port, range(60000, 61001))
         self.assertEqual(self.parts.call_count, 1)
         self.assertTrue((self.folder / "relays" / b"12345678".hex()).exists())
@@ -391,11 +392,11 @@ class Far(Both):
         self.ask((0, wish(b"12345678")))
         told = [text for _, text in self.frames() if text[:1] == b"s"]
         self.assertEqual((len(told), self.parts.call_count), (2, 1))
-        self.assertEqual(self.far.ways.path.end.getsockname()[1], SEALED_HEAD.unpack_from(told[1])[2])
+        self.assertEqual(self.far.ways.path.end.getsockname()[1], AEAD_HEAD.unpack_from(told[1])[2])
 
-    def test_carries(self):
-        """A sound path carries all, both ways."""
-        self.sound()
+    def test_forwards(self):
+        """A validated path carries all, both ways."""
+        self.validate()
         self.assertEqual(self.came, [])
         sent = self.patch_of(self.far, "send")
         self.waiting.add(3, typed(1)[0])
@@ -408,12 +409,12 @@ class Far(Both):
 
     def test_command_ends(self):
         """Where the command ends it goes on, and lets the process go that held it; it is still counted."""
-        self.sound()
+        self.validate()
         ended(self.said_end)
         self.run_for(1)
         self.assertEqual((os.read(self.letting_go, 1), self.closes.call_count, self.far.has_command()), (b"", 1, False))
         self.run_for(30)
-        self.assertTrue(self.near.is_sound())
+        self.assertTrue(self.near.is_validated())
         self.assertEqual(count_front_ends(self.folder), 1)
 
     def test_command_ends_without_a_path(self):
@@ -443,7 +444,7 @@ class Far(Both):
 
     def test_silent_command(self):
         """A command that is silent for 30 s is let go where the path was called, and is the end where it wasn't."""
-        self.sound()
+        self.validate()
         self.is_open = False
         self.run_for(30)
         self.assertTrue(self.far.has_command())
@@ -457,8 +458,8 @@ class Far(Both):
             self.run_for(32)
 
     def test_rests(self):
-        """While the path is sound the command's silence is no fault, and nothing is said over it."""
-        self.sound()
+        """While the path is validated the command's silence is no fault, and nothing is said over it."""
+        self.validate()
         self.run_for(6)
         self.frames()
         count = len(self.other.text)
@@ -468,7 +469,7 @@ class Far(Both):
 
     def test_asleep(self):
         """After a minute without a call it isn't counted and has no timer but its end, after 7 days; called again it is counted."""
-        self.sound()
+        self.validate()
         ended(self.said_end)
         self.run_for(1)
         heard, self.is_open = self.far.ways.path.heard_at, False
@@ -477,33 +478,33 @@ class Far(Both):
         self.now = heard + far.FAR_WAIT - 60
         self.is_open = True
         self.run_for(6)
-        self.assertEqual((count_front_ends(self.folder), self.near.is_sound()), (1, True))
+        self.assertEqual((count_front_ends(self.folder), self.near.is_validated()), (1, True))
         self.now += far.FAR_WAIT + 1
         with self.ends():
             self.far.turn()
 
     def test_asleep_leaves(self):
-        """Who sleeps isn't at the session: its connections to the keeper of the shells end there, and no others."""
-        self.sound()
+        """Who sleeps isn't at the session: its connections to the pty host end there, and no others."""
+        self.validate()
         ended(self.said_end)
         self.run_for(1)
         streams, ends = self.far.ways.path.streams, {}
-        for number, name in ((5, "shells"), (6, "bells")):
+        for number, name in ((5, "host"), (6, "bells")):
             ours, ends[name] = self.pair()
             with mock.patch.object(streams, "opens", return_value=ours):
                 streams.opened(streams.all.setdefault(number, streams.made(number)), name)
         self.is_open = False
         self.run_for(50)
         with self.assertRaises(BlockingIOError):
-            ends["shells"].recv(1)
+            ends["host"].recv(1)
         self.run_for(20)
-        self.assertEqual(ends["shells"].recv(1), b"")
+        self.assertEqual(ends["host"].recv(1), b"")
         with self.assertRaises(BlockingIOError):
             ends["bells"].recv(1)
 
     def test_session_ends(self):
         """The session's end is told by the path alone, until it is acknowledged, 30 s at most."""
-        self.sound()
+        self.validate()
         self.patch_of(transport_switch, "comes", lambda end, seconds: self.pass_time(seconds) or self.came.extend(drained(self.near))
                       or self.near.fill(self.waiting))
         begun = self.now
@@ -515,7 +516,7 @@ class Far(Both):
 
     def test_session_ends_unheard_by_the_path(self):
         """Where nobody hears by the path it is told by the command."""
-        self.sound()
+        self.validate()
         self.patch_of(transport_switch, "comes", lambda end, seconds: self.pass_time(seconds))
         self.patch_of(far, "is_taken", return_value=True)
         with self.ends():
@@ -524,7 +525,7 @@ class Far(Both):
 
     def test_session_ends_unheard(self):
         """The same where nobody hears."""
-        self.sound()
+        self.validate()
         ended(self.said_end)
         self.run_for(1)
         self.patch_of(transport_switch, "comes", lambda end, seconds: self.pass_time(seconds))
@@ -535,26 +536,26 @@ class Far(Both):
 
     def test_left(self):
         """It ends where the near end leaves."""
-        self.sound()
+        self.validate()
         self.near.tell(0, LEAVES)
         with self.ends():
             self.run_for(1)
 
     def test_spent(self):
         """A path without numbers is followed by another, told of over the command; without one it ends."""
-        self.sound()
-        self.far.ways.path.bundles.last = MOST_BUNDLES
+        self.validate()
+        self.far.ways.path.batches.last = MOST_BATCHES
         self.run_for(0.1)
         told = [text for _, text in self.frames() if text[:1] == b"s"]
         self.assertEqual((len(told), self.far.ways.path.is_spent()), (2, False))
         self.far.ways.stream = None
-        self.far.ways.path.bundles.last = MOST_BUNDLES
+        self.far.ways.path.batches.last = MOST_BATCHES
         with self.ends():
             self.far.turn()
 
     def test_blocked_later(self):
         """Where the path falls silent all goes by the command that is there, which is said at once."""
-        self.sound()
+        self.validate()
         self.run_for(20)
         self.frames()
         self.is_open = False
@@ -572,21 +573,21 @@ class Choice(Both):
     """Which way carries what waits."""
 
     def test_chosen(self):
-        """A sound path, else the stream where it is there, else the path."""
+        """A validated path, else the stream where it is there, else the path."""
         both = transport_switch.Ways(StillLoop())
         self.assertIsNone(both.chosen(False))
         both.stream = mock.Mock(resume=mock.Mock())
         self.assertIs(both.chosen(True), both.stream)
-        both.path = mock.Mock(is_sound=mock.Mock(return_value=False), sound_since=self.now)
+        both.path = mock.Mock(is_validated=mock.Mock(return_value=False), validated_since=self.now)
         self.assertEqual((both.chosen(True), both.chosen(False)), (both.stream, both.path))
-        both.path.is_sound.return_value = True
+        both.path.is_validated.return_value = True
         self.assertIs(both.chosen(True), both.path)
         both.rest()
         self.assertFalse(both.rests)
         self.now += transport_switch.SOUND
         both.rest()
         self.assertTrue(both.rests)
-        both.path.is_sound.return_value = False
+        both.path.is_validated.return_value = False
         both.rest()
         self.assertEqual((both.rests, both.stream.resume.call_count), (False, 1))
 

@@ -6,8 +6,8 @@ from unittest import mock
 
 from aids import Case
 from roam_live.relay import udp_path
-from roam_live.relay.aead_packets import LONGEST_PACKET, LONGEST_TEXT, MOST_PACKETS, Seal
-from roam_live.relay.batches import MOST_BUNDLES, PIECE
+from roam_live.relay.aead_packets import LONGEST_PACKET, LONGEST_TEXT, MOST_PACKETS, AeadPackets
+from roam_live.relay.batches import CHUNK, MOST_BATCHES
 from roam_live.relay.frames import ENDED, KILLED, LEAVES, Waiting
 from roam_live.relay.udp_path import (ASKS, ASKS_LARGE, FIRST, HEAD, HELD, LEAST, MOMENT, Best, HeardPackets, Path, PathPace, SentPacket,
                                       States, Trips, frames_in)
@@ -51,7 +51,7 @@ class Net(Case):
 
     def setUp(self):
         self.stop_clock()
-        self.near, self.far = Path(Seal(Foolish(b""), True), Wire(NEAR), [FAR]), Path(Seal(Foolish(b""), False), Wire(FAR))
+        self.near, self.far = Path(AeadPackets(Foolish(b""), True), Wire(NEAR), [FAR]), Path(AeadPackets(Foolish(b""), False), Wire(FAR))
         self.waiting = {self.near: Waiting(), self.far: Waiting()}
         self.flying, self.got, self.count = [], {self.near: [], self.far: []}, {self.near: 0, self.far: 0}
         self.bytes, self.last = {self.near: 0, self.far: 0}, {}
@@ -96,7 +96,7 @@ class Net(Case):
     def begin(self, seconds=3.0):
         """Has the two find each other."""
         self.run_for(seconds)
-        self.assertTrue(self.near.is_sound() and self.far.is_sound())
+        self.assertTrue(self.near.is_validated() and self.far.is_validated())
 
     def send(self, path, peer, texts):
         """Has an instruction wait."""
@@ -104,32 +104,32 @@ class Net(Case):
             self.waiting[path].add(peer, text)
 
 
-class Lives(Net):
+class Generations(Net):
     """How a path begins, falls silent and comes back."""
 
     def test_begins(self):
-        """The near end calls, asks for the largest size, and both are sound once a packet of it came each way."""
-        self.assertFalse(self.near.is_sound() or self.far.is_sound())
+        """The near end calls, asks for the largest size, and both are validated once a packet of it came each way."""
+        self.assertFalse(self.near.is_validated() or self.far.is_validated())
         self.assertEqual(self.far.due_at(), float("inf"))
         self.run_for(0.19)
         self.assertEqual(self.count[self.near], 0)
         self.run_for(0.5)
-        self.assertTrue(self.near.is_sound() and self.far.is_sound())
+        self.assertTrue(self.near.is_validated() and self.far.is_validated())
         self.assertEqual((self.near.place, self.far.place), (FAR, NEAR))
-        self.assertLess(self.near.sound_since, 100.45)
+        self.assertLess(self.near.validated_since, 100.45)
 
     def test_small_alone(self):
         """Where only small packets pass it is never sound, and little is sent."""
         self.loses = lambda path, packet: len(packet) > 500
         self.run_for(60)
-        self.assertFalse(self.near.is_sound() or self.far.is_sound())
+        self.assertFalse(self.near.is_validated() or self.far.is_validated())
         self.assertLess(self.count[self.near] + self.count[self.far], 120)
 
     def test_small_alone_one_way(self):
         """The same where it is the answers alone that don't pass."""
         self.loses = lambda path, packet: path is self.far and len(packet) > 500
         self.run_for(60)
-        self.assertFalse(self.near.is_sound())
+        self.assertFalse(self.near.is_validated())
         self.assertLess(self.count[self.near] + self.count[self.far], 160)
 
     def test_blocked(self):
@@ -150,7 +150,7 @@ class Lives(Net):
         count = sum(self.count.values())
         for _ in range(60):
             self.run_for(10)
-            self.assertTrue(self.near.is_sound() and self.far.is_sound())
+            self.assertTrue(self.near.is_validated() and self.far.is_validated())
         self.assertLess(sum(self.count.values()) - count, 800)
 
     def test_idle_session(self):
@@ -170,24 +170,25 @@ class Lives(Net):
 
         for _ in range(6000):
             self.run_for(0.1, speak)
-            self.assertTrue(self.near.is_sound() and self.far.is_sound())
+            self.assertTrue(self.near.is_validated() and self.far.is_validated())
         self.assertLess(sum(self.count.values()) - count, 410)
         self.assertLess((sum(self.bytes.values()) - size) / 10 + 41 * 28, 4300)
 
     def test_silent(self):
-        """It is silent 4 s after what nobody answers, and 7 s after the last answer at most, and sound again with the first that passes."""
+        """It is silent 4 s after what nobody answers, and 7 s after the last answer at most, and validated again with the first that
+        passes."""
         self.begin()
         self.is_open = False
         self.send(self.near, 1, typed(1))
         self.run_for(3.9)
-        self.assertTrue(self.near.is_sound())
+        self.assertTrue(self.near.is_validated())
         self.run_for(0.2)
-        self.assertFalse(self.near.is_sound())
+        self.assertFalse(self.near.is_validated())
         self.run_for(3.1)
-        self.assertFalse(self.far.is_sound())
+        self.assertFalse(self.far.is_validated())
         self.is_open = True
         self.run_for(5.2)
-        self.assertTrue(self.near.is_sound() and self.far.is_sound())
+        self.assertTrue(self.near.is_validated() and self.far.is_validated())
         self.assertEqual(self.got[self.far], [(1, typed(1)[0])])
 
     def test_silent_at(self):
@@ -224,7 +225,7 @@ class Lives(Net):
         self.begin(10)
         for _ in range(600):
             self.run_for(1)
-            self.assertTrue(self.near.is_sound() and self.far.is_sound(), self.now)
+            self.assertTrue(self.near.is_validated() and self.far.is_validated(), self.now)
 
     def test_asleep(self):
         """A far end to which nobody speaks for a minute says nothing and has no timer; the first packet wakes it, and what waited comes."""
@@ -241,12 +242,12 @@ class Lives(Net):
         self.is_open = True
         self.run_for(11)
         self.assertEqual(self.got[self.near], [(1, shown(1)[0])])
-        self.assertTrue(self.near.is_sound() and self.far.is_sound())
+        self.assertTrue(self.near.is_validated() and self.far.is_validated())
 
     def test_moves(self):
         """Another near address is followed with its first packet; a late packet from the old one changes nothing."""
         self.begin()
-        old = self.near.seal.sealed(HEAD.pack(0, 0, 0) + ASKS)
+        old = self.near.aead.encrypted(HEAD.pack(0, 0, 0) + ASKS)
         self.near.end.place = ("::9", 9, 0, 0)
         self.send(self.near, 1, typed(1))
         self.run_for(0.1)
@@ -293,27 +294,27 @@ class Lives(Net):
 
 
 class Ends(Net):
-    """Counters and numbers of bundles at their end."""
+    """Counters and numbers of batches at their end."""
 
     def test_counter(self):
         """The last counter is used, and then nothing is sent; the path is spent, and waits for nothing."""
         self.begin()
-        self.near.seal.counter = MOST_PACKETS - 3
+        self.near.aead.counter = MOST_PACKETS - 3
         for number in range(1, 9):
             self.send(self.near, 1, typed(number))
             self.run_for(0.2)
         self.assertTrue(self.near.is_spent())
-        self.assertEqual((self.near.seal.counter, self.near.due_at()), (MOST_PACKETS - 1, float("inf")))
+        self.assertEqual((self.near.aead.counter, self.near.due_at()), (MOST_PACKETS - 1, float("inf")))
         self.near.call(self.now)
         self.near.send_packet(self.now)
         self.assertEqual(self.near.end.out, [])
         self.assertEqual([peer for peer, _ in self.got[self.far]], [1, 1])
         self.assertTrue(self.waiting[self.near].datagrams)
 
-    def test_bundles(self):
-        """The last bundle comes, and none is begun behind it."""
+    def test_batches(self):
+        """The last batch comes, and none is begun behind it."""
         self.begin()
-        self.near.bundles.last = MOST_BUNDLES - 3
+        self.near.batches.last = MOST_BATCHES - 3
         for number in range(1, 9):
             self.send(self.near, 1, typed(number))
             self.run_for(0.2)
@@ -326,11 +327,11 @@ class Ends(Net):
     def test_counters_low_bits(self):
         """What is told of by its lowest 32 bits is the newest that it may be."""
         self.begin()
-        self.near.seal.counter += 1 << 32
+        self.near.aead.counter += 1 << 32
         self.send(self.near, 1, typed(1))
         self.run_for(1)
         self.assertGreater(self.near.arrived, 1 << 32)
-        self.assertTrue(self.near.bundles.is_said(1))
+        self.assertTrue(self.near.batches.is_said(1))
 
 
 class Carries(Net):
@@ -369,7 +370,7 @@ class Carries(Net):
         self.assertLess(lost[-1] - begun, 1.0)
 
     def test_large(self):
-        """A large instruction comes whole, whatever is lost of it, and its lost pieces alone go again."""
+        """A large instruction comes whole, whatever is lost of it, and its lost chunks alone go again."""
         chance = random.Random(6)
         texts = datagrams(1, noise(300_000), 1)
         self.loses = lambda path, packet: chance.random() < 0.1
@@ -391,7 +392,7 @@ class Carries(Net):
         self.assertEqual(self.got[self.near], [(1, shown(2)[0]), (2, shown(1)[0])])
 
     def test_twice(self):
-        """Where more than 1 of 100 are lost a small piece goes twice, 20 ms apart; a large one doesn't, nor what goes once."""
+        """Where more than 1 of 100 are lost a small chunk goes twice, 20 ms apart; a large one doesn't, nor what goes once."""
         self.far.trips.lost = 0.5
         count = self.count[self.far]
         self.send(self.far, 1, shown(1))
@@ -444,15 +445,15 @@ class Carries(Net):
         for number in (1, 2):
             self.send(self.near, 1, typed(number))
             self.run_for(1)
-        self.assertGreater(self.near.bundles.going[1].base, 0)
-        self.far.bundles.coming[1].texts.clear()
+        self.assertGreater(self.near.batches.going[1].base, 0)
+        self.far.batches.coming[1].texts.clear()
         self.send(self.near, 1, typed(3))
         self.run_for(1)
-        self.assertEqual(self.near.bundles.going[1].base, 0)
+        self.assertEqual(self.near.batches.going[1].base, 0)
         self.send(self.near, 1, typed(4))
         self.run_for(1)
         self.assertEqual(self.got[self.far][-1], (1, typed(4)[0]))
-        self.assertGreater(self.near.bundles.going[1].base, 0)
+        self.assertGreater(self.near.batches.going[1].base, 0)
 
     def test_many_peers(self):
         """256 peers that speak at once all come, no packet is too long, and what of each came whole is told in several packets."""
@@ -462,7 +463,7 @@ class Carries(Net):
         self.run_for(4)
         self.assertEqual(sorted(self.got[self.far]), sorted((peer, typed(1)[0]) for peer in range(1, 257)))
         self.assertEqual(len(self.got[self.near]), 256)
-        self.assertTrue(all(path.bundles.going[peer].base for path in (self.near, self.far) for peer in range(1, 257)))
+        self.assertTrue(all(path.batches.going[peer].base for path in (self.near, self.far) for peer in range(1, 257)))
 
     def test_sizes(self):
         """No packet is longer than the longest, whatever is told in it."""
@@ -479,13 +480,13 @@ class Carries(Net):
         """Packets that come thrice and in any order bring each instruction once, rising."""
         chance, packets = random.Random(5), []
         # Without bases, since those that the other end below has whole are others.
-        self.patch_of(self.near.bundles, "note_whole", return_value=False)
+        self.patch_of(self.near.batches, "note_whole", return_value=False)
         self.loses = lambda path, packet: packets.append(packet) if path is self.near else False
         for number in range(1, 200):
             self.send(self.near, 1, typed(number))
             self.run_for(0.02)
         self.got[self.far].clear()
-        other = Path(Seal(Foolish(b""), False), Wire(FAR))
+        other = Path(AeadPackets(Foolish(b""), False), Wire(FAR))
         for place in sorted(range(len(packets) * 3), key=lambda place: place // 3 + chance.randrange(40)):
             other.end.coming.append((packets[place // 3], NEAR))
             self.got[self.far] += other.received()
@@ -512,12 +513,13 @@ class Carries(Net):
 
     def test_texts_of_chance(self):
         """Authentic texts that no end sends raise nothing."""
-        mate, chance = Seal(Foolish(b""), True), random.Random(9)
+        mate, chance = AeadPackets(Foolish(b""), True), random.Random(9)
         mate.counter = 1 << 20
         for _ in range(1500):
             head = HEAD.pack(chance.choice((0, 3, 1 << 31)), 0, chance.choice((0, 1, 255))) if chance.random() < 0.7 else b""
             kind, numbers = chance.choice((b"p", b"o", b"w", b"a", b"l", b"z")), chance.choice((0, 1, 2, 900)).to_bytes(2, "big")
-            self.far.end.coming.append((mate.sealed((head + kind + numbers + chance.randbytes(chance.randrange(60)))[:LONGEST_TEXT]), NEAR))
+            self.far.end.coming.append((mate.encrypted((head + kind + numbers + chance.randbytes(chance.randrange(60)))[:LONGEST_TEXT]),
+                                        NEAR))
             list(self.far.received())
             self.far.fill(Waiting())
             self.far.end.out.clear()
@@ -556,7 +558,7 @@ class Told(Net):
         self.begin()
         self.far.tell(0, ENDED)
         self.run_for(1)
-        self.near.bundles.coming[0].texts.clear()
+        self.near.batches.coming[0].texts.clear()
         self.far.tell(0, KILLED)
         self.run_for(2)
         self.assertEqual(self.got[self.near][-1], (0, KILLED))
@@ -683,13 +685,13 @@ class Parts(Case):
 
     def test_frames(self):
         """Frames of a text; behind what isn't known, or is cut, is none."""
-        piece = PIECE.pack(b"p", 1, 2, 3, 4, 2) + b"xy"
+        chunk = CHUNK.pack(b"p", 1, 2, 3, 4, 2) + b"xy"
         whole = b"w\0\1\0\0\0\7"
-        self.assertEqual(list(frames_in(b"head" + ASKS + whole + piece + ASKS_LARGE + bytes(9), 4)),
+        self.assertEqual(list(frames_in(b"head" + ASKS + whole + chunk + ASKS_LARGE + bytes(9), 4)),
                          [(b"a", (), b""), (b"w", (1, 7), b""), (b"p", (1, 2, 3, 4, 2), b"xy"), (b"l", (), b"")])
-        self.assertEqual(list(frames_in(piece + piece[:-1], 0)), [(b"p", (1, 2, 3, 4, 2), b"xy")])
-        self.assertEqual(list(frames_in(piece[:9], 0)), [])
-        self.assertEqual(list(frames_in(b"q" + piece, 0)), [(b"q", (), b"")])
+        self.assertEqual(list(frames_in(chunk + chunk[:-1], 0)), [(b"p", (1, 2, 3, 4, 2), b"xy")])
+        self.assertEqual(list(frames_in(chunk[:9], 0)), [])
+        self.assertEqual(list(frames_in(b"q" + chunk, 0)), [(b"q", (), b"")])
 
     def test_arrivals(self):
         """What came in the last second is told in a mask; of many peers it is told in turn."""

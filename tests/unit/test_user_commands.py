@@ -231,7 +231,8 @@ class Line(Case):
         for line, why in (("bind v nosuch", "nosuch is no command of roam, so v isn't bound"),
                           ("bind w swapp", "swapp is no command of roam, so w isn't bound"),
                           ("bind v split-window -Q", "v isn't bound: split-window: it has no -Q here"),
-                          ("bind", "bind: it has a key"), ("unbind nokey", "nokey is no key that is known here"), ("bind v", "bind v has no command")):
+                          ("bind", "bind: it has a key"), ("unbind nokey", "nokey is no key that is known here"),
+                          ("bind v", "bind v has no command")):
             self.runner.typed(line)
             self.assertEqual(self.commands.display.tell.call_args.args[0], why)
             self.assertEqual(OWN.found.bindings, found)

@@ -1,4 +1,4 @@
-"""A person's settings file as a front end and the keeper go by it: options, what goes before them, and what stands in the last row."""
+"""A person's settings file as a front end and the host go by it: options, what goes before them, and what stands in the last row."""
 import os
 import unittest
 from unittest import mock
@@ -19,7 +19,7 @@ CHOSEN = (
     ("", {}, config_environment.chosen_prefix, "C-b"),
     ("set -g mouse on", {}, config_environment.wants_mouse, True),
     ("set -g mouse on", {"ROAM_MOUSE": "off"}, config_environment.wants_mouse, False),
-    ("set -g guess never", {}, config_environment.chosen_guessing, "never"),
+    ("set -g predict never", {}, config_environment.chosen_prediction, "never"),
     ("set -g history-limit 5", {}, config_environment.chosen_history, 5),
     ("set -g history-limit 5", {"ROAM_HISTORY": "7"}, config_environment.chosen_history, 7),
     ("set -g set-clipboard on", {}, config_environment.sets_clipboard, True),
@@ -52,7 +52,7 @@ class Own(Case):
         patched = mock.patch.dict(os.environ, {"XDG_CONFIG_HOME": str(self.folder), **environment})
         patched.start()
         self.addCleanup(patched.stop)
-        for name in {"ROAM_PREFIX", "ROAM_MOUSE", "ROAM_GUESS", "ROAM_HISTORY", "ROAM_CLIPBOARD", "EDITOR", "VISUAL"} - set(environment):
+        for name in {"ROAM_PREFIX", "ROAM_MOUSE", "ROAM_PREDICT", "ROAM_HISTORY", "ROAM_CLIPBOARD", "EDITOR", "VISUAL"} - set(environment):
             os.environ.pop(name, None)
         OWN.read()
 
@@ -117,7 +117,7 @@ class Row(Case):
         self.display = Display(self.loop, lambda line: None)
         self.display.asked, self.display.told_size, self.display.labels = (23, 40), (24, 40), "[1]"
         told = mock.Mock(names={2: ""}, runs={2: "vim"})
-        self.front = mock.Mock(display=self.display, number=2, **{"windows.told": told, "panes.aside": ("a title", 0)})
+        self.front = mock.Mock(display=self.display, number=2, **{"windows.told": told, "panes.title_and_shape": ("a title", 0)})
         self.front.session.name = "main:2"
         self.row = StatusRow(self.front, self.loop)
         self.addCleanup(config_environment.choose_by_file, {})

@@ -1,4 +1,4 @@
-"""Sessions with windows as commands find them: their folders, notes and names, and what is asked of their keeper."""
+"""Sessions with windows as commands find them: their folders, notes and names, and what is asked of their host."""
 import errno
 import fcntl
 import json
@@ -20,7 +20,7 @@ from roam_live.session import folder as session_folder, foreground, lookup, remo
 from roam_live.session.attached import count_front_ends
 from roam_live.session.folder import VERSION, FolderSession
 from roam_live.session.lookup import session_named, window_in
-from roam_live.session.window_state import WINDOWS_VERSION, numbers_in, stands_ready
+from roam_live.session.window_state import WINDOWS_VERSION, is_spare_server, numbers_in
 from roam_live.session.windowed import Window, WindowedSession
 
 PLACES = Places({1: Rect(1, 1, 23, 80)}, 1, 1)
@@ -47,7 +47,7 @@ class Sessions(Case):
 
     def session(self):
         """A session of three windows, of which one has ended."""
-        self.noted("main", shells=self.own)
+        self.noted("main", host=self.own)
         for number, server in ((2, self.own), (5, [1, 1]), (7, self.own)):
             self.noted("main", number, server=server)
         return session_named("main")
@@ -61,7 +61,7 @@ class Found(Sessions):
         self.assertIsInstance(session_named("new"), WindowedSession)
         self.noted("main", version=VERSION, server=self.own)
         self.assertEqual(type(session_named("main")), FolderSession)
-        self.noted("main", shells=self.own)
+        self.noted("main", host=self.own)
         self.assertIsInstance(session_named("main"), WindowedSession)
         (self.base / "main/clients").touch()
         self.assertEqual(type(session_named("main")), FolderSession)
@@ -89,11 +89,11 @@ class Found(Sessions):
     def test_spare(self):
         """A server that only stands ready is no window, and can't be named: by its mark, or where that is lost by its environment, while
         nobody has joined it."""
-        session, server = self.session(), self.process(env={"ROAM_STANDS_READY": "1"})
+        session, server = self.session(), self.process(env={"ROAM_SPARE": "1"})
         folder = self.noted("main", 7, server=[server.pid, begun(server.pid)])
-        while not stands_ready(server.pid):
+        while not is_spare_server(server.pid):
             time.sleep(0.01)
-        for mark, numbers in (("spare", [2]), (None, [2]), ("shells", [2, 7]), ("terminals", [2, 7])):
+        for mark, numbers in (("spare", [2]), (None, [2]), ("host", [2, 7]), ("terminals", [2, 7])):
             if mark:
                 (folder / mark).touch()
             self.assertEqual([window.number for window in session.windows()], numbers, mark)
@@ -114,7 +114,7 @@ class Found(Sessions):
         self.assertFalse(session.find())
         fcntl.flock(held, fcntl.LOCK_EX)
         self.assertTrue(session.find())
-        self.assertEqual(session.process("shells"), os.getpid())
+        self.assertEqual(session.process("host"), os.getpid())
         self.assertTrue(session.listed().startswith("main "))
         with self.assertRaisesRegex(Fault, "^session main runs, and nothing is left by which its windows are found"):
             session.window()
@@ -123,26 +123,26 @@ class Found(Sessions):
         self.assertEqual(near.process("relay"), os.getpid())
 
     def test_unreachable(self):
-        """A start that has had no socket for ten seconds is followed by another."""
+        """A client that has had no socket for ten seconds is followed by another."""
         session = self.session()
         window = session.window(2)
-        self.noted("main", 2, server=self.own, terminals=self.own)
+        self.noted("main", 2, server=self.own, client=self.own)
         window.read()
         age = self.patch_of(session_folder, "age_of", return_value=9.9)
-        self.assertTrue(window.has_terminals())
+        self.assertTrue(window.has_client())
         age.return_value = 10.1
-        self.assertFalse(window.has_terminals())
+        self.assertFalse(window.has_client())
         window.terminals.touch()
-        self.assertTrue(window.has_terminals())
+        self.assertTrue(window.has_client())
 
-    def test_keeper_gone(self):
-        """Where its keeper has ended it is there while a server runs, and that is listed."""
+    def test_host_gone(self):
+        """Where its host has ended it is there while a server runs, and that is listed."""
         session = self.session()
-        self.noted("main", shells=[1, 1])
+        self.noted("main", host=[1, 1])
         session.read()
         self.patch_of(FolderSession, "places", lambda session: PLACES)
-        self.assertTrue(session.find() and session.runs() and not session.runs("shells"))
-        self.assertTrue(session.line().endswith("2 panes  0 terminals, 2 windows: 2 7, nothing keeps its shells"), session.line())
+        self.assertTrue(session.find() and session.runs() and not session.runs("host"))
+        self.assertTrue(session.line().endswith("2 panes  0 terminals, 2 windows: 2 7, its pty host is not running"), session.line())
         for number in (2, 7):
             self.noted("main", number, server=[1, 1])
         self.assertFalse(session.find() or session.runs())
@@ -169,11 +169,11 @@ class Found(Sessions):
         """What runs in a window's panes is that window's."""
         session = self.session()
         busy = {(str(self.base / "main/w/2"), 1): "vi", (str(self.base / "main/w/7"), 1): "top"}
-        with mock.patch.object(foreground, "busy_programs", lambda keeper: busy):
+        with mock.patch.object(foreground, "busy_programs", lambda host: busy):
             self.assertEqual((session.window(2).busy(), session.window(7).busy()), ({1: "vi"}, {1: "top"}))
             self.assertEqual(session.busy_programs(), {(2, 1): "vi", (7, 1): "top"})
             self.assertEqual(foreground.told_in_windows(session.busy_programs()), "vi in pane 1 of window 2 and top in pane 1 of window 7")
-        with mock.patch.object(foreground, "busy_programs", lambda keeper: None):
+        with mock.patch.object(foreground, "busy_programs", lambda host: None):
             self.assertEqual((session.window(2).busy(), session.busy_programs()), (None, None))
 
     def test_clean(self):
@@ -202,7 +202,7 @@ class Unknown(Sessions):
         """A session whose processes are noted runs, though none of them can be looked at."""
         session = self.session()
         again = self.full()
-        found = session.find(), session.runs("shells"), FolderSession.runs(session, "shells"), is_running(1 << 22, 1)
+        found = session.find(), session.runs("host"), FolderSession.runs(session, "host"), is_running(1 << 22, 1)
         again()
         self.assertEqual(found, (True, True, True, False))
 
@@ -233,7 +233,7 @@ class Unknown(Sessions):
         """A front end's note that can't be read stays."""
         folder = self.noted("main")
         (folder / "attached").mkdir()
-        (folder / "attached" / str(os.getpid())).write_text(f"{self.own[1]} edits\n", encoding="ascii")
+        (folder / "attached" / str(os.getpid())).write_text(f"{self.own[1]} read-write\n", encoding="ascii")
         with mock.patch("pathlib.Path.read_text", side_effect=OSError(errno.EMFILE, "no descriptor")):
             self.assertEqual(count_front_ends(folder), 1)
         self.assertEqual(count_front_ends(folder), 1)
@@ -261,14 +261,14 @@ class Launched(Sessions):
         session.state[role] = self.own
 
     def test_launched(self):
-        """What keeps the windows is spawned first, and waits for the server of the first, in a folder of its own."""
+        """The pty host is spawned first, and waits for the server of the first, in a folder of its own."""
         self.new.launch(["vi", "x"])
         folder = self.base / "new/w/1"
         self.assertEqual(self.spawned, [
-            ("shells", [str(windowed.TOOLS / "pane_shells"), "--windows", "--first", str(self.base / "new"), "vi", "x"]),
-            ("server", ["/roam", "serve", "--as-meant", "--dir", str(folder)])])
+            ("host", [str(windowed.TOOLS / "pane_shells"), "--windows", "--first", str(self.base / "new"), "vi", "x"]),
+            ("server", ["/roam", "serve", "--normalize", "--dir", str(folder)])])
         self.assertEqual((self.new.state, folder.stat().st_mode & 0o777, folder.parent.stat().st_mode & 0o777),
-                         ({"version": WINDOWS_VERSION, "command": ["vi", "x"], "shells": self.own}, 0o700, 0o700))
+                         ({"version": WINDOWS_VERSION, "command": ["vi", "x"], "host": self.own}, 0o700, 0o700))
         role, test = self.waits[0]
         self.assertEqual((role, test()), ("server", False))
         (folder / "session").touch()
@@ -281,42 +281,42 @@ class Launched(Sessions):
         self.refused = "server"
         with self.assertRaisesRegex(Fault, "^it can't be had$"):
             self.new.launch()
-        self.assertEqual(self.ended, [("new", "server"), ("new", "terminals"), ("new", "shells"), ("new:1", "server"),
-                                      ("new:1", "terminals")])
+        self.assertEqual(self.ended, [("new", "server"), ("new", "client"), ("new", "host"), ("new:1", "server"),
+                                      ("new:1", "client")])
 
     def test_kept(self):
-        """What keeps the windows is spawned where it doesn't run, and waited for until one is there, or a command has ended it."""
+        """The pty host is spawned where it doesn't run, and waited for until one is there, or a command has ended it."""
         session = self.session()
-        session.demand_shells()
+        session.demand_host()
         self.assertEqual(self.spawned, [])
-        self.noted("main", shells=[1, 1], command=["vi"])
+        self.noted("main", host=[1, 1], command=["vi"])
         session.read()
         words = [str(windowed.TOOLS / "pane_shells"), "--windows", str(self.base / "main"), "vi"]
-        for demands in (session.demand_shells, session.window(2).demand_shells, session.revive_shells, session.window(7).revive_shells):
+        for demands in (session.demand_host, session.window(2).demand_host, session.revive_host, session.window(7).revive_host):
             demands()
-            self.assertEqual(self.spawned.pop(), ("shells", words))
-            self.noted("main", shells=[1, 1], command=["vi"])
+            self.assertEqual(self.spawned.pop(), ("host", words))
+            self.noted("main", host=[1, 1], command=["vi"])
             session.read()
-        self.assertEqual([(role, test()) for role, test in self.waits], [("shells", False)] * 2)
-        self.listening(self.base / "main/w/7/shells")
+        self.assertEqual([(role, test()) for role, test in self.waits], [("host", False)] * 2)
+        self.listening(self.base / "main/w/7/host")
         self.assertTrue(self.waits[0][1]())
-        self.new.own = {"shells": mock.Mock()}
+        self.new.own = {"host": mock.Mock()}
         for ended, is_over in ((None, False), (1, False), (0, True)):
-            self.new.own["shells"].poll.return_value = ended
+            self.new.own["host"].poll.return_value = ended
             self.new.demand_ready()
             self.assertEqual(self.waits[-1][1](), is_over)
 
     def test_revived(self):
         """Nobody waits for another that spawns it, and one that has ended isn't begun again."""
         session = self.session()
-        self.noted("main", shells=[1, 1])
+        self.noted("main", host=[1, 1])
         session.read()
         lock = session.taken_lock(True)
-        self.assertFalse(session.revive_shells())
+        self.assertFalse(session.revive_host())
         os.close(lock)
         for number in (2, 7):
             self.noted("main", number, server=[1, 1])
-        self.assertEqual((session.revive_shells(), self.spawned), (False, []))
+        self.assertEqual((session.revive_host(), self.spawned), (False, []))
 
     def test_answers(self):
         """Where its note is lost it is known by who answers at the socket of a window."""
@@ -324,16 +324,16 @@ class Launched(Sessions):
         self.noted("main")
         session.read()
         self.patch_of(windowed, "command_of", return_value=["vi"])
-        self.listening(self.base / "main/w/7/shells")
+        self.listening(self.base / "main/w/7/host")
         self.assertTrue(session.find() and session.is_found)
-        self.assertEqual(session.state, {"version": WINDOWS_VERSION, "command": ["vi"], "shells": self.own})
+        self.assertEqual(session.state, {"version": WINDOWS_VERSION, "command": ["vi"], "host": self.own})
 
     def test_ends(self):
-        """The keeper is ended before what it left, and the windows that run are noted before."""
+        """The host is ended before what it left, and the windows that run are noted before."""
         session = self.session()
         session.end_all()
-        roles = [(f"main:{number}", role) for number in (2, 5, 7) for role in ("server", "terminals")]
-        self.assertEqual(self.ended, [("main", "shells"), *roles])
+        roles = [(f"main:{number}", role) for number in (2, 5, 7) for role in ("server", "client")]
+        self.assertEqual(self.ended, [("main", "host"), *roles])
         self.assertEqual((self.base / "main/ended").read_text(encoding="ascii"), f"{end_words(*self.own)}\n" * 2)
 
     def test_no_own(self):
@@ -343,7 +343,7 @@ class Launched(Sessions):
             window.launch()
         with mock.patch.object(foreground, "busy_panes", return_value={1: "vi"}) as busy:
             self.assertEqual((window.busy(), busy.call_args), ({1: "vi"}, mock.call(os.getpid(), str(window.folder))))
-            self.noted("main", shells=[1, 1])
+            self.noted("main", host=[1, 1])
             self.assertEqual(window.busy(), {})
 
 
@@ -413,37 +413,37 @@ class Near(Sessions):
 
 
 class Asked(Sessions):
-    """What commands ask of a keeper, which is played."""
+    """What commands ask of a host, which is played."""
 
     def setUp(self):
         super().setUp()
         self.window = self.session().window(2)
-        self.listener = self.listening(self.window.folder / "shells")
+        self.listener = self.listening(self.window.folder / "host")
         self.patch_of(cli_windows, "comes", self.comes)
         self.answers = []
-        self.keeper = None
+        self.host = None
 
     def comes(self, peer, seconds):
-        """Has the keeper tell what it answers next, to who waits for it no longer than he may."""
+        """Has the host tell what it answers next, to who waits for it no longer than he may."""
         self.assertTrue(peer.fileno() >= 0 and 0 <= seconds <= cli_windows.ANSWERS)
-        self.keeper = self.keeper or self.taken(self.listener)
+        self.host = self.host or self.taken(self.listener)
         if self.answers:
-            self.keeper.send(self.answers.pop(0))
+            self.host.send(self.answers.pop(0))
         return True
 
     def test_windows(self):
-        """Lines are taken in any pieces, and those that can't be are nothing."""
+        """Lines are taken in any chunks, and those that can't be are nothing."""
         odd = b"window x -\nwindow 3\nwindow \xc2\xb2 -\nwindow " + b"9" * 5000 + b" -\nwindow 100 -\n"
         self.answers = [b"window 1 -\nwin", b"dow 2 61\nactivity 2\n", odd, b"window 2 6162\n", b"windows 2\n"]
         self.assertEqual(windows_of(self.window), [(1, ""), (2, "ab")])
-        self.assertEqual(read_now(self.keeper), b"windows\n")
+        self.assertEqual(read_now(self.host), b"windows\n")
 
     def test_programs(self):
         """A window without a name is named by what runs in front in it, as in the last row, where that is told soon."""
         self.patch_of(cli_windows, "RUNS_TOLD", 0.2)
         self.answers = [b"window 1 -\nwindow 2 6162\nwindows 2\n", b"runs 2 vi\nruns 9 x\nruns x y\nruns 1 less a\n"]
         self.assertEqual(windows_of(self.window, has_programs=True), [(1, "less a"), (2, "ab")])
-        self.answers, self.keeper = [b"window 1 -\nwindows 1\nwindow 1 -\n"], None
+        self.answers, self.host = [b"window 1 -\nwindows 1\nwindow 1 -\n"], None
         self.patch_of(cli_windows, "comes", lambda peer, seconds: self.comes(peer, seconds) if self.answers else False)
         self.assertEqual(windows_of(self.window, has_programs=True), [(1, "")])
 
@@ -454,7 +454,7 @@ class Asked(Sessions):
         for number, places, busy, line in ((2, PLACES, {1: "vi"}, " 2 a?b              24 by 80     1 pane, vi in pane 1"),
                                            (7, wide, {}, " 7 -                24 by 80     2 panes"),
                                            (7, None, None, " 7 -                -            ? panes")):
-            self.answers, self.keeper = [b"window %d %s\nwindows 1\n" % (number, b"61e282ac62" if number == 2 else b"-")], None
+            self.answers, self.host = [b"window %d %s\nwindows 1\n" % (number, b"61e282ac62" if number == 2 else b"-")], None
             self.patch_of(FolderSession, "places", lambda session: places)
             self.patch_of(Window, "busy", lambda session: busy)
             list_windows(self.window)
@@ -465,13 +465,13 @@ class Asked(Sessions):
         self.patch_of(FolderSession, "places", lambda session: Places({1: Rect(1, 1, 29, 100)}, 1))
         self.answers = [b"opened 4\n"]
         self.assertEqual(new_window(self.window, ""), 0)
-        self.assertEqual((read_now(self.keeper), self.text.getvalue()), (b"open 30 100\n", "main:4\n"))
+        self.assertEqual((read_now(self.host), self.text.getvalue()), (b"open 30 100\n", "main:4\n"))
         self.patch_of(FolderSession, "places", lambda session: None)
-        self.answers, self.keeper = [b"opened 5\n", b"windows 0\n", b"window 5 6162\n"], None
+        self.answers, self.host = [b"opened 5\n", b"windows 0\n", b"window 5 6162\n"], None
         self.assertEqual(new_window(self.window, "ab"), 0)
-        self.assertEqual((read_now(self.keeper), self.text.getvalue()), (b"open 24 80\nwindows\nname 5 6162\n", "main:4\nmain:5\n"))
+        self.assertEqual((read_now(self.host), self.text.getvalue()), (b"open 24 80\nwindows\nname 5 6162\n", "main:4\nmain:5\n"))
         for told, why in ((b"none a\x1bb is full", "a\\?b is full"), (b"100", ""), (b"9" * 5000, ""), (b"x", ""), (b"4 5", "5")):
-            self.answers, self.keeper = [b"opened " + told + b"\n"], None
+            self.answers, self.host = [b"opened " + told + b"\n"], None
             with self.assertRaisesRegex(Fault, f"^session main: no window is opened: {why}$"):
                 new_window(self.window, "")
 
@@ -479,15 +479,15 @@ class Asked(Sessions):
         """It is waited until that window is told to have the name; one that is gone has none."""
         self.answers = [b"window 2 -\nwindows 1\n", b"window 7 63\ngone 7\n", b"window 2 6162\n"]
         self.assertEqual((rename(self.window, "ab"), self.answers), (0, []))
-        self.assertEqual(read_now(self.keeper), b"windows\nname 2 6162\n")
-        self.answers, self.keeper = [b"windows 1\n", b"gone 2\n"], None
+        self.assertEqual(read_now(self.host), b"windows\nname 2 6162\n")
+        self.answers, self.host = [b"windows 1\n", b"gone 2\n"], None
         with self.assertRaisesRegex(Fault, "^session main has no window 2$"):
             rename(self.window, "")
-        self.assertEqual(read_now(self.keeper), b"windows\nname 2 -\n")
+        self.assertEqual(read_now(self.host), b"windows\nname 2 -\n")
 
     def begin_shutting(self, *answers):
-        """The keeper answers that anew."""
-        self.answers, self.keeper = [b"windows 1\n", *answers], None
+        """The host answers that anew."""
+        self.answers, self.host = [b"windows 1\n", *answers], None
 
     def test_shut(self):
         """It is waited until nothing of the window is there, for so long."""
@@ -495,7 +495,7 @@ class Asked(Sessions):
         self.begin_shutting(b"gone 2\n")
         there = self.patch_of(cli_windows, "is_there", side_effect=[True, False])
         self.assertEqual((shut(self.window), there.call_args), (0, mock.call(self.window, os.getpid())))
-        self.assertEqual(read_now(self.keeper), b"windows\nshut 2\n")
+        self.assertEqual(read_now(self.host), b"windows\nshut 2\n")
         self.begin_shutting(b"gone 2\n")
         self.patch_of(cli_windows, "is_there", return_value=True)
         with self.assertRaisesRegex(Fault, "^window main:2 doesn't end$"):
@@ -503,7 +503,7 @@ class Asked(Sessions):
         self.assertAlmostEqual(self.now, 112.0, 1)
 
     def test_shut_last(self):
-        """Where it was the last the keeper may end before it tells that; where the window runs it is told that nobody answers."""
+        """Where it was the last the host may end before it tells that; where the window runs it is told that nobody answers."""
         self.patch_of(cli_windows, "comes", lambda peer, seconds: bool(self.answers) and self.comes(peer, seconds))
         self.patch_of(cli_windows, "is_there", return_value=False)
         self.begin_shutting()
@@ -511,7 +511,7 @@ class Asked(Sessions):
         self.assertEqual(shut(self.window), 0)
         self.begin_shutting()
         self.patch_of(Window, "runs", return_value=True)
-        with self.assertRaisesRegex(Fault, "what keeps its shells doesn't answer$"):
+        with self.assertRaisesRegex(Fault, "the pty host doesn't answer$"):
             shut(self.window)
 
     def test_there(self):
@@ -523,36 +523,36 @@ class Asked(Sessions):
         self.assertFalse(is_there(self.window, os.getpid()))
 
     def test_earlier(self):
-        """An earlier keeper has one window."""
+        """An earlier host has one window."""
         self.answers = [b"bad line\n"]
-        with self.assertRaisesRegex(Fault, "^session main:2: what keeps its shells is an earlier roam's, and has one window$"):
+        with self.assertRaisesRegex(Fault, "^session main:2: the pty host is an earlier roam's, and has one window$"):
             windows_of(self.window)
-        self.answers, self.keeper, self.window.number = [b"bad line\n"], None, 0
+        self.answers, self.host, self.window.number = [b"bad line\n"], None, 0
         self.assertEqual(windows_of(self.window), [(1, "")])
 
     def test_clients(self):
-        """Terminals are told a line each; what a keeper tells is made harmless."""
-        self.answers = [b"client 3 a:/dev/pts/1 24 80 2 0 edits\nclient 4 b\x1b[c 24 80 2 0 edits\n"
-                        b"client 5 b 24 80 2 99999999999999999999 watches\nclient 6 x\n"
-                        b"client 7 b 24 80 2 " + b"9" * 5000 + b" edits\nclients 4\n"]
+        """Terminals are told a line each; what a host tells is made harmless."""
+        self.answers = [b"client 3 a:/dev/pts/1 24 80 2 0 read-write\nclient 4 b\x1b[c 24 80 2 0 read-write\n"
+                        b"client 5 b 24 80 2 99999999999999999999 read-only\nclient 6 x\n"
+                        b"client 7 b 24 80 2 " + b"9" * 5000 + b" read-write\nclients 4\n"]
         with mock.patch.dict(os.environ, TZ="UTC"):
             time.tzset()
             list_clients(self.window)
         time.tzset()
         lines = self.text.getvalue().splitlines()
         self.assertEqual(lines[0], "  3 a:/dev/pts/1             24 by 80, window 2, since 1970-01-01 00:00")
-        self.assertEqual((len(lines), lines[1][:6], lines[1].endswith(" watches")), (2, "  5 b ", True))
+        self.assertEqual((len(lines), lines[1][:6], lines[1].endswith(" read-only")), (2, "  5 b ", True))
 
     def test_others(self):
         """All who are there are told to leave, and who doesn't is told of."""
-        one = b"client 3 a:/dev/pts/1 24 80 2 0 edits\nclients 1\n"
+        one = b"client 3 a:/dev/pts/1 24 80 2 0 read-write\nclients 1\n"
         for last, count in ((b"clients 0\n", 0), (one, 1)):
             self.answers = [one, b"left 3\n", last]
             self.patch_of(cli_windows, "LEAVES", 0.03)
             if count:
                 self.answers += [one] * 100
             self.assertEqual(detach_others(self.window), count)
-            self.keeper = None
+            self.host = None
 
     def test_titles(self):
         """A name that can't be one is refused before anything is asked."""
@@ -562,12 +562,12 @@ class Asked(Sessions):
         check_title("\u4e2d" * 39)
 
     def test_gone(self):
-        """A keeper that ends, or isn't there, is told of."""
+        """A host that ends, or isn't there, is told of."""
         asked = WindowsAsked(self.window)
         self.taken(self.listener).close()
-        with self.assertRaisesRegex(Fault, "what keeps its shells has ended$"):
+        with self.assertRaisesRegex(Fault, "the pty host has ended$"):
             self.patch_of(cli_windows, "comes", lambda peer, seconds: True)
             asked.until("windows")
         self.listener.close()
-        with self.assertRaisesRegex(Fault, "^session main:2: nobody keeps its shells: "):
+        with self.assertRaisesRegex(Fault, "^session main:2: its pty host is not running: "):
             WindowsAsked(self.window)

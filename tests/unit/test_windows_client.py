@@ -1,6 +1,6 @@
-"""What a front end is told of windows, whatever a keeper, also one of another machine, says."""
+"""What a front end is told of windows, whatever a host, also one of another machine, says."""
 from aids import Case, StillLoop, read_now
-from roam_live.frontend.windows_client import ToldWindows, WindowsLink
+from roam_live.frontend.windows_client import WindowsLink, WindowsState
 
 LIST = ("window 1 -", "window 2 68c3a920", "window 10 1b5b324a0a", "windows 3")
 
@@ -14,7 +14,7 @@ class Told(Case):
 
     def told(self, *lines):
         """The windows that these lines tell."""
-        windows = ToldWindows()
+        windows = WindowsState()
         for line in lines:
             windows.take(line)
         return windows
@@ -60,7 +60,7 @@ class Linked(Case):
     def test_asks(self):
         """It says the word at each connection; one who doesn't know it isn't asked again."""
         folder, loop, heard, begun, lost = self.made_folder(), StillLoop(lambda: self.now), [], [], []
-        path = str(folder / "shells")
+        path = str(folder / "host")
         listener = self.listening(path)
         link = WindowsLink(lambda: path, loop, heard.extend, lambda: begun.append(1), lambda: lost.append(1))
         link.connect()

@@ -7,10 +7,10 @@ from roam_live.common.tty import MOST
 from roam_live.frontend import zoom
 from roam_live.frontend.commands import REFUSES
 from roam_live.frontend.split_math import above, size_at, size_for
-from roam_live.protocol.display_records import ToldRecord
+from roam_live.protocol.display_records import DisplayRecord
 from roam_live.protocol.panes import Places, Rect
 from roam_live.protocol.zoom_record import MOST_ASKED, NO_ZOOM, NotedZoom, ZoomNote, note_in, zoomed_in
-from test_display import Person, PlayedShells
+from test_display import Person, PlayedHost
 
 class Zoomed(Attached):
     """A person at a session that is played, with a pane that is zoomed or not."""
@@ -99,7 +99,7 @@ class Back(Zoomed):
         person.panes.modes_of = {2: "buttons sgr"}
         self.types(b"\x02z")
         rect = self.session.rects()[2]
-        person.display.take(ToldRecord("part", (rect.row - 1, rect.col - 1)))
+        person.display.take(DisplayRecord("part", (rect.row - 1, rect.col - 1)))
         person.paints(23, 80)
         self.heard.clear()
         self.types(b"\x1b[<0;1;1M\x1b[<0;80;23M\x1b[<0;3;24M")
@@ -123,7 +123,7 @@ class Back(Zoomed):
         self.assertTrue(self.is_zoomed(2))
         self.attach(self.grid())
         self.person.commands.fed(b"\x02q1\x02z")
-        self.person.commands.told()
+        self.person.commands.panes_changed()
         self.assertTrue(self.person.commands.zooming.is_on())
 
     def test_blank(self):
@@ -157,7 +157,7 @@ class Ends(Zoomed):
         for act in acts:
             other.do(act)
         self.assertEqual((self.session.places(), self.person.commands.zooming.is_on()), (other.places(), False), keys)
-        self.assertEqual((self.person.display.zoomed, self.person.display.is_held, self.person.shells.zoom), (None, False, None), keys)
+        self.assertEqual((self.person.display.zoomed, self.person.display.is_held, self.person.host.zoom), (None, False, None), keys)
 
     def test_keys(self):
         """What this person does with panes is done at the session's own size."""
@@ -190,11 +190,11 @@ class Ends(Zoomed):
         """What others do ends it: the size is given back, but where they gave another, which stays."""
         for acts, size in ((["focus 1"], (24, 80)), (["next"], (24, 80)), (["split down"], (24, 80)), (["close"], (24, 80)),
                            (["grow 1"], (24, 80)), (["size 30 90"], (30, 90)), (["size 60 200"], (60, 200))):
-            self.attach(self.grid(), shells=PlayedShells(True))
+            self.attach(self.grid(), host=PlayedHost(True))
             self.types(b"\x02z")
             self.by_another(*acts)
             self.assertEqual((self.session.places().size(), self.person.commands.zooming.is_on()), (size, False), acts)
-            self.assertEqual((self.person.display.zoomed, self.person.display.is_held, self.person.shells.zoom), (None, False, None), acts)
+            self.assertEqual((self.person.display.zoomed, self.person.display.is_held, self.person.host.zoom), (None, False, None), acts)
 
     def test_no_room(self):
         """Where others have split so much meanwhile that the size isn't had again, that is told, and nothing is noted any more."""
@@ -211,7 +211,7 @@ class Ends(Zoomed):
         self.now += REFUSES
         self.person.loop.do_due()
         self.assertIn("have no room in 24 by 80", self.person.display.told)
-        self.assertEqual((self.person.shells.zoom, self.person.display.is_held), (None, False))
+        self.assertEqual((self.person.host.zoom, self.person.display.is_held), (None, False))
 
     def test_leaving(self):
         """Who leaves gives the size back first."""
@@ -257,11 +257,11 @@ class Ends(Zoomed):
         """With another connection the size that is awaited is asked for again, there and back; where none is, none is."""
         self.attach(self.grid())
         for size, keys in (("size 48 160", b"\x02z"), ("size 24 80", b"\x02z")):
-            self.person.commands.give_again()
+            self.person.commands.request_size_again()
             self.assertEqual(self.person.said(), [])
             self.person.commands.fed(keys)
             self.person.said()
-            self.person.commands.give_again()
+            self.person.commands.request_size_again()
             self.take()
             self.assertEqual(self.heard[-1], size)
 
@@ -269,14 +269,14 @@ class Ends(Zoomed):
         """What can't be zoomed is told."""
         for session, why in ((Lived(), "pane 1 is the only one, and fills the session"),
                              (self.grid((60, 200)), "pane 2 has 29 by 100, more than this terminal shows: nothing is zoomed")):
-            self.attach(session, shells=PlayedShells(True))
+            self.attach(session, host=PlayedHost(True))
             self.types(b"\x02z")
             self.assertEqual((self.person.display.told, self.heard), (why, []))
         person = Person(24, 80)
         person.paints(24, 80)
         person.types(b"\x02z")
         self.assertEqual(person.display.told, zoom.UNTOLD)
-        watcher = Person(24, 80, watches=True, told=self.grid().places())
+        watcher = Person(24, 80, is_read_only=True, told=self.grid().places())
         watcher.types(b"\x02z\x02 \x02;\x02\x1b[1;5C")
         self.assertEqual((watcher.sizes(), [line for line in watcher.link.lines if "size" in line]), ([], []))
 
@@ -299,7 +299,7 @@ class Resized(Zoomed):
 
     def test_others(self):
         """Where others type the session has the size again that it had; a terminal that shows less than the pane then has no zoom."""
-        self.attach(self.grid(), shells=PlayedShells(True))
+        self.attach(self.grid(), host=PlayedHost(True))
         self.types(b"\x02z")
         self.person.resize(40, 132)
         self.take(6)
@@ -325,7 +325,7 @@ class Resized(Zoomed):
 
     def test_behind_a_size(self):
         """Behind a key that gives the session another size a pane is zoomed from there, whichever is told first."""
-        self.attach(self.grid((24, 80)), (30, 100), PlayedShells(True))
+        self.attach(self.grid((24, 80)), (30, 100), PlayedHost(True))
         self.person.commands.fed(b"\x02r\x02z")
         for act in [line for line in self.person.said() if line.startswith("size")]:
             self.session.do(act)
@@ -347,18 +347,18 @@ class Resized(Zoomed):
 
 
 class Noted(Zoomed):
-    """What the keeper is told, and what the next does."""
+    """What the host is told, and what the next does."""
 
     def test_told(self):
         """It is told which size is to be had again before a larger one is asked for, and that it is over once that was had."""
         self.attach(self.grid())
         self.person.commands.fed(b"\x02z")
-        self.assertEqual((self.person.shells.zooms, self.heard), (["24 80 48 160"], []))
+        self.assertEqual((self.person.host.zooms, self.heard), (["24 80 48 160"], []))
         self.take()
         self.person.commands.fed(b"\x02z")
-        self.assertEqual(self.person.shells.zooms, ["24 80 48 160"])
+        self.assertEqual(self.person.host.zooms, ["24 80 48 160"])
         self.take()
-        self.assertEqual(self.person.shells.zooms, ["24 80 48 160", "None"])
+        self.assertEqual(self.person.host.zooms, ["24 80 48 160", "None"])
 
     def test_killed(self):
         """The next that edits gives the size back, where the session still has one of the zoom; a larger terminal grows it from there."""
@@ -367,109 +367,109 @@ class Noted(Zoomed):
                                        ((24, 80), (48, 162), True, (48, 162)), ((60, 200), (48, 160), False, (60, 200)),
                                        ((60, 200), (48, 160), True, (24, 80)), ((48, 160), (48, 160), True, (24, 80)),
                                        ((48, 160), (48, 160), False, (48, 160)), ((20, 60), (48, 160), False, (24, 80))):
-            shells = PlayedShells(types)
-            shells.zoomed = 0, note
+            host = PlayedHost(types)
+            host.zoomed = 0, note
             session = self.grid()
             session.do("size {} {}".format(*has))
-            self.attach(session, own, shells)
+            self.attach(session, own, host)
             self.take(6)
             self.now += zoom.LEFT
             self.person.loop.do_due()
             self.take()
-            self.assertEqual((session.places().size(), shells.zooms[-1:]), (after, ["None"]), (own, has))
+            self.assertEqual((session.places().size(), host.zooms[-1:]), (after, ["None"]), (own, has))
 
     def test_there(self):
         """So does one that is there: at once where nobody else types, and else a moment later. Not while the one who made it is, nor one
         that watches, nor where the size was changed since."""
         note = ZoomNote((24, 80), ((48, 160),))
-        for maker, watches, types, changed, soon, after in (
+        for maker, is_read_only, types, changed, soon, after in (
                 (0, False, False, None, (24, 80), (24, 80)), (0, False, True, None, (48, 160), (24, 80)),
                 (0, False, None, None, (24, 80), (24, 80)), (7, False, False, None, (48, 160), (48, 160)),
                 (0, True, True, None, (48, 160), (48, 160)), (0, False, True, "size 40 100", (40, 100), (40, 100))):
             session = self.grid()
             session.do("size 48 160")
-            self.attach(session, shells=PlayedShells(types), watches=watches)
+            self.attach(session, host=PlayedHost(types), is_read_only=is_read_only)
             self.by_another(*filter(None, [changed]))
-            self.person.shells.zoomed = maker, note
+            self.person.host.zoomed = maker, note
             self.person.commands.others_told()
             self.take()
-            self.assertEqual(session.places().size(), soon, (maker, watches, types, changed))
+            self.assertEqual(session.places().size(), soon, (maker, is_read_only, types, changed))
             self.now += zoom.LEFT
             self.person.loop.do_due()
             self.take()
-            self.assertEqual(session.places().size(), after, (maker, watches, types, changed))
+            self.assertEqual(session.places().size(), after, (maker, is_read_only, types, changed))
 
     def test_anothers_stays(self):
-        """Who comes while one is noted that was left, and sees the size of somebody else's, leaves that as it is: of whose it is the keeper
+        """Who comes while one is noted that was left, and sees the size of somebody else's, leaves that as it is: of whose it is the host
         tells him maybe later than the panes are told."""
         note = ZoomNote((24, 80), ((48, 160),))
         for is_told in (True, False):
             session = self.grid()
             session.do("size 48 160")
-            self.attach(session, shells=PlayedShells(True))
-            self.person.shells.zoomed = 0, note
+            self.attach(session, host=PlayedHost(True))
+            self.person.host.zoomed = 0, note
             self.person.commands.others_told()
             self.now += zoom.LEFT / 2
             self.person.loop.do_due()
             self.by_another("grow 1")
-            self.assertEqual((session.places().size(), self.person.shells.zooms), ((48, 160), []))
-            self.person.shells.zoomed = 9 if is_told else 0, note
+            self.assertEqual((session.places().size(), self.person.host.zooms), ((48, 160), []))
+            self.person.host.zoomed = 9 if is_told else 0, note
             self.person.commands.others_told()
             self.now += zoom.LEFT
             self.person.loop.do_due()
             self.take()
-            self.assertEqual((session.places().size(), self.person.shells.zooms), ((48, 160), []) if is_told else ((24, 80), ["None"]))
+            self.assertEqual((session.places().size(), self.person.host.zooms), ((48, 160), []) if is_told else ((24, 80), ["None"]))
 
     def test_late(self):
         """What who was killed typed last may come a moment after that is told; a size that this person gave meanwhile stays."""
         note = ZoomNote((24, 80), ((48, 160),))
         for key, after in ((b"", (24, 80)), (b"\x02r", (48, 160))):
-            self.attach(self.grid(), shells=PlayedShells(True))
-            self.person.shells.zoomed = 0, note
+            self.attach(self.grid(), host=PlayedHost(True))
+            self.person.host.zoomed = 0, note
             self.person.commands.others_told()
             self.types(key)
             self.by_another("size 48 160")
             self.now += zoom.LEFT
             self.person.loop.do_due()
             self.take()
-            self.assertEqual((self.session.places().size(), self.person.shells.zooms[-1:]), (after, ["None"]), key)
+            self.assertEqual((self.session.places().size(), self.person.host.zooms[-1:]), (after, ["None"]), key)
 
     def test_anothers(self):
-        """A zoom of somebody else, to a size of one that was left and is noted still, isn't taken for that: the keeper tells of it by
+        """A zoom of somebody else, to a size of one that was left and is noted still, isn't taken for that: the host tells of it by
         another way than the panes are told, maybe later."""
         note = ZoomNote((24, 80), ((48, 160),))
         for told, after in ((False, (24, 80)), (True, (48, 160))):
-            self.attach(self.grid(), shells=PlayedShells(True))
-            self.person.shells.zoomed = 0, note
+            self.attach(self.grid(), host=PlayedHost(True))
+            self.person.host.zoomed = 0, note
             self.person.commands.others_told()
             self.by_another("size 48 160")
             self.assertEqual(self.session.places().size(), (48, 160))
             self.now += zoom.LEFT / 2
             self.person.loop.do_due()
             self.by_another("grow 1")
-            self.person.shells.zoomed = 9 if told else 0, note
+            self.person.host.zoomed = 9 if told else 0, note
             self.person.commands.others_told()
             self.now += zoom.LEFT / 2
             self.person.loop.do_due()
             self.take()
-            self.assertEqual((self.session.places().size(), self.person.shells.zooms), (after, [] if told else ["None"]))
+            self.assertEqual((self.session.places().size(), self.person.host.zooms), (after, [] if told else ["None"]))
         # Once that one is left too it has the size, at once where nobody else is left.
-        self.person.shells.zoomed, self.person.shells.types = (0, note), False
+        self.person.host.zoomed, self.person.host.types = (0, note), False
         self.person.commands.others_told()
         self.take()
         self.assertEqual(self.session.places().size(), (24, 80))
 
-    def test_keeper_awaited(self):
-        """While the keeper may be about to tell of another's zoom none is begun: it would give back that one's size."""
+    def test_host_awaited(self):
+        """While the host may be about to tell of another's zoom none is begun: it would give back that one's size."""
         for tells in (True, False):
             session = self.grid()
             session.do("size 48 160")
-            self.attach(session, (24, 80), PlayedShells(True, awaited=True))
+            self.attach(session, (24, 80), PlayedHost(True, awaited=True))
             self.types(b"\x02z")
-            self.assertEqual((self.person.commands.zooming.is_on(), self.person.shells.zooms), (False, []))
-            self.person.shells.zoomed = (9, ZoomNote((24, 80), ((48, 160),))) if tells else (0, None)
+            self.assertEqual((self.person.commands.zooming.is_on(), self.person.host.zooms), (False, []))
+            self.person.host.zoomed = (9, ZoomNote((24, 80), ((48, 160),))) if tells else (0, None)
             if tells:
-                self.person.shells.awaited = False
+                self.person.host.awaited = False
                 self.person.commands.others_told()
             else:
                 self.now += zoom.FOCUS_WAIT
@@ -491,7 +491,7 @@ class Noted(Zoomed):
                              ([""], None), (["none", "1"], None)):
             self.assertEqual(zoomed_in(words), found)
 
-    def test_keeper(self):
+    def test_host(self):
         """The last one that was told of is noted, until who made it, or anybody once he has left, tells that it is over."""
         noted = NotedZoom()
         self.assertEqual((noted.take(1, "zoom"), noted.take(1, "here x"), noted.take(1, "zoom 1"), noted.line()), (False,) * 3 + (NO_ZOOM,))
@@ -502,7 +502,7 @@ class Noted(Zoomed):
         self.assertEqual((noted.line(), noted.leave(1), noted.leave(2)), ("zoomed 2 24 80 50 170", False, True))
         self.assertEqual((noted.line(), noted.take(3, "zoom none"), noted.line()), ("zoomed 0 24 80 50 170", True, NO_ZOOM))
 
-    def test_keeper_sees(self):
+    def test_host_sees(self):
         """Once all is taken that was typed by who made it and has left it is noted no more where the session has another size, known now or
         later, than it asked for; and another's is."""
         for size, later, line in ((None, None, "zoomed 0 24 80 50 170"), ((50, 170), None, "zoomed 0 24 80 50 170"),

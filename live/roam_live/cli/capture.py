@@ -1,4 +1,4 @@
-"""The rows that a session shows, as the client start of this machine's terminals tells them, cell by cell."""
+"""The rows that a session shows, as the client process of this machine's terminals tells them, cell by cell."""
 from __future__ import annotations
 
 import subprocess
@@ -14,16 +14,16 @@ from roam_live.protocol.display_records import NoRecord, screen_of
 
 TYPE_CHECKING = False
 if TYPE_CHECKING:
-    from roam_live.protocol.client_link import StartLink
+    from roam_live.protocol.client_link import ClientLink
     from roam_live.protocol.panes import Rect
     from roam_live.session.folder import FolderSession
 
-# So many seconds a screen is waited for, and so many pass until one is asked for again that the start hasn't heard of yet.
+# So many seconds a screen is waited for, and so many pass until one is asked for again that the client hasn't heard of yet.
 SCREEN_WAIT = 5.0
 AGAIN = 0.02
 
 
-def screen_told(link: StartLink, end: float) -> bytes | None:
+def screen_told(link: ClientLink, end: float) -> bytes | None:
     """The screen that was asked for, as its record has it; None where it isn't told until a moment."""
     while time.monotonic() < end:
         records = link.exchanged()
@@ -36,11 +36,11 @@ def screen_told(link: StartLink, end: float) -> bytes | None:
 
 
 def is_heard(data: bytes) -> bool:
-    """Whether a screen is one of the session, which has a status row: until a start has heard of it all is blank there."""
+    """Whether a screen is one of the session, which has a status row: until a client has heard of it all is blank there."""
     return any(screen_of(data).text())
 
 
-def asked_screen(link: StartLink, asks: str) -> bytes:
+def asked_screen(link: ClientLink, asks: str) -> bytes:
     """The screen that a line asks for; Fault tells why it can't be had."""
     end, data = time.monotonic() + SCREEN_WAIT, None
     try:
@@ -54,7 +54,7 @@ def asked_screen(link: StartLink, asks: str) -> bytes:
                 return data
             time.sleep(AGAIN)
     except NoRecord as fault:
-        raise Fault(f"the client start tells no screen: {fault}") from fault
+        raise Fault(f"the client process tells no screen: {fault}") from fault
     finally:
         link.close()
 

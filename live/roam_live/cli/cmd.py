@@ -47,10 +47,10 @@ def split(window: FolderSession, pane: int, act: str, begins: Begins) -> int:
     from roam_live.cli.windows import WindowsAsked
     from roam_live.protocol.spawn_request import WAITS
 
-    number, life = making_of(window, pane)
+    number, generation = making_of(window, pane)
     back = [f"focus {pane_places(window, number).focus}"] if begins.is_aside else []
     asked = WindowsAsked(window)
-    asked.hand(f"{number} {life}", begins)
+    asked.hand(f"{number} {generation}", begins)
     status = send.send(window, [act, *back], number)
     if asked.until(RAN, seconds=2 * WAITS)[2:] != [DONE]:
         raise Fault(f"session {window.name}: no pane came in its place, and the command wasn't run")

@@ -2,16 +2,16 @@
 from __future__ import annotations
 
 from roam_live.common.errors import Fault
-from roam_live.protocol.client_link import EARLIER, FIRST_WAIT, SILENT, StartLink
+from roam_live.protocol.client_link import EARLIER, FIRST_WAIT, SILENT, ClientLink
 
 TYPE_CHECKING = False
 if TYPE_CHECKING:
     from roam_live.session.folder import FolderSession
 
 
-def opened(session: FolderSession, watches: bool) -> StartLink:
+def opened(session: FolderSession, is_read_only: bool) -> ClientLink:
     """A connection over which records come; where an earlier roam's start is there it is to another, which is launched in its place."""
-    link = StartLink(session.terminals, watches)
+    link = ClientLink(session.terminals, is_read_only)
     for _ in range(2):
         link.connect()
         if link.begins(FIRST_WAIT):
@@ -21,5 +21,5 @@ def opened(session: FolderSession, watches: bool) -> StartLink:
         if why != EARLIER:
             break
         with session.locked():
-            session.demand_terminals(link.process)
+            session.demand_client(link.process)
     raise Fault(why)

@@ -13,25 +13,25 @@ from roam_live.common.io import Lines, read, write
 from roam_live.common.text import printable
 from roam_live.common.unix_socket import connected_in
 from roam_live.input.keys import pasted_acts
-from roam_live.protocol.host_client import HELD, PUT, REFUSED
-from roam_live.protocol.paste_text import MOST_BYTES, cleaned, mark_acts, random_name, without_brackets
+from roam_live.protocol.host_client import INSERTED, REFUSED, STORED
+from roam_live.protocol.paste_text import MOST_BYTES, cleaned, placeholder_acts, random_name, without_brackets
 from roam_live.protocol.scrollback_client import BAD_LINE
 
 TYPE_CHECKING = False
 if TYPE_CHECKING:
     from roam_live.session.folder import FolderSession
 
-# So many seconds a keeper has for taking a connection, and something of a text, and for putting the text in the place of its mark.
+# So many seconds a host has for taking a connection, and something of a text, and for putting the text in the place of its placeholder.
 CONNECTS = 1.0
 TAKES = 10.0
 
 
-class TextGiver:
-    """A connection to the keeper of a session's shells, by which a text is given."""
+class PasteClient:
+    """A connection to the pty host, by which a text is given."""
 
     def __init__(self, session: FolderSession) -> None:
         self.session = session
-        self.peer = connected_in(session.folder / "shells", CONNECTS)
+        self.peer = connected_in(session.folder / "host", CONNECTS)
         self.lines = Lines()
         self.waiting = bytearray()
         self.name = random_name()
@@ -42,17 +42,17 @@ class TextGiver:
 
     def answer(self, word: str) -> bool:
         """Gives what waits, and tells whether it is answered by a word; False where the connection has ended, the text is lost, or the
-        keeper doesn't know what was said."""
+        host doesn't know what was said."""
         end = time.monotonic() + TAKES
         while time.monotonic() < end:
             events = ready(self, READ | WRITE if self.waiting else READ, end - time.monotonic())
             if events & WRITE:
                 write(self.fileno(), self.waiting)
                 end = time.monotonic() + TAKES
-            piece = read(self.fileno()) if events & READ else None
-            if piece == b"":
+            chunk = read(self.fileno()) if events & READ else None
+            if chunk == b"":
                 return False
-            for line in self.lines.fed(piece or b""):
+            for line in self.lines.fed(chunk or b""):
                 if line == BAD_LINE:
                     return False
                 told, _, rest = line.partition(" ")
@@ -61,66 +61,66 @@ class TextGiver:
                     raise Fault(f"session {self.session.name}: {printable(more)}. Nothing was typed")
                 if name == self.name:
                     return told == word
-        raise Fault(f"session {self.session.name}: what keeps its shells doesn't take the text")
+        raise Fault(f"session {self.session.name}: the pty host doesn't take the text")
 
-    def is_buffer_held(self, number: int) -> bool:
-        """Gives a buffer of the keeper's, and tells whether it holds that as a text."""
-        self.waiting += f"give {self.name} buffer {number}\n".encode()
-        return self.answer(HELD)
+    def is_buffer_stored(self, number: int) -> bool:
+        """Gives a buffer of the host's, and tells whether it holds that as a text."""
+        self.waiting += f"paste {self.name} buffer {number}\n".encode()
+        return self.answer(STORED)
 
-    def is_held(self, data: bytes, is_plain: bool) -> bool:
-        """Gives a text, and tells whether the keeper holds it; False where none is there that takes any."""
-        self.waiting += f"give {self.name} {len(data)}{' plain' if is_plain else ''}\n".encode() + data
-        return self.answer(HELD)
+    def is_stored(self, data: bytes, is_plain: bool) -> bool:
+        """Gives a text, and tells whether the host holds it; False where none is there that takes any."""
+        self.waiting += f"paste {self.name} {len(data)}{' plain' if is_plain else ''}\n".encode() + data
+        return self.answer(STORED)
 
 
-def given(session: FolderSession, data: bytes, is_plain: bool) -> TextGiver | None:
-    """The connection to a keeper that holds a text; None where none is there that takes any."""
+def store_text(session: FolderSession, data: bytes, is_plain: bool) -> PasteClient | None:
+    """The connection to a host that holds a text; None where none is there that takes any."""
     try:
-        giver = TextGiver(session)
+        client = PasteClient(session)
     except OSError:
         return None
-    if giver.is_held(data, is_plain):
-        return giver
-    giver.peer.close()
+    if client.is_stored(data, is_plain):
+        return client
+    client.peer.close()
     return None
 
 
 def type_text(session: FolderSession, text: str, pane: int, is_plain: bool) -> int:
     """Has a text typed, whole and at one place among all acts, into a pane or that in focus: between brackets where its program wants them
-    and it isn't plain. Where no keeper takes it, as an earlier roam's, it is typed as acts."""
+    and it isn't plain. Where no host takes it, as an earlier roam's, it is typed as acts."""
     focus = pane_places(session, pane).focus if pane else 0
     data = text.encode("utf-8", "replace")
     if not data:
         raise Fault("there is nothing to be typed")
     if len(data) > MOST_BYTES:
         raise Fault(f"a text has {MOST_BYTES >> 20} MB at most; nothing was typed")
-    giver = given(session, data, is_plain)
-    if giver:
-        return put(session, giver, pane, focus)
+    client = store_text(session, data, is_plain)
+    if client:
+        return insert_text(session, client, pane, focus)
     acts = pasted_acts(text, not is_plain and wants_brackets(session, pane))
     type_lines(session, opened(session, False), lines_in_pane(acts, pane, focus, "paste ; "))
     return 0
 
 
-def put(session: FolderSession, giver: TextGiver, pane: int, focus: int) -> int:
-    """Has the mark typed of a text that the keeper holds, and returns once the text is put there."""
-    type_lines(session, opened(session, False), lines_in_pane(mark_acts(giver.name), pane, focus, "paste ; "))
-    if not giver.answer(PUT):
-        raise Fault(f"session {session.name}: what keeps its shells ended, and nothing was typed")
+def insert_text(session: FolderSession, client: PasteClient, pane: int, focus: int) -> int:
+    """Has the placeholder typed of a text that the host holds, and returns once the text is put there."""
+    type_lines(session, opened(session, False), lines_in_pane(placeholder_acts(client.name), pane, focus, "paste ; "))
+    if not client.answer(INSERTED):
+        raise Fault(f"session {session.name}: the pty host ended, and nothing was typed")
     return 0
 
 
 def paste_buffer(session: FolderSession, number: int, pane: int) -> int:
-    """Has a buffer of the keeper's pasted into a pane, or into that in focus."""
+    """Has a buffer of the host's pasted into a pane, or into that in focus."""
     focus = pane_places(session, pane).focus if pane else 0
     try:
-        giver = TextGiver(session)
+        client = PasteClient(session)
     except OSError as fault:
-        raise Fault(f"session {session.name}: nobody keeps its shells") from fault
-    if not giver.is_buffer_held(number):
-        raise Fault(f"session {session.name}: what keeps its shells has no buffers, as an earlier roam's, or ended; nothing was typed")
-    return put(session, giver, pane, focus)
+        raise Fault(f"session {session.name}: its pty host is not running") from fault
+    if not client.is_buffer_stored(number):
+        raise Fault(f"session {session.name}: the pty host has no buffers, as an earlier roam's, or ended; nothing was typed")
+    return insert_text(session, client, pane, focus)
 
 
 def read_text(is_raw: bool) -> str:

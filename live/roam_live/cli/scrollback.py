@@ -1,4 +1,4 @@
-"""What commands ask of the rows that a session's keeper of shells keeps, and of its buffers: `mux capture` of rows, `mux log`, and
+"""What commands ask of the rows that a session's pty host keeps, and of its buffers: `mux capture` of rows, `mux log`, and
 `mux buffer`."""
 from __future__ import annotations
 
@@ -15,7 +15,7 @@ from roam_live.common.io import read, write
 from roam_live.common.text import printable
 from roam_live.common.unix_socket import connected_in
 from roam_live.host.paste_buffers import EMPTY, MOST_BUFFER, TOO_LONG
-from roam_live.protocol.scrollback_client import (LOG, MOST_ROWS, Answer, AnswerReader, BadAnswer, BufferNote, RowsLink, Snapshot,
+from roam_live.protocol.scrollback_client import (LOG, MOST_ROWS, Answer, AnswerReader, BadAnswer, BufferNote, ScrollbackClient, Snapshot,
                                                   number_at, rows_in)
 
 TYPE_CHECKING = False
@@ -25,7 +25,7 @@ if TYPE_CHECKING:
 
     from roam_live.session.folder import FolderSession
 
-# So many seconds a keeper has for an answer, or a part of one.
+# So many seconds a host has for an answer, or a part of one.
 ANSWERS = 10.0
 
 # What names the first of all rows, or the last.
@@ -40,15 +40,15 @@ IN_STYLE = frozenset("0123456789;:")
 
 
 class RowsAsked:
-    """A connection to a session's keeper, by which rows and buffers are asked for one after the other."""
+    """A connection to a session's host, by which rows and buffers are asked for one after the other."""
 
     def __init__(self, session: FolderSession) -> None:
         self.session = session
         try:
-            self.peer = connected_in(session.folder / "shells", CONNECTS)
+            self.peer = connected_in(session.folder / "host", CONNECTS)
         except OSError as fault:
-            raise Fault(f"session {session.name}: nobody keeps its shells") from fault
-        self.reader, self.link = AnswerReader(), RowsLink(self.take)
+            raise Fault(f"session {session.name}: its pty host is not running") from fault
+        self.reader, self.link = AnswerReader(), ScrollbackClient(self.take)
         self.waiting = bytearray()
 
     def fileno(self) -> int:
@@ -56,7 +56,7 @@ class RowsAsked:
         return self.peer.fileno()
 
     def take(self, line: str, data: bytes) -> bool:
-        """Has a question wait for the keeper."""
+        """Has a question wait for the host."""
         self.waiting += f"{line}\n".encode() + data
         return True
 
@@ -66,13 +66,13 @@ class RowsAsked:
         events = ready(self, READ | WRITE if self.waiting else READ, 3600.0 if seconds is None else seconds)
         if events & WRITE:
             write(self.fileno(), self.waiting)
-        piece = read(self.fileno()) if events & READ else None
-        if piece == b"":
+        chunk = read(self.fileno()) if events & READ else None
+        if chunk == b"":
             return None
         try:
-            return [answer for answer in self.reader.fed(piece or b"") if not self.link.take(answer)]
+            return [answer for answer in self.reader.fed(chunk or b"") if not self.link.take(answer)]
         except BadAnswer as fault:
-            raise Fault(f"session {self.session.name}: what keeps its shells tells what can't be: {printable(str(fault))}") from fault
+            raise Fault(f"session {self.session.name}: the pty host tells what can't be: {printable(str(fault))}") from fault
 
     def answer(self, ask: Callable[[Callable[[Any], object]], object]) -> Any:
         """The answer to a question, which a call asks."""
@@ -82,17 +82,17 @@ class RowsAsked:
         while not told:
             before = len(self.reader.came)
             if self.heard(max(0.0, end - time.monotonic())) is None:
-                raise Fault(f"session {self.session.name}: what keeps its shells has ended")
+                raise Fault(f"session {self.session.name}: the pty host has ended")
             if len(self.reader.came) != before or self.waiting:
                 end = max(end, time.monotonic() + ANSWERS)
             elif not told and time.monotonic() >= end:
-                raise Fault(f"session {self.session.name}: what keeps its shells doesn't answer")
+                raise Fault(f"session {self.session.name}: the pty host doesn't answer")
         return told[0]
 
     def snapshot(self, pane: int) -> Snapshot:
         """A snapshot of a pane, or of that in focus."""
-        number, life = making_of(self.session, pane)
-        found: Snapshot | None = self.answer(lambda told: self.link.snapshot(number, life, told))
+        number, generation = making_of(self.session, pane)
+        found: Snapshot | None = self.answer(lambda told: self.link.snapshot(number, generation, told))
         if not found:
             raise Fault(NOT_KEPT.format(self.session.name, number))
         return found
@@ -101,7 +101,7 @@ class RowsAsked:
         """The next rows of a snapshot, from a number to before another: not all of them at once."""
         count = min(end - first, MOST_ROWS)
         found: list[bytes] = self.answer(
-            lambda told: self.link.rows(snapshot.pane, snapshot.life, first, count, lambda begin, rows: told(rows)))
+            lambda told: self.link.rows(snapshot.pane, snapshot.generation, first, count, lambda begin, rows: told(rows)))
         return found
 
 
@@ -139,17 +139,17 @@ def capture_rows(session: FolderSession, pane: int, begin: str | None, end: str 
 def log_rows(session: FolderSession, pane: int, has_styles: bool, is_joined: bool) -> int:
     """Prints each row of a pane as it leaves the screen, and what stands there where the pane ends, and tells the status then."""
     asked = RowsAsked(session)
-    number, life = making_of(session, pane)
+    number, generation = making_of(session, pane)
     # Nothing comes as long as nothing leaves, so it is seen first whether rows are kept.
-    kept: tuple[int, int] | None = asked.answer(lambda told: asked.link.count(number, life, told))
+    kept: tuple[int, int] | None = asked.answer(lambda told: asked.link.count(number, generation, told))
     if kept is None:
         raise Fault(NOT_KEPT.format(session.name, number))
     writer, following = RowWriter(sys.stdout.buffer.write, has_styles, is_joined), kept[1]
-    asked.take(f"{LOG} {number} {life} {following}", b"")
+    asked.take(f"{LOG} {number} {generation} {following}", b"")
     while True:
         told = asked.heard(None)
         if told is None:
-            raise Fault(f"session {session.name}: what keeps its shells has ended")
+            raise Fault(f"session {session.name}: the pty host has ended")
         for answer in told:
             if answer.words[:1] == [LOG]:
                 # It has ended, or had before it could be followed.

@@ -19,10 +19,10 @@ TYPE_CHECKING = False
 if TYPE_CHECKING:
     from collections.abc import Callable
 
-    from roam_live.protocol.client_link import StartLink
+    from roam_live.protocol.client_link import ClientLink
     from roam_live.session.folder import FolderSession
 
-# So many seconds a session may take none of the acts that its client start was given.
+# So many seconds a session may take none of the acts that its client process was given.
 SEND_WAIT = 10.0
 
 # What was asked for before may not be told yet: for so many seconds it is looked again whether something can be done, this often.
@@ -107,7 +107,7 @@ def wrong_in(acts: list[str], places: Places | None) -> str:
 
 
 def demand_acts(session: FolderSession, acts: list[str]) -> None:
-    """Refuses what is no act, by a client start that takes no turn: the session never knows it."""
+    """Refuses what is no act, by a client process that takes no turn: the session never knows it."""
     lines = "".join(f"{act}\n" for act in acts)
     words = Home(folder=str(session.folder)).attach_words(["--keys", "/dev/stdin", "--turns", "0"])
     ran = subprocess.run(words, input=os.fsencode(lines), stdout=subprocess.DEVNULL, stderr=subprocess.PIPE, check=False)
@@ -129,8 +129,8 @@ def demand_doable(session: FolderSession, acts: list[str]) -> None:
         time.sleep(TOLD_STEP)
 
 
-def are_taken(link: StartLink) -> bool:
-    """Gives a start what waits, and tells whether the session takes all of it: some within each ten seconds."""
+def are_taken(link: ClientLink) -> bool:
+    """Gives a client what waits, and tells whether the session takes all of it: some within each ten seconds."""
     end, before = time.monotonic() + SEND_WAIT, link.taken
     while not link.is_done() and time.monotonic() < end:
         if link.exchanged() is None:
@@ -152,7 +152,7 @@ def lines_in_pane(acts: list[str], pane: int, focus: int, leads: str = "") -> li
     return [leads + " ; ".join([*begins, *acts[place : place + most], *ends]) for place in range(0, len(acts), most)]
 
 
-def type_lines(session: FolderSession, link: StartLink, lines: list[str]) -> None:
+def type_lines(session: FolderSession, link: ClientLink, lines: list[str]) -> None:
     """Types lines of acts, and returns once the session has taken all of them."""
     for line in lines:
         link.say(line)

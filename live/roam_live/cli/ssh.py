@@ -12,7 +12,7 @@ from roam_live.cli.targets import session_of, target_of
 from roam_live.common.process import TOOLS
 from roam_live.config.environment import wants_udp
 from roam_live.relay.frames import greeting, read_greeting
-from roam_live.session.environment import bring
+from roam_live.session.environment import send_environment
 from roam_live.session.folder import FolderSession
 from roam_live.session.names import base, check_name
 from roam_live.session.remote import NearSession
@@ -26,7 +26,7 @@ if TYPE_CHECKING:
 
 # The options of ssh that have a word behind them, and those of `mux ssh` itself.
 SSH_PAIRS = "BbcDEeFIiJLlmOoPpQRSWw"
-OWN_PAIRS = ("--ssh", "--far", "--guess")
+OWN_PAIRS = ("--ssh", "--far", "--predict")
 
 # So many seconds the other machine has for telling which windows there are: one of an earlier roam tells none.
 TOLD_WAIT = 1.5
@@ -81,9 +81,9 @@ def near_session(asked: Asked, command: list[str]) -> NearSession:
     return NearSession(base() / place, asked.name)
 
 
-def is_first_start(places: Places | None) -> bool:
-    """Whether a session, as far as is told, never had a client start before that of this machine."""
-    return places is not None and places.starts <= 1
+def is_first_client(places: Places | None) -> bool:
+    """Whether a session, as far as is told, never had a client process before that of this machine."""
+    return places is not None and places.clients <= 1
 
 
 def carry(name: str, launched: Callable[[FolderSession], bool]) -> int:
@@ -100,6 +100,6 @@ def carry(name: str, launched: Callable[[FolderSession], bool]) -> int:
         os.write(1, greeting("0"))
         return 0
     window = next((one for one in session.windows() if one.id() == wanted), None) or session.window(target.window)
-    bring(window)
+    send_environment(window)
     words = [str(TOOLS / "relay"), "--far", "--greeted", "--server", str(window.process("server")), "--dir", str(window.folder), "-"]
     return os.execv(words[0], words)

@@ -10,7 +10,7 @@ from roam_live.common.errors import Fault
 from roam_live.common.event_loop import comes
 from roam_live.common.io import Lines, read
 from roam_live.common.unix_socket import connected_in, runs_program
-from roam_live.protocol.panes import ASIDE, ASKED, BEHIND, BRACKETED, ToldPanes
+from roam_live.protocol.panes import ASKED, BEHIND, BRACKETED, METADATA, PanesState
 from roam_live.session.foreground import own_pane
 
 TYPE_CHECKING = False
@@ -90,16 +90,16 @@ class AskedPanes:
     """A connection to a session's `panes`, by which a command asks once."""
 
     def __init__(self, peer: socket.socket) -> None:
-        self.peer, self.lines, self.told = peer, Lines(), ToldPanes()
+        self.peer, self.lines, self.told = peer, Lines(), PanesState()
 
     def heard(self, seconds: float) -> list[str] | None:
         """The lines that come in so many seconds, as soon as there are some; None where none comes any more."""
         if not comes(self.peer, max(0.0, seconds)):
             return []
-        piece = read(self.peer.fileno())
-        if piece == b"":
+        chunk = read(self.peer.fileno())
+        if chunk == b"":
             return None
-        lines = self.lines.fed(piece or b"")
+        lines = self.lines.fed(chunk or b"")
         for line in lines:
             self.told.take(line)
         return lines
@@ -121,10 +121,10 @@ def making_of(session: FolderSession, pane: int) -> tuple[int, int]:
         raise Fault(f"session {session.name}: where its panes are isn't told") from fault
     places = asked.told.places()
     number = pane or (places.focus if places else 0)
-    life = asked.told.lives.get(number, "")
-    if not places or number not in places.rects or not life.isdigit():
+    generation = asked.told.generations.get(number, "")
+    if not places or number not in places.rects or not generation.isdigit():
         raise Fault(f"session {session.name} has no pane {number}" if places else f"session {session.name}: where its panes are isn't told")
-    return number, int(life)
+    return number, int(generation)
 
 
 def wants_brackets(session: FolderSession, pane: int) -> bool:
@@ -132,7 +132,7 @@ def wants_brackets(session: FolderSession, pane: int) -> bool:
     try:
         with connected_in(session.folder / "panes", ASKED) as peer:
             if runs_program(peer):
-                peer.send(f"{ASIDE}\n".encode())
+                peer.send(f"{METADATA}\n".encode())
             asked = AskedPanes(peer)
             asked.hear_all()
     except OSError:
@@ -147,17 +147,17 @@ def close_pane(session: FolderSession, pane: int) -> None:
         with connected_in(session.folder / "panes", ASKED) as peer:
             asked = AskedPanes(peer)
             asked.hear_all()
-            life = asked.told.lives.get(pane)
-            if pane not in asked.told.rects or life is None:
+            generation = asked.told.generations.get(pane)
+            if pane not in asked.told.rects or generation is None:
                 raise Fault(f"session {session.name} has no pane {pane}")
-            peer.send(f"close {pane} {life}\n".encode())
-            if not is_closed(asked, pane, life):
+            peer.send(f"close {pane} {generation}\n".encode())
+            if not is_closed(asked, pane, generation):
                 raise Fault(f"session {session.name}: pane {pane} isn't closed")
     except OSError as fault:
         raise Fault(f"session {session.name}: where its panes are isn't told") from fault
 
 
-def is_closed(asked: AskedPanes, pane: int, life: str) -> bool:
+def is_closed(asked: AskedPanes, pane: int, generation: str) -> bool:
     """Whether that making of a pane is closed in time."""
     end = time.monotonic() + CLOSES
     while time.monotonic() < end:
@@ -166,6 +166,6 @@ def is_closed(asked: AskedPanes, pane: int, life: str) -> bool:
             return False
         if "last pane" in lines:
             raise Fault(f"pane {pane} is the last one, and goes with its session")
-        if pane not in asked.told.rects or asked.told.lives.get(pane) != life:
+        if pane not in asked.told.rects or asked.told.generations.get(pane) != generation:
             return True
     return False

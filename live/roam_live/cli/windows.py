@@ -1,4 +1,4 @@
-"""What commands ask of the keeper of a session's windows: which there are, one more, another name, an end; and who is there."""
+"""What commands ask of the host of a session's windows: which there are, one more, another name, an end; and who is there."""
 from __future__ import annotations
 
 import os
@@ -22,7 +22,7 @@ if TYPE_CHECKING:
     from roam_live.protocol.spawn_request import Begins
     from roam_live.session.folder import FolderSession
 
-# So many seconds the keeper has for taking a connection, and for what it is asked: a window has to be opened, or to end, in that time.
+# So many seconds the host has for taking a connection, and for what it is asked: a window has to be opened, or to end, in that time.
 CONNECTS = 1.0
 ANSWERS = 12.0
 
@@ -36,26 +36,26 @@ LEAVES = 5.0
 MOST_DIGITS = 20
 
 BAD_LINE = "bad line"
-EARLIER = "session {}: what keeps its shells is an earlier roam's, and has one window"
+EARLIER = "session {}: the pty host is an earlier roam's, and has one window"
 
 
 class WindowsAsked:
-    """A connection to the keeper, at the socket of one window."""
+    """A connection to the host, at the socket of one window."""
 
     def __init__(self, session: FolderSession) -> None:
         self.session, self.lines = session, Lines()
         self.told: list[str] = []
         try:
-            self.peer: socket.socket = connected_in(session.folder / "shells", CONNECTS)
+            self.peer: socket.socket = connected_in(session.folder / "host", CONNECTS)
         except OSError as fault:
-            raise Fault(f"session {session.name}: nobody keeps its shells: {reason(fault)}") from fault
+            raise Fault(f"session {session.name}: its pty host is not running: {reason(fault)}") from fault
 
     def say(self, line: str, data: bytes = b"") -> None:
         """Says a line, and bytes behind it."""
         try:
             self.peer.sendall(f"{line}\n".encode() + data)
         except OSError as fault:
-            raise Fault(f"session {self.session.name}: what keeps its shells has ended") from fault
+            raise Fault(f"session {self.session.name}: the pty host has ended") from fault
 
     def until(self, *begins: str, seconds: float = ANSWERS) -> list[str]:
         """The words of the first line that begins with one of these, behind which others stay; Fault where none comes in time, or it is
@@ -69,11 +69,11 @@ class WindowsAsked:
                 if line.split(" ")[0] in begins:
                     return line.split(" ")
             if not comes(self.peer, max(0.0, end - time.monotonic())):
-                raise Fault(f"session {self.session.name}: what keeps its shells doesn't answer")
-            piece = read(self.peer.fileno())
-            if piece == b"":
-                raise Fault(f"session {self.session.name}: what keeps its shells has ended")
-            self.told += self.lines.fed(piece or b"")
+                raise Fault(f"session {self.session.name}: the pty host doesn't answer")
+            chunk = read(self.peer.fileno())
+            if chunk == b"":
+                raise Fault(f"session {self.session.name}: the pty host has ended")
+            self.told += self.lines.fed(chunk or b"")
 
     def hand(self, beside: str, begins: Begins) -> str:
         """Hands over what a new pane or window begins with, beside that making of a pane or as a window, and tells its name; Fault where it
@@ -230,7 +230,7 @@ def list_clients(session: FolderSession) -> int:
     """Prints a line for each terminal at a session: its number, name, size, window, since when, and whether it watches."""
     for words in WindowsAsked(session).clients():
         since = time.strftime("%Y-%m-%d %H:%M", time.localtime(min(int(words[6]), 1 << 40)))
-        watches = " watches" if words[7] == "watches" else ""
+        watches = " read-only" if words[7] == "read-only" else ""
         print(printable(f"{words[1]:>3} {words[2]:24} {words[3]} by {words[4]}, window {words[5]}, since {since}{watches}"))
     return 0
 

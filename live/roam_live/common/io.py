@@ -11,16 +11,16 @@ UNREAD_LIMIT = 1 << 16
 
 
 class Lines:
-    """Lines of a stream that comes in any pieces, none of them longer than that."""
+    """Lines of a stream that comes in any chunks, none of them longer than that."""
 
     def __init__(self, longest: int = LONGEST_LINE) -> None:
         self.rest, self.longest = b"", longest
         # True while the rest of a line that is too long is being skipped.
         self.is_cut = False
 
-    def fed(self, piece: bytes) -> list[str]:
+    def fed(self, chunk: bytes) -> list[str]:
         """The lines that are whole now."""
-        lines = (self.rest + piece).split(b"\n")
+        lines = (self.rest + chunk).split(b"\n")
         self.rest = lines.pop()
         if self.is_cut and lines:
             del lines[0]

@@ -46,7 +46,7 @@ def forget_signals() -> None:
 
 def forked_apart() -> int:
     """Forks a process: 0 in that one, and its number in this one. What is signalled to the new one, however soon, isn't told where this
-    one is told of its own signals: the keeper would take the end of a pane that is closed at once for its own."""
+    one is told of its own signals: the host would take the end of a pane that is closed at once for its own."""
     before = signal.pthread_sigmask(signal.SIG_BLOCK, SIGNALS)
     process = -1
     try:

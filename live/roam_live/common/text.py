@@ -19,17 +19,17 @@ def one_line(text: object) -> str:
 
 
 class Said:
-    """What another program says, as it comes in pieces: printable lines, and not too many of them."""
+    """What another program says, as it comes in chunks: printable lines, and not too many of them."""
 
     def __init__(self, limit: int = SAID_LIMIT) -> None:
         self.decoder = codecs.getincrementaldecoder("utf-8")("replace")
         self.limit = self.left = limit
 
-    def fed(self, piece: bytes) -> str:
-        """What of a piece is to be shown; once too much has come a line tells so, and then nothing more."""
+    def fed(self, chunk: bytes) -> str:
+        """What of a chunk is to be shown; once too much has come a line tells so, and then nothing more."""
         if self.left < 0:
             return ""
-        shown = self.decoder.decode(piece[: self.left]).replace("\r", "").replace("\t", " ")
-        self.left -= len(piece)
+        shown = self.decoder.decode(chunk[: self.left]).replace("\r", "").replace("\t", " ")
+        self.left -= len(chunk)
         lines = "\n".join(map(printable, shown.split("\n")))
         return lines if self.left >= 0 else f"{lines}\n[{self.limit} bytes were said; no more is shown]\n"

@@ -152,7 +152,7 @@ def sized(flags: Flags) -> CommandWish:
     return CommandWish([], f"border {side}", str(flags.number(flags.words[0] if flags.words else "", 1, 99)))
 
 
-def shares_of(flags: Flags) -> CommandWish:
+def split_sizes_of(flags: Flags) -> CommandWish:
     """Reads how the panes share the window: evenly, in the layout that is there."""
     flags.demand_words(1 if flags.words[:1] in (["even-horizontal"], ["even-vertical"]) else 0)
     return CommandWish([], "even", "")
@@ -208,7 +208,7 @@ TABLE = (
     NamedCommand(("last-pane", "lastp"), "", wish("last"), "puts the pane in focus that was before"),
     NamedCommand(("display-panes", "displayp"), "b", wish("panes"), "has a digit be a pane's"),
     NamedCommand(("resize-pane", "resizep"), "LRUDZ", sized, "zooms the pane, or moves one of its borders"),
-    NamedCommand(("select-layout", "selectl", "next-layout", "nextl"), "Enop", shares_of, "gives even shares"),
+    NamedCommand(("select-layout", "selectl", "next-layout", "nextl"), "Enop", split_sizes_of, "gives even shares"),
     NamedCommand(("copy-mode",), "ues", by_flag({"u": "copy page", "s": "copy search"}, "copy"),
                  "enters copy mode, a page back, or with a search"),
     NamedCommand(("paste-buffer", "pasteb"), "p", wish("paste"), "pastes what was copied last"),

@@ -1,5 +1,5 @@
-"""What a person chooses by the environment, and else by a settings file: the prefix, when guesses are shown, whether roam has the mouse,
-who sets the clipboard, how many rows are kept of a pane, and more; and whether UDP is tried between machines."""
+"""What a person chooses by the environment, and else by a settings file: the prefix, when predictions are shown, whether roam has the
+mouse, who sets the clipboard, how many rows are kept of a pane, and more; and whether UDP is tried between machines."""
 from __future__ import annotations
 
 import os
@@ -10,8 +10,8 @@ from roam_live.common.errors import Fault
 PREFIXES = {f"C-{letter}": chr(ord(letter) & 31) for letter in "abcdefghijklmnopqrstuvwxyz]\\^_"}
 PREFIX = "C-b"
 
-# When what keys are guessed to show is shown before the session has shown it; where nothing says so it is the first of them.
-GUESSING = ("adaptive", "always", "never")
+# When what keys are predicted to show is shown before the session has shown it; where nothing says so it is the first of them.
+PREDICTION = ("adaptive", "always", "never")
 
 # Whether roam itself has the mouse: a click focuses, the wheel scrolls, and borders are dragged.
 MOUSE = ("off", "on")
@@ -19,7 +19,7 @@ MOUSE = ("off", "on")
 # Who sets the terminal's clipboard: roam itself, by what is copied; programs in panes too; or nobody.
 CLIPBOARD = ("external", "on", "off")
 
-# How many rows that left its screen are kept of a pane where nobody chose another number, and how many may be chosen.
+# How many rows scrolled off its screen are kept of a pane where nobody chose another number, and how many may be chosen.
 DEFAULT_ROWS, MOST_ROWS = 10_000, 1_000_000
 
 # What is chosen by a settings file, as options by their names; what the environment chooses goes before it.
@@ -63,11 +63,11 @@ def chosen_prefix() -> str:
     return name
 
 
-def chosen_guessing(asked: str | None = None) -> str:
-    """When guesses are shown: as asked, else as the environment's ROAM_GUESS says, or the option `guess`, where one is there."""
-    name = asked or word_of("ROAM_GUESS", "guess", GUESSING[0])
-    if name not in GUESSING:
-        raise Fault(f"ROAM_GUESS is {name!r}, and may be adaptive, always or never")
+def chosen_prediction(asked: str | None = None) -> str:
+    """When predictions are shown: as asked, else as the environment's ROAM_PREDICT says, or the option `predict`, where one is there."""
+    name = asked or word_of("ROAM_PREDICT", "predict", PREDICTION[0])
+    if name not in PREDICTION:
+        raise Fault(f"ROAM_PREDICT is {name!r}, and may be adaptive, always or never")
     return name
 
 
@@ -112,8 +112,8 @@ def wants_extended_keys() -> bool:
 
 
 def chosen_history() -> int:
-    """How many rows that left its screen are kept of a pane: as the environment's ROAM_HISTORY says, or the option `history-limit`, where
-    one is there."""
+    """How many rows scrolled off its screen are kept of a pane: as the environment's ROAM_HISTORY says, or the option `history-limit`,
+    where one is there."""
     word = word_of("ROAM_HISTORY", "history-limit", str(DEFAULT_ROWS))
     if not (word.isascii() and word.isdigit() and len(word) <= len(str(MOST_ROWS)) and int(word) <= MOST_ROWS):
         raise Fault(f"ROAM_HISTORY is {word[:40]!r}, and may be 0 to {MOST_ROWS}")

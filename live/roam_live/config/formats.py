@@ -19,8 +19,8 @@ VALUES = {"S": "session", "W": "window", "I": "index", "F": "flags", "P": "pane"
 LONG = {"session_name": "session", "window_name": "window", "window_index": "index", "window_flags": "flags", "pane_index": "pane",
         "pane_title": "title", "host": "host", "host_short": "short_host"}
 
-# A piece of a format: a letter, a long name, a style, a command, a time, or a character.
-PIECE = re.compile(r"#(?:(?P<letter>[A-Za-z])|\{(?P<long>[^{}]*)\}|\[(?P<style>[^\]]*)\]|\((?P<command>(?:[^()\\]|\\.)*)\)?|(?P<hash>#))"
+# A chunk of a format: a letter, a long name, a style, a command, a time, or a character.
+CHUNK = re.compile(r"#(?:(?P<letter>[A-Za-z])|\{(?P<long>[^{}]*)\}|\[(?P<style>[^\]]*)\]|\((?P<command>(?:[^()\\]|\\.)*)\)?|(?P<hash>#))"
                    r"|%(?P<time>[EO]?[A-Za-z%])|(?P<text>.)", re.DOTALL)
 
 # By what of the clock a text of strftime changes: each second, each minute, or with a quarter of an hour, at which days begin everywhere.
@@ -33,11 +33,11 @@ OFF = {**{name: "" for name in ATTRIBUTES}, "reverse": "27"}
 HEXADECIMAL = re.compile(r"#([0-9a-fA-F]{2})([0-9a-fA-F]{2})([0-9a-fA-F]{2})")
 NUMBERED = re.compile(r"colou?r([0-9]{1,3})")
 
-class Format(namedtuple("Format", "pieces wrong step")):
+class Format(namedtuple("Format", "chunks wrong step")):
     """A format that is read: what stands in it, as a kind and a word each, what of it isn't known, and by how many seconds the clock goes
     on before it changes; 0 where no clock is in it."""
 
-    pieces: tuple[tuple[str, str], ...]
+    chunks: tuple[tuple[str, str], ...]
     wrong: tuple[str, ...]
     step: int
 
@@ -74,11 +74,11 @@ def restyled(style: dict[str, str], words: str) -> dict[str, str] | None:
 
 def read_format(text: str) -> Format:
     """A format, with what of it is none: that stands for nothing."""
-    pieces: list[tuple[str, str]] = []
+    chunks: list[tuple[str, str]] = []
     wrong: list[str] = []
     step = 0
-    for piece in PIECE.finditer(text[:MOST_FORMAT]):
-        kind, word = str(piece.lastgroup), piece[str(piece.lastgroup)]
+    for chunk in CHUNK.finditer(text[:MOST_FORMAT]):
+        kind, word = str(chunk.lastgroup), chunk[str(chunk.lastgroup)]
         if kind == "letter":
             kind, word = "value", VALUES.get(word, "")
         elif kind == "long":
@@ -93,12 +93,12 @@ def read_format(text: str) -> Format:
             step = min(step or QUARTER, 1 if word[-1] in SECONDS else MINUTE if word[-1] in MINUTES else QUARTER)
             word = f"%{word}"
         if word:
-            pieces.append((kind, word))
+            chunks.append((kind, word))
         else:
-            wrong.append(piece[0])
+            wrong.append(chunk[0])
     if len(text) > MOST_FORMAT:
         wrong.append(f"what is behind {MOST_FORMAT} characters")
-    return Format(tuple(pieces), tuple(wrong), step)
+    return Format(tuple(chunks), tuple(wrong), step)
 
 
 def unread(option: str, text: str) -> list[str]:
@@ -111,7 +111,7 @@ def filled(read: Format, values: dict[str, str], now: float) -> list[Styled]:
     shown: list[Styled] = []
     style: dict[str, str] = {}
     moment = time.localtime(now)
-    for kind, word in read.pieces:
+    for kind, word in read.chunks:
         if kind == "style":
             style = restyled(style, word) or {}
             continue

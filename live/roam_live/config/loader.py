@@ -258,11 +258,11 @@ class FileSettings:
 
 def read_most(end: int) -> bytes:
     """What a file has, as far as it may be read, and a byte more where it has more."""
-    pieces, left = list[bytes](), MOST_BYTES + 1
-    while left and (piece := os.read(end, min(left, 65536))):
-        pieces.append(piece)
-        left -= len(piece)
-    return b"".join(pieces)
+    chunks, left = list[bytes](), MOST_BYTES + 1
+    while left and (chunk := os.read(end, min(left, 65536))):
+        chunks.append(chunk)
+        left -= len(chunk)
+    return b"".join(chunks)
 
 
 def refusal(status: os.stat_result) -> str:

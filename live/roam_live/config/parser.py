@@ -6,7 +6,7 @@ import os
 from collections import namedtuple
 
 from roam_live.common.text import printable
-from roam_live.config.environment import CLIPBOARD, GUESSING, MOST_ROWS, PREFIXES
+from roam_live.config.environment import CLIPBOARD, MOST_ROWS, PREDICTION, PREFIXES
 from roam_live.input.key_names import named, named_key
 
 TYPE_CHECKING = False
@@ -289,7 +289,7 @@ OPTIONS: dict[str, Callable[[str], Value]] = {
     "prefix": prefix, "mouse": switch, "history-limit": number_to(MOST_ROWS), "status": switch, "status-left": text,
     "status-right": text, "status-interval": number_to(86400), "set-clipboard": one_of(*CLIPBOARD),
     "window-size": one_of("largest", "latest"), "mode-keys": one_of("vi", "emacs"), "default-command": text,
-    "escape-time": number_to(10000), "guess": one_of(*GUESSING), "synchronize-panes": switch,
+    "escape-time": number_to(10000), "predict": one_of(*PREDICTION), "synchronize-panes": switch,
     "extended-keys": one_of("on", "always", "off"),
 }
 SWITCHES = {"mouse", "status", "synchronize-panes"}

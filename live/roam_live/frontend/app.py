@@ -1,4 +1,4 @@
-"""A person's front end of a session: a terminal connected to the session's client start, until the person leaves or the session ends."""
+"""A person's front end of a session: a terminal connected to the session's client process, until the person leaves or the session ends."""
 from __future__ import annotations
 
 import contextlib
@@ -12,7 +12,7 @@ from roam_live.common.event_loop import Loop
 from roam_live.common.io import read
 from roam_live.common.process import unwoken, woken
 from roam_live.config.command_table import CommandWish
-from roam_live.config.environment import chosen_guessing, chosen_prefix, sets_clipboard, text_of, wants_mouse
+from roam_live.config.environment import chosen_prediction, chosen_prefix, sets_clipboard, text_of, wants_mouse
 from roam_live.config.user_file import OWN
 from roam_live.frontend.bindings import NEWEST, OWN as KEY
 from roam_live.frontend.command_line import CommandRunner
@@ -21,22 +21,22 @@ from roam_live.frontend.display import NO_SIZE, Display
 from roam_live.frontend.preload import Preloading
 from roam_live.frontend.stalled_input import UntakenLines
 from roam_live.frontend.status_segments import StatusRow
-from roam_live.frontend.window_view import Parting, Visit, opened_server
+from roam_live.frontend.window_view import DrainingViews, WindowView, opened_server
 from roam_live.frontend.windows import WindowWishes
-from roam_live.protocol.bells import BellFollower
-from roam_live.protocol.client_link import LAST_WAIT, Keeper, StartLink
-from roam_live.protocol.host_client import ShellsLink
-from roam_live.protocol.panes_client import AWAITED, PanesFollower
+from roam_live.protocol.bells import BellSubscriber
+from roam_live.protocol.client_link import LAST_WAIT, ClientLink, Reconnector
+from roam_live.protocol.host_client import HostClient
+from roam_live.protocol.panes_client import AWAITED, PanesSubscriber
 from roam_live.session.attached import noted_front_end
-from roam_live.session.environment import brings_to
-from roam_live.session.host_watchdog import ShellsWatch
+from roam_live.session.environment import environment_lines
+from roam_live.session.host_watchdog import HostWatchdog
 
 TYPE_CHECKING = False
 if TYPE_CHECKING:
     import pathlib
 
     from roam_live.common.tty import Size
-    from roam_live.protocol.display_records import ToldRecord
+    from roam_live.protocol.display_records import DisplayRecord
     from roam_live.protocol.panes import Places
     from roam_live.protocol.session_interface import AnySession
 
@@ -53,7 +53,7 @@ PROBES = 2.0
 # So many seconds a line stands that tells what a person has lost.
 LOSS_TOLD = 3.0
 
-# So many seconds each of several starts has at least for what was typed before a person left.
+# So many seconds each of several clients has at least for what was typed before a person left.
 LEAST_WAIT = 0.1
 
 # What is said where the settings are read anew.
@@ -67,18 +67,18 @@ LEAVING = (signal.SIGTERM, signal.SIGHUP, signal.SIGINT)
 class FrontEnd:
     """A person at a terminal, and the session there: at one of its windows, where it has several."""
 
-    def __init__(self, session: AnySession, watches: bool, prefix: str, guessing: str, is_new: Callable[[Places | None], bool],
+    def __init__(self, session: AnySession, is_read_only: bool, prefix: str, prediction: str, is_new: Callable[[Places | None], bool],
                  loop: Loop | None = None, is_whole: bool = False, has_mouse: bool = False, has_clips: bool = False) -> None:
         self.session, self.loop = session, loop or Loop()
-        self.watches, self.prefix, self.guessing, self.is_new, self.is_whole = watches, prefix, guessing, is_new, is_whole
-        self.has_clips = has_clips and not watches
+        self.is_read_only, self.prefix, self.prediction, self.is_new, self.is_whole = is_read_only, prefix, prediction, is_new, is_whole
+        self.has_clips = has_clips and not is_read_only
         self.left: str | None = None
         self.left_at: float | None = None
         self.status = 0
         self.wakeup = woken(signal.SIGWINCH, signal.SIGCONT, signal.SIGTSTP, *LEAVING)
-        self.shells = ShellsWatch(session, self.loop, lambda line: self.display.tell(line, LOSS_TOLD))
+        self.watchdog = HostWatchdog(session, self.loop, lambda line: self.display.tell(line, LOSS_TOLD))
         self.display = Display(self.loop, self.say)
-        self.parting = Parting(self.loop)
+        self.draining = DrainingViews(self.loop)
         self.preloading = Preloading(self.loop)
         self.untaken = UntakenLines(lambda: self.link, self.display, self.loop, self.ask_server)
         # The sizes of the windows of which all was shown as they were left, by their numbers.
@@ -86,9 +86,9 @@ class FrontEnd:
         # In which of them keys were switched to go to all panes, or not.
         self.synchronized: dict[int, bool] = {}
         server = opened_server(session)
-        self.visit = self.begun(session)
+        self.view = self.begun(session)
         self.watch_server(server)
-        self.visit.shells.brings = brings_to(session, watches)
+        self.view.host.environment = environment_lines(session, is_read_only)
         self.windows = WindowWishes(self, self.loop)
         self.status_row, self.runner = StatusRow(self, self.loop), CommandRunner(self, self.loop)
         self.commands.has_windows(self.windows)
@@ -105,76 +105,76 @@ class FrontEnd:
     @property
     def number(self) -> int:
         """The window's number, 0 where the session has no windows."""
-        return self.visit.number
+        return self.view.number
 
     @property
-    def link(self) -> StartLink:
+    def link(self) -> ClientLink:
         """The connection to the window's start."""
-        return self.visit.link
+        return self.view.link
 
     @property
-    def keeper(self) -> Keeper:
+    def reconnector(self) -> Reconnector:
         """What has that connected."""
-        return self.visit.keeper
+        return self.view.reconnector
 
     @property
-    def panes(self) -> PanesFollower:
+    def panes(self) -> PanesSubscriber:
         """What is known of the window's panes."""
-        return self.visit.panes
+        return self.view.panes
 
     @property
-    def bells(self) -> BellFollower:
+    def bells(self) -> BellSubscriber:
         """What is told of the window's bells."""
-        return self.visit.bells
+        return self.view.bells
 
     @property
     def commands(self) -> Commands:
         """What keys mean in the window."""
-        return self.visit.commands
+        return self.view.commands
 
     def watch_server(self, server: int | None) -> None:
         """Sees the end of the server of the window where the person is, as its process was opened."""
-        visit = self.visit
-        visit.watch(self.loop, server, lambda: self.server_ended(visit))
+        view = self.view
+        view.watch(self.loop, server, lambda: self.server_ended(view))
 
-    def server_ended(self, visit: Visit) -> None:
+    def server_ended(self, view: WindowView) -> None:
         """Goes on in another window where the server of this one has ended; where there is none the session has."""
-        visit.watch_no_more(self.loop)
+        view.watch_no_more(self.loop)
         # Of another machine's session the relay is meant, which all windows have.
-        if visit.session.served == "relay" or not (visit.number and self.windows.leave(visit.number)):
-            self.leave(*visit.session.ending())
+        if view.session.served == "relay" or not (view.number and self.windows.leave(view.number)):
+            self.leave(*view.session.ending())
 
     def reached(self, number: int) -> AnySession | None:
         """The window of a number, where one is there that isn't about to be ended."""
         try:
-            window = self.visit.session.window(number)
+            window = self.view.session.window(number)
         except Fault:
             return None
         return window if window.ending()[1] else None
 
-    def followed(self, session: AnySession) -> PanesFollower:
+    def followed(self, session: AnySession) -> PanesSubscriber:
         """What follows the panes of a window."""
-        panes = PanesFollower(session.folder, self.loop, lambda: self.commands.told(), self.untold)
+        panes = PanesSubscriber(session.folder, self.loop, lambda: self.commands.panes_changed(), self.untold)
         if self.has_clips:
             panes.follow_clips(lambda text, making: self.commands.clip(text, making))
         self.loop.later("untold", AWAITED, lambda: self.commands.show_known())
         return panes
 
-    def heard_bells(self, session: AnySession) -> BellFollower:
+    def heard_bells(self, session: AnySession) -> BellSubscriber:
         """What follows the bells of a window."""
-        return BellFollower(session.folder, self.loop, lambda pane: self.commands.ring(pane),
-                            lambda words: self.display.tell(words, LOSS_TOLD))
+        return BellSubscriber(session.folder, self.loop, lambda pane: self.commands.ring(pane),
+                              lambda words: self.display.tell(words, LOSS_TOLD))
 
-    def begun(self, session: AnySession) -> Visit:
-        """A visit to a window."""
+    def begun(self, session: AnySession) -> WindowView:
+        """A view of a window."""
         loop, display = self.loop, self.display
-        link, panes = StartLink(session.terminals, self.watches, self.guessing), self.followed(session)
-        shells = ShellsLink(session.folder, loop, display.outer.size, self.watches, lambda: commands.others_told())
-        shells.leaves, shells.others_left = lambda: self.leave(DETACHED), lambda count: self.commands.others_left(count)
-        commands = Commands(session, panes, link, display, loop, self.leave, self.is_new, self.is_whole, shells)
+        link, panes = ClientLink(session.terminals, self.is_read_only, self.prediction), self.followed(session)
+        host = HostClient(session.folder, loop, display.outer.size, self.is_read_only, lambda: commands.others_told())
+        host.leaves, host.others_left = lambda: self.leave(DETACHED), lambda count: self.commands.others_left(count)
+        commands = Commands(session, panes, link, display, loop, self.leave, self.is_new, self.is_whole, host)
         commands.runs = self.run_wish
-        commands.synchronizing.remember(self.synchronized, session.number, lambda: self.guessing)
-        return Visit(session, link, Keeper(session, link, panes.is_full), panes, shells, self.heard_bells(session), commands)
+        commands.synchronizing.remember(self.synchronized, session.number, lambda: self.prediction)
+        return WindowView(session, link, Reconnector(session, link, panes.is_full), panes, host, self.heard_bells(session), commands)
 
     # ---- settings
 
@@ -210,7 +210,7 @@ class FrontEnd:
         """Goes by the settings as they are now."""
         self.commands.typing.own = OWN.found.bindings if OWN.found else {}
         try:
-            prefix, self.guessing = chosen_prefix(), chosen_guessing()
+            prefix, self.prediction = chosen_prefix(), chosen_prediction()
             self.commands.pointing.is_on = wants_mouse()
         except Fault as fault:
             self.display.tell(str(fault), LOSS_TOLD)
@@ -218,12 +218,12 @@ class FrontEnd:
         if prefix != self.prefix:
             self.prefix = prefix
             self.commands.choose(prefix)
-        for visit in (self.visit, *self.parting.visits.values()):
-            visit.commands.synchronizing.choose_guesses()
+        for view in (self.view, *self.draining.views.values()):
+            view.commands.synchronizing.choose_prediction()
         row, self.row = self.row, text_of("status")
         if self.row != row and self.display.is_row_hidden != (self.row == "off"):
             self.commands.switch_row()
-        self.commands.show_aside()
+        self.commands.show_metadata()
         self.tell_settings(otherwise)
 
     def tell_settings(self, otherwise: str = "") -> None:
@@ -235,28 +235,28 @@ class FrontEnd:
 
     def forget(self, number: int) -> None:
         """Waits for nothing more of a window that is gone."""
-        self.parting.forget(number)
+        self.draining.forget(number)
         self.shown_whole.pop(number, None)
         self.synchronized.pop(number, None)
 
     def go(self, number: int) -> None:
         """Goes to another window, which is shown in place of this one: what was typed here goes on its way. Fault tells why that can't
         be."""
-        session = self.visit.session.window(number)
+        session = self.view.session.window(number)
         server = opened_server(session)
-        before, visit = self.visit, self.parting.taken(number)
+        before, view = self.view, self.draining.taken(number)
         self.shown_whole[before.number] = before.commands.session_size() if self.display.shows_all() else NO_SIZE
-        self.parting.add(before)
-        if visit:
-            visit.take_up(self.followed(session), self.heard_bells(session))
+        self.draining.add(before)
+        if view:
+            view.take_up(self.followed(session), self.heard_bells(session))
         else:
             self.is_new = lambda places: False
-            visit = self.begun(session)
-            visit.shells.follow_on(before.shells)
-            visit.commands.has_windows(self.windows)
-        self.visit = visit
+            view = self.begun(session)
+            view.host.follow_on(before.host)
+            view.commands.has_windows(self.windows)
+        self.view = view
         self.watch_server(server)
-        visit.commands.follow_on(before.commands, self.shown_whole.get(number, NO_SIZE))
+        view.commands.follow_on(before.commands, self.shown_whole.get(number, NO_SIZE))
         self.display.begin_window()
         if self.link.peer:
             self.show_window()
@@ -274,13 +274,13 @@ class FrontEnd:
         """Ends with a line; None goes on."""
         if line is not None and self.left is None:
             self.left, self.status = line, status
-            self.shells.stop()
+            self.watchdog.stop()
 
     # ---- the connection
 
     def connect(self) -> None:
-        """Connects to the start; where that can't be done now it is tried again, and the person may leave."""
-        failed = self.keeper.connect()
+        """Connects to the client; where that can't be done now it is tried again, and the person may leave."""
+        failed = self.reconnector.connect()
         if failed and self.is_window_gone() and self.windows.leave(self.number):
             return
         if failed:
@@ -289,31 +289,31 @@ class FrontEnd:
             if said:
                 self.pause(said, wait)
             return
-        loss = self.keeper.connected()
+        loss = self.reconnector.connected()
         self.show_window()
         if loss:
-            self.commands.give_again()
+            self.commands.request_size_again()
             self.display.tell(loss, LOSS_TOLD)
 
     def is_window_gone(self) -> bool:
         """Whether the window where the person is has no folder any more: of another machine's it may be told too late that it is gone."""
-        folder = self.visit.session.folder
+        folder = self.view.session.folder
         return bool(self.number and folder and not os.path.isdir(folder))
 
     def show_window(self) -> None:
-        """Has a start that is connected paint what is to be shown."""
+        """Has a client that is connected paint what is to be shown."""
         link = self.link
         self.loop.add(link, self.hear, self.send, hears=lambda: len(self.display.outer.waiting) < PAINTED_LIMIT,
                       has_more=lambda: link.waiting)
         self.commands.paused = False
-        self.display.cover = ""
+        self.display.notice = ""
         self.display.begin()
         self.commands.show_known()
         self.commands.fit_first()
         self.commands.act(*([] if self.commands.typing.left() else [NEWEST]))
 
     def say(self, line: str) -> None:
-        """Says a line about what is shown here, where there is a start: each that is connected to is told anew."""
+        """Says a line about what is shown here, where there is a client: each that is connected to is told anew."""
         if self.link.peer:
             self.link.say(line)
 
@@ -330,13 +330,13 @@ class FrontEnd:
     def lost(self) -> None:
         """Goes on without the connection, which is had again: at once for the first time, else after a pause that grows."""
         self.loop.remove(self.link)
-        said, wait = self.keeper.lost(), self.keeper.pause()
+        said, wait = self.reconnector.lost(), self.reconnector.pause()
         self.loop.later("connect", wait, self.connect)
-        if self.keeper.faults > 1:
+        if self.reconnector.faults > 1:
             self.pause(said, wait)
 
     def probe(self) -> None:
-        """Looks whether the server is there; a start whose server isn't ends."""
+        """Looks whether the server is there; a client whose server isn't ends."""
         self.loop.later("probe", PROBES, self.probe)
         self.session.is_served()
 
@@ -352,7 +352,7 @@ class FrontEnd:
     def continued(self) -> None:
         """Takes the terminal again, which another may have had."""
         self.display.enter_again()
-        self.commands.show_aside()
+        self.commands.show_metadata()
         self.resized()
 
     def suspended(self, numbers: bytes) -> bytes:
@@ -386,36 +386,36 @@ class FrontEnd:
             self.loop.turn()
         except ImportError:
             self.commands.tell_replaced()
-        visit, outer = self.visit, self.display.outer
-        if visit.bells.keypads or outer.is_application:
+        view, outer = self.view, self.display.outer
+        if view.bells.keypads or outer.is_application:
             # The keypad is an application's, in a pane or at the terminal.
-            places = visit.panes.places
-            self.display.set_keypad(places is not None and places.focus in visit.bells.keypads)
-        if visit.link.waiting and visit.link.peer:
+            places = view.panes.places
+            self.display.set_keypad(places is not None and places.focus in view.bells.keypads)
+        if view.link.waiting and view.link.peer:
             self.send()
         if outer.has_more():
             self.show()
-        if self.parting.visits and not self.display.is_stale:
-            self.parting.settle()
+        if self.draining.views and not self.display.is_stale:
+            self.draining.settle()
 
     def typed(self) -> None:
         """Takes what was typed."""
-        piece = read(0)
-        if piece == b"":
+        chunk = read(0)
+        if chunk == b"":
             self.leave("", 1)
-        self.commands.fed(piece or b"")
-        self.shells.typed()
+        self.commands.fed(chunk or b"")
+        self.watchdog.typed()
 
     def hear(self) -> None:
-        """Takes what the start told."""
-        records = self.link.told()
+        """Takes what the client told."""
+        records = self.link.read_events()
         if records is None:
             self.lost()
             return
         for record in records:
             self.take(record)
 
-    def take(self, record: ToldRecord) -> None:
+    def take(self, record: DisplayRecord) -> None:
         """Takes a record: by the size of what is painted that of the session may be known, where nothing else tells it."""
         self.display.take(record)
         if record.word in ("paint", "anew"):
@@ -425,8 +425,8 @@ class FrontEnd:
             self.loop.later("size", SIZES, self.commands.fit_first)
 
     def send(self) -> None:
-        """Sends what the start takes."""
-        self.untaken.given()
+        """Sends what the client takes."""
+        self.untaken.note_sent()
         if not self.link.send():
             self.link.hear_last()
             self.lost()
@@ -442,13 +442,13 @@ class FrontEnd:
             self.leave("", 1)
 
     def ask_colours(self) -> None:
-        """Asks the terminal for its colours, where a keeper may know them of it."""
-        if self.session.folder and not self.link.watches:
+        """Asks the terminal for its colours, where a host may know them of it."""
+        if self.session.folder and not self.link.is_read_only:
             self.display.outer.ask_colours()
 
     def part(self) -> None:
-        """Closes the connections: where the person has left the starts are given what was typed, all together in so many seconds."""
-        links = [self.link, *(visit.link for visit in self.parting.visits.values())]
+        """Closes the connections: where the person has left the clients are given what was typed, all together in so many seconds."""
+        links = [self.link, *(view.link for view in self.draining.views.values())]
         end = time.monotonic() + LAST_WAIT
         for link in links if self.left is not None else []:
             if link.part(max(LEAST_WAIT, end - time.monotonic())) and link is self.link:
@@ -461,11 +461,11 @@ class FrontEnd:
         if self.left_at is None:
             self.left_at = self.loop.clock()
             self.loop.later("left", LAST_WAIT, lambda: None)
-        return (self.commands.pastes.hands_over() or self.parting.hands_over()) and self.loop.clock() < self.left_at + LAST_WAIT
+        return (self.commands.pastes.hands_over() or self.draining.hands_over()) and self.loop.clock() < self.left_at + LAST_WAIT
 
     def unpasted(self) -> str:
         """What is said of a paste that couldn't be handed over any more."""
-        hands_over = self.commands.pastes.hands_over() or self.parting.hands_over()
+        hands_over = self.commands.pastes.hands_over() or self.draining.hands_over()
         return " what was pasted last isn't typed" if hands_over else ""
 
     def run(self) -> int:
@@ -476,7 +476,7 @@ class FrontEnd:
             self.tell_settings()
             self.run_file()
             self.connect()
-            if self.visit.server is None:
+            if self.view.server is None:
                 self.loop.later("probe", PROBES, self.probe)
             while self.left is None or self.hands_over():
                 self.turn()
@@ -492,16 +492,17 @@ class FrontEnd:
                  lambda: unwoken(*LEAVING))
 
 
-def follow(session: AnySession, watches: bool, prefix: str, guessing: str,
+def follow(session: AnySession, is_read_only: bool, prefix: str, prediction: str,
            is_new: Callable[[Places | None], bool] = lambda places: False, is_whole: bool = False) -> int:
-    """Has a person follow a session at this terminal, and tells the status; guesses are shown always, where that helps, or never. Where the
-    session is new, which may be known a moment later, it gets this terminal's size, whatever that is. It may be shown whole, where there is
-    room for its own status row."""
+    """Has a person follow a session at this terminal, and tells the status; predictions are shown always, where that helps, or never. Where
+    the session is new, which may be known a moment later, it gets this terminal's size, whatever that is. It may be shown whole, where
+    there is room for its own status row."""
     note = None
     try:
         has_mouse, has_clips = wants_mouse(), sets_clipboard()
-        note = noted_front_end(session.common, "watches" if watches else "edits")
-        return FrontEnd(session, watches, prefix, guessing, is_new, is_whole=is_whole, has_mouse=has_mouse, has_clips=has_clips).run()
+        note = noted_front_end(session.common, "read-only" if is_read_only else "read-write")
+        return FrontEnd(session, is_read_only, prefix, prediction, is_new, is_whole=is_whole, has_mouse=has_mouse,
+                        has_clips=has_clips).run()
     finally:
         all_done(session.close, lambda: forget_note(note))
 

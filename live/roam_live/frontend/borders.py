@@ -201,7 +201,7 @@ class BorderDrag:
         self.loop.later(self.moment, SETTLES, self.settle)
         self.commands.act_together(f"focus {pane}", f"grow {by}", *[f"focus {places.focus}"] * (places.focus != pane))
 
-    def told(self) -> None:
+    def panes_changed(self) -> None:
         """Takes note of what is told of the panes: of what comes of a growth where the pane has another size."""
         places = self.commands.panes.places
         if self.awaits_focus and self.commands.moved_to is None:

@@ -1,9 +1,9 @@
-"""Lists from which a person chooses, each drawn over the pane in focus: the buffers of the keeper of shells, of which the newest is pasted
+"""Lists from which a person chooses, each drawn over the pane in focus: the buffers of the pty host, of which the newest is pasted
 or the chosen one, and the windows of a session; and lines that are only read."""
 from __future__ import annotations
 
 from roam_live.common.text import printable
-from roam_live.frontend.popup import Drawing
+from roam_live.frontend.popup import Popup
 from roam_live.frontend.status_line import fitted
 from roam_live.protocol.panes import Rect
 
@@ -70,7 +70,7 @@ class ChoiceList:
         places, commands = self.commands.places(), self.commands
         pane = places.focus if places else 0
         rect = commands.display.visible(places.rects[pane]) if places and pane else None
-        if not rect or commands.display.cover or commands.copying.is_on():
+        if not rect or commands.display.notice or commands.copying.is_on():
             self.forget()
             return False
         self.rect, self.pane = rect, commands.panes.making(pane)
@@ -86,7 +86,7 @@ class ChoiceList:
 
     def lay(self) -> None:
         """Draws it."""
-        self.commands.display.lay(Drawing(self.rect, self.lines, self.cursor))
+        self.commands.display.lay(Popup(self.rect, self.lines, self.cursor))
         self.say()
 
     def say(self) -> None:
@@ -131,7 +131,7 @@ class ChoiceList:
     def takes(self, key: Key) -> bool:
         """Takes a key, and tells whether it is for the list: a paste ends it."""
         typing = self.commands.typing
-        if not self.is_on() or self.commands.paused or self.commands.display.cover or typing.mode != typing.plain:
+        if not self.is_on() or self.commands.paused or self.commands.display.notice or typing.mode != typing.plain:
             return False
         if key.name in (typing.prefix, "paste"):
             self.close()
@@ -157,8 +157,8 @@ class Choosing(ChoiceList):
     def ask(self, is_newest: bool) -> None:
         """Pastes the newest buffer, or opens the list, once it is told which there are."""
         self.close()
-        shells = self.commands.shells
-        if not shells:
+        host = self.commands.host
+        if not host:
             self.commands.display.tell(NONE_KEPT, TOLD)
             return
         self.asked += 1
@@ -166,16 +166,16 @@ class Choosing(ChoiceList):
 
     def ask_list(self, asked: int, is_newest: bool) -> None:
         """Asks which buffers there are, unless something else was asked since."""
-        shells = self.commands.shells
-        if shells and asked == self.asked:
-            shells.kept.buffers(lambda notes: self.answered(asked, notes, is_newest))
+        host = self.commands.host
+        if host and asked == self.asked:
+            host.scrollback.buffers(lambda notes: self.answered(asked, notes, is_newest))
 
     def answered(self, asked: int, notes: list[BufferNote] | None, is_newest: bool) -> None:
         """Goes by which buffers there are; None where that isn't told."""
-        shells = self.commands.shells
+        host = self.commands.host
         if asked != self.asked:
             return
-        if notes is None and shells and shells.is_connecting():
+        if notes is None and host and host.is_connecting():
             self.commands.loop.later("buffers", AGAIN, lambda: self.ask_list(asked, is_newest))
         elif not notes:
             self.commands.display.tell(UNTOLD if notes is None else NONE_KEPT, TOLD)
@@ -306,7 +306,7 @@ class ChoosingWindow(ChoiceList):
         """Takes a key, and tells whether it is for the list: a digit is a window."""
         typing, commands = self.commands.typing, self.commands
         is_digit = len(key.name) == 1 and key.name in "0123456789"
-        if is_digit and self.is_on() and typing.mode == typing.plain and not (commands.paused or commands.display.cover):
+        if is_digit and self.is_on() and typing.mode == typing.plain and not (commands.paused or commands.display.notice):
             self.go(int(key.name) or 10)
             return True
         return super().takes(key)

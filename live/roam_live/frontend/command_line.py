@@ -99,10 +99,10 @@ class ShellRun:
 
     def hear(self) -> None:
         """Takes what it says, of which the end is kept, until it says no more."""
-        piece = read(self.end)
-        if piece:
-            self.heard = (self.heard + piece)[-MOST_HEARD:]
-        elif piece == b"":
+        chunk = read(self.end)
+        if chunk:
+            self.heard = (self.heard + chunk)[-MOST_HEARD:]
+        elif chunk == b"":
             self.runner.loop.remove(self.end)
             if self.process.stdout:
                 self.process.stdout.close()
@@ -218,7 +218,7 @@ class CommandRunner:
             commands.grant("window name", Key("", ""))
         elif not commands.windows or not self.front.number:
             raise BadCommand(ELSEWHERE)
-        elif not commands.link.watches:
+        elif not commands.link.is_read_only:
             commands.windows.say(f"name {self.front.number} {name_word(text)}")
 
     def set_option(self, words: list[str]) -> None:

@@ -26,10 +26,10 @@ from roam_live.input.extended_keys import ANSWERED, form_for
 from roam_live.input.key_names import spelled
 from roam_live.input.keys import Key, Keys, acts_of
 from roam_live.input.mouse_reports import MOUSE
-from roam_live.protocol.client_link import TYPES, StartLink
+from roam_live.protocol.client_link import TYPES, ClientLink
 from roam_live.protocol.colours import COLOUR
 from roam_live.protocol.panes import BESIDE, MOVES, Places
-from roam_live.protocol.panes_client import PanesFollower
+from roam_live.protocol.panes_client import PanesSubscriber
 from roam_live.protocol.presence import LEAVE_OTHERS
 from roam_live.session.attached import has_others
 from roam_live.session.foreground import told
@@ -38,11 +38,11 @@ TYPE_CHECKING = False
 if TYPE_CHECKING:
     from roam_live.frontend.bindings import Mode
     from roam_live.frontend.windows import WindowWishes
-    from roam_live.protocol.host_client import ShellsLink
+    from roam_live.protocol.host_client import HostClient
     from roam_live.protocol.session_interface import AnySession
 
 # The wishes that are granted while something stands in the session's place. Nothing is typed then, since nobody would see where it goes.
-UNDER_COVER = ("detach", "suspend", "repaint", "help", "no", "scrolled", "picked", "line")
+UNDER_NOTICE = ("detach", "suspend", "repaint", "help", "no", "scrolled", "picked", "line")
 
 # What the wishes begin with that are for a window: to go there, which is granted in any case, or what changes it.
 GOES, WINDOW = "go ", "window "
@@ -65,10 +65,11 @@ WINDOW_GONE = "nothing is pasted: its window is gone"
 
 # So many seconds others have for leaving, and a line stands that tells how many did.
 LEAVES_IN = 2.0
-OTHERS_STAY = "the others can't be detached: what keeps the shells doesn't answer, or is an earlier roam's"
+OTHERS_STAY = "the others can't be detached: the pty host doesn't answer, or is an earlier roam's"
 
 # What waits in the loop for a window, and is nothing in another.
-OF_WINDOW = ("fit", "others", "size", "given", "motion", "border", "untold", "even", "zoom", "zoom left", "zoom comes", "synchronize")
+OF_WINDOW = ("fit", "others", "size", "requested size", "motion", "border", "untold", "even", "zoom", "zoom left", "zoom comes",
+             "synchronize")
 
 # What is told where the session gets this terminal's size since somebody types here.
 LATEST_TOLD = "sized to this terminal (window-size latest): what is wider was cut"
@@ -87,11 +88,11 @@ NEW = 2.0
 class Commands:
     """The keys of one person, and what they ask for."""
 
-    def __init__(self, session: AnySession, panes: PanesFollower, link: StartLink, display: Display, loop: Loop,
+    def __init__(self, session: AnySession, panes: PanesSubscriber, link: ClientLink, display: Display, loop: Loop,
                  leave: Callable[[str | None], None], is_new: Callable[[Places | None], bool] = lambda places: False,
-                 is_whole: bool = False, shells: ShellsLink | None = None) -> None:
+                 is_whole: bool = False, host: HostClient | None = None) -> None:
         self.session, self.panes, self.link, self.display, self.loop, self.leave = session, panes, link, display, loop, leave
-        self.shells = shells
+        self.host = host
         # Whether the session is shown whole where it has room, with its own status row.
         self.is_whole = is_whole
         self.keys = Keys()
@@ -104,7 +105,7 @@ class Commands:
         self.is_new, self.is_fitted, self.new_until = is_new, False, 0.0
         # The size that the session was given last, while it may still get it; and whether this terminal showed all of it before it had
         # another size itself.
-        self.given: tty.Size | None = None
+        self.requested_size: tty.Size | None = None
         self.showed_all = False
         # The size that this window had as it was left, where all of it was shown here then: one that nobody changed since follows the
         # terminal.
@@ -117,7 +118,7 @@ class Commands:
         self.windows: WindowWishes | None = None
         self.choosing_window: ChoosingWindow | None = None
         self.prompts = Prompts(self)
-        self.pastes = Pastes(link, panes, shells, loop, self.unpasted, lambda line: display.tell(line, PASTE_TOLD))
+        self.pastes = Pastes(link, panes, host, loop, self.unpasted, lambda line: display.tell(line, PASTE_TOLD))
         self.synchronizing = Synchronizing(self, loop)
         self.pastes.spreads = self.synchronizing.pasted_in
         self.pastes.is_cut = self.is_cut
@@ -136,12 +137,12 @@ class Commands:
         """Makes the key of a name the prefix."""
         own, self.prefix, self.typing, self.help = self.typing.own, prefix, Typing(prefix), help_with(prefix)
         self.typing.own = own
-        self.display.fits_line = "" if self.link.watches else f"{prefix} r fits"
+        self.display.fits_line = "" if self.link.is_read_only else f"{prefix} r fits"
         self.display.leaves_line = f"{prefix} d leaves"
 
-    def fed(self, piece: bytes) -> None:
+    def fed(self, chunk: bytes) -> None:
         """Takes bytes that were typed."""
-        self.typed(self.keys.fed(piece))
+        self.typed(self.keys.fed(chunk))
         self.loop.drop("escape")
         if self.keys.waits():
             self.loop.later("escape", number_of("escape-time", ESCAPE_TIME) / 1000, lambda: self.typed(self.keys.ended()))
@@ -163,7 +164,7 @@ class Commands:
         if key.name in (COLOUR, ANSWERED) or key.name == MOUSE and self.typing.mode != self.typing.pasting:
             self.reported(key)
             return
-        is_help = self.display.cover == self.help
+        is_help = self.display.notice == self.help
         if is_help and self.helping.takes(key):
             return
         if is_help:
@@ -186,8 +187,8 @@ class Commands:
             self.pointing.take(key.text)
         elif key.name == ANSWERED:
             self.display.outer.take_answer(key.text)
-        elif self.shells:
-            self.shells.tell_colour(key.text)
+        elif self.host:
+            self.host.tell_colour(key.text)
 
     def take(self, key: Key) -> None:
         """Takes a key. Under a cover nothing is typed; the prefix means there what it always does."""
@@ -207,9 +208,9 @@ class Commands:
                 return
             self.leave("[left]" if wish == "detach" or key.name in ("\x03", "q") and not is_pasted else None)
             return
-        if self.display.cover:
+        if self.display.notice:
             acts = [act for act in acts if act == NEWEST]
-            wish = "no" if wish == "yes" else wish if wish in UNDER_COVER or wish.startswith(GOES) else ""
+            wish = "no" if wish == "yes" else wish if wish in UNDER_NOTICE or wish.startswith(GOES) else ""
         self.type_key(acts, key)
         if wish:
             self.grant(wish, key)
@@ -217,7 +218,7 @@ class Commands:
     def type_key(self, acts: list[str], key: Key = Key("", "")) -> None:
         """Types what a key asks for: where keys go to all panes, those of it that do."""
         keys = [act for act in acts if act.startswith(TYPES)]
-        if keys and key.name == INTERRUPT and not self.link.watches:
+        if keys and key.name == INTERRUPT and not self.link.is_read_only:
             # A program may have it in another form than that of an interrupt.
             self.pastes.interrupt()
         if not keys or not self.synchronizing.is_working():
@@ -254,18 +255,18 @@ class Commands:
         return self.synchronizing.is_full() or self.copying.is_full() or self.windows is not None and self.windows.is_full()
 
     def is_cut(self) -> bool:
-        """Return True during an outage: the server is silent, or no connection is there to what keeps the shells."""
-        return self.display.silent > 0 or self.shells is not None and self.shells.peer is None
+        """Return True during an outage: the server is silent, or no connection is there to the pty host."""
+        return self.display.silent > 0 or self.host is not None and self.host.peer is None
 
     def unpasted(self) -> str:
         """Why nothing is pasted now; nothing where it is."""
-        if self.link.watches:
+        if self.link.is_read_only:
             return "nothing is pasted: this terminal only watches"
-        return "nothing is pasted where the session isn't shown" if self.paused or self.display.cover else ""
+        return "nothing is pasted where the session isn't shown" if self.paused or self.display.notice else ""
 
     def act(self, *acts: str) -> None:
         """Has acts typed, by who doesn't only watch."""
-        if self.link.watches:
+        if self.link.is_read_only:
             return
         if acts:
             self.synchronizing.settle(is_last=True)
@@ -274,7 +275,7 @@ class Commands:
 
     def act_together(self, *acts: str) -> None:
         """Has acts typed in a line of their own, by who doesn't only watch: nothing comes between them."""
-        if not self.link.watches:
+        if not self.link.is_read_only:
             self.type_together(*self.zooming.ended_by(acts))
 
     def type_together(self, *acts: str) -> None:
@@ -319,31 +320,31 @@ class Commands:
         """Return True if a border that this person moves is on its way: it changes the sizes of panes, and no focus."""
         return any(drag is not None and drag.grown for drag in (self.border_keys.drag, self.pointing.border))
 
-    def told(self) -> None:
+    def panes_changed(self) -> None:
         """Takes note that something is told of the panes: where the focus is now, if that or a pane is new."""
         now, before = self.panes.places, self.moved_from
         if now is None or before is None or self.is_moved(now, before):
             self.moved_to = None
-        if self.given == self.session_size():
-            self.forget_given()
+        if self.requested_size == self.session_size():
+            self.forget_requested_size()
             # What is shown of one that is smaller now may begin too far below, or to the right.
             self.display.choose(is_anew=self.display.place != (0, 0))
-        self.foci.told()
-        self.pointing.told()
-        self.border_keys.told()
-        self.zooming.told()
+        self.foci.panes_changed()
+        self.pointing.panes_changed()
+        self.border_keys.panes_changed()
+        self.zooming.panes_changed()
         self.mend()
         self.fit_drawn()
         self.fit_first()
         self.show_known()
-        self.show_aside()
+        self.show_metadata()
         self.synchronizing.settle()
         if self.windows:
             self.windows.told_panes()
 
-    def show_aside(self) -> None:
+    def show_metadata(self) -> None:
         """Gives the terminal the title and the cursor's shape of the pane in focus, and asks it for what its program wants of the mouse."""
-        self.display.outer.give(*self.panes.aside)
+        self.display.outer.set_title_and_shape(*self.panes.title_and_shape)
         self.display.outer.ask(self.pointing.asked())
 
     def clip(self, text: str, making: str) -> None:
@@ -359,7 +360,7 @@ class Commands:
             self.display.warning = places.warning() if places else ""
         size, labels = self.known
         self.display.is_synchronized = self.synchronizing.is_on()
-        self.display.know(self.given or size, labels, self.is_whole or is_untold)
+        self.display.know(self.requested_size or size, labels, self.is_whole or is_untold)
 
     def places(self) -> Places | None:
         """Where the panes are, with the focus where this person put it: 0 where that isn't told yet."""
@@ -385,7 +386,7 @@ class Commands:
         """Has windows that are known here."""
         self.windows, self.choosing_window = windows, ChoosingWindow(self, windows)
 
-    def follow_panes(self, panes: PanesFollower) -> None:
+    def follow_panes(self, panes: PanesSubscriber) -> None:
         """Goes by what another tells of where the panes are."""
         self.panes = self.pastes.panes = self.foci.panes = panes
 
@@ -398,7 +399,7 @@ class Commands:
         self.close_lists()
         self.pointing.end_drag()
         self.pastes.break_off()
-        self.given = None
+        self.requested_size = None
         for name in OF_WINDOW:
             self.loop.drop(name)
 
@@ -450,7 +451,7 @@ class Commands:
                 self.windows.grant(wish)
         elif wish == "unknown":
             self.display.tell(f"{self.prefix} {spelled(key)} is not bound; {self.prefix} ? shows the keys")
-        elif wish and not self.link.watches:
+        elif wish and not self.link.is_read_only:
             self.change(wish)
 
     def change(self, wish: str) -> None:
@@ -489,7 +490,7 @@ class Commands:
 
     def follow_latest(self) -> None:
         """Gives the session this terminal's size, where somebody types here and it is to have that, whatever that cuts."""
-        if not follows_latest() or self.link.watches or self.given or self.paused or self.zooming.is_on():
+        if not follows_latest() or self.link.is_read_only or self.requested_size or self.paused or self.zooming.is_on():
             return
         size = self.display.room()
         if self.session_size() not in (NO_SIZE, tty.largest(size)) and tty.is_large_enough(size):
@@ -500,10 +501,10 @@ class Commands:
 
     def leave_others(self) -> None:
         """Has all other terminals at the session detached."""
-        if not self.shells or not self.shells.peer:
+        if not self.host or not self.host.peer:
             self.display.tell(OTHERS_STAY, LEAVES_IN)
             return
-        self.shells.ask(LEAVE_OTHERS)
+        self.host.ask(LEAVE_OTHERS)
         self.loop.later("others leave", LEAVES_IN, lambda: self.display.tell(OTHERS_STAY, LEAVES_IN))
 
     def others_left(self, count: str) -> None:
@@ -517,7 +518,7 @@ class Commands:
         self.display.switch_row()
         self.fit()
 
-    # ---- rows that are kept
+    # ---- scrollback rows
 
     def fit_drawn(self) -> None:
         """Has what is drawn over a pane go by where that is now."""
@@ -554,7 +555,7 @@ class Commands:
 
     def scroll_back(self, wish: str) -> bool:
         """Scrolls the view that all share, of who doesn't only watch, and tells whether it does."""
-        if self.link.watches or wish == "copy search":
+        if self.link.is_read_only or wish == "copy search":
             self.display.tell("no rows are kept that could be shown")
             return False
         acts, scrolls = self.typing.begin_scroll(wish == "copy page", self.display.outer.size()[0])
@@ -567,29 +568,29 @@ class Commands:
     def ask_size(self) -> None:
         """Gives the session this terminal's size, where it may have it: what is wider than that is cut for good."""
         size = self.display.room()
-        if self.link.watches:
+        if self.link.is_read_only:
             return
         if not tty.is_large_enough(size):
             self.display.tell("a session has {} rows and {} columns at least".format(*tty.LEAST))
             return
-        self.give(tty.largest(size))
+        self.request_size(tty.largest(size))
 
-    def give(self, size: tty.Size) -> None:
+    def request_size(self, size: tty.Size) -> None:
         """Gives the session a size."""
         self.act(tty.size_act(size))
         self.expect(size)
 
     def expect(self, size: tty.Size) -> None:
         """Takes it that the session gets a size that it is given."""
-        self.given = size
-        self.loop.later("given", REFUSES, self.refused)
+        self.requested_size = size
+        self.loop.later("requested size", REFUSES, self.refused)
         self.zooming.overrule()
         self.show_known()
 
-    def give_again(self) -> None:
+    def request_size_again(self) -> None:
         """Gives the session again the size that it is to have: with a connection that act may be lost."""
-        size = self.zooming.awaited_size() or self.given
-        if size and not self.link.watches:
+        size = self.zooming.awaited_size() or self.requested_size
+        if size and not self.link.is_read_only:
             self.type_together(tty.size_act(size))
 
     def mend(self, is_late: bool = False) -> None:
@@ -598,23 +599,23 @@ class Commands:
         if self.zooming.mend(is_late):
             self.fit()
 
-    def forget_given(self) -> None:
+    def forget_requested_size(self) -> None:
         """Waits no more for a size that was given."""
-        self.given = None
-        self.loop.drop("given")
+        self.requested_size = None
+        self.loop.drop("requested size")
         self.display.release()
 
     def refused(self) -> None:
         """Tells where the session hasn't got the size that it was given, and has taken all that was typed."""
         if not self.link.is_done():
-            self.loop.later("given", REFUSES, self.refused)
+            self.loop.later("requested size", REFUSES, self.refused)
             return
-        given, size = self.given, self.session_size()
-        self.forget_given()
+        requested_size, size = self.requested_size, self.session_size()
+        self.forget_requested_size()
         self.zooming.drop_note()
         self.show_known()
-        if given and size not in (given, NO_SIZE):
-            self.display.tell("its panes have no room in {} by {}".format(*given), FITS_TOLD)
+        if requested_size and size not in (requested_size, NO_SIZE):
+            self.display.tell("its panes have no room in {} by {}".format(*requested_size), FITS_TOLD)
 
     def session_size(self) -> tty.Size:
         """The session's rows and columns, as they are told or were painted; nothing where they aren't known."""
@@ -643,12 +644,12 @@ class Commands:
         """Takes note of what was shown before the terminal had another size, the first of many where it is drawn by hand."""
         if not self.loop.due.keys() & {"size", "others"}:
             shows_all = self.zooming.showed_all if self.zooming.is_on() else self.display.shows_all()
-            self.showed_all = self.given is not None or shows_all
+            self.showed_all = self.requested_size is not None or shows_all
 
     def has_others(self) -> bool | None:
-        """Whether somebody else types, as the keeper of the shells tells it; else by the notes in the session's folder. None where that
+        """Whether somebody else types, as the pty host tells it; else by the notes in the session's folder. None where that
         isn't known: in the folder of another machine's session not all are noted."""
-        told = self.shells.has_others() if self.shells else None
+        told = self.host.has_others() if self.host else None
         if told is None and not has_others(self.session.common):
             return None if self.session.served == "relay" else False
         return told is None or told
@@ -660,16 +661,16 @@ class Commands:
     def fit(self) -> None:
         """Fits the session to this terminal, as far as that may be: a new session goes by each size. Who else is there has to be known for
         the rest, and may be told soon."""
-        size, own = self.given or self.session_size(), tty.largest(self.display.room())
+        size, own = self.requested_size or self.session_size(), tty.largest(self.display.room())
         self.showed_all = self.showed_all or size == self.left_size != NO_SIZE
-        if self.shells:
-            self.shells.say_here()
+        if self.host:
+            self.host.say_here()
         if self.zooming.is_on():
             self.zooming.resized()
         elif self.is_fresh():
             self.ask_size()
-        elif not (self.link.watches or size in (NO_SIZE, own) or not tty.is_large_enough(own)):
-            if self.shells and self.shells.is_awaited():
+        elif not (self.link.is_read_only or size in (NO_SIZE, own) or not tty.is_large_enough(own)):
+            if self.host and self.host.is_awaited():
                 self.loop.later("others", FITS_AGAIN, self.fit)
                 return
             if not self.zooming.mend():
@@ -684,7 +685,7 @@ class Commands:
             self.loop.drop("others")
             self.fit()
         if self.zooming.waits:
-            self.zooming.told()
+            self.zooming.panes_changed()
         self.mend()
 
     def follow(self, size: tty.Size, own: tty.Size) -> None:
@@ -756,11 +757,11 @@ class Commands:
 class Foci:
     """The panes that were in focus, the newest first, each by its making: another pane of the number is another."""
 
-    def __init__(self, panes: PanesFollower) -> None:
+    def __init__(self, panes: PanesSubscriber) -> None:
         self.panes = panes
         self.makings: list[str] = []
 
-    def told(self) -> None:
+    def panes_changed(self) -> None:
         """Takes note of what is told: where the focus is, and which panes there are."""
         places = self.panes.places
         if not places:

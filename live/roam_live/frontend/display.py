@@ -13,7 +13,7 @@ from roam_live.common.event_loop import WRITE, Loop, ready
 from roam_live.common.io import write
 from roam_live.common.text import printable
 from roam_live.config.styled_text import ROW_STYLE, Styled
-from roam_live.frontend.outer_modes import GivenAside, GivenClip
+from roam_live.frontend.outer_modes import ClipboardWriter, OuterModes
 from roam_live.frontend.status_line import (ALL_PANES, BETWEEN, SYNCHRONIZED, ZOOMED, clipped, columns, cut, fitted, label_at, row_text,
                                             said, tail)
 from roam_live.protocol.colours import ASKED
@@ -21,8 +21,8 @@ from roam_live.protocol.panes import Rect
 
 TYPE_CHECKING = False
 if TYPE_CHECKING:
-    from roam_live.frontend.popup import Drawing
-    from roam_live.protocol.display_records import ToldRecord
+    from roam_live.frontend.popup import Popup
+    from roam_live.protocol.display_records import DisplayRecord
 
 # So many seconds a line stands in the last row.
 TOLD = 1.0
@@ -33,7 +33,7 @@ DRAWN = 0.05
 # So many seconds later nothing stands there any more of a window that was left, where the other isn't painted yet.
 ENTERS = 0.15
 
-# A part that the start chose over an earlier screen is asked for again after so many seconds, and after twice as many each time, until it
+# A part that the client chose over an earlier screen is asked for again after so many seconds, and after twice as many each time, until it
 # has the new one.
 CHOSEN_AGAIN = 0.05
 MOST_CHOSEN = 8
@@ -64,7 +64,7 @@ class OuterTerminal:
         self.modes: tty.Modes | None = None
         self.is_taken = False
         self.left_by = 0.0
-        self.aside, self.clip = GivenAside(), GivenClip()
+        self.outer_modes, self.clip = OuterModes(), ClipboardWriter()
 
     def enter(self) -> None:
         """Takes the terminal."""
@@ -72,7 +72,7 @@ class OuterTerminal:
         if self.modes is None:
             raise Fault("the terminal can't be made raw")
         self.is_taken = True
-        self.waiting += self.aside.keys_asked(is_first=True) + tty.ENTERED
+        self.waiting += self.outer_modes.keys_asked(is_first=True) + tty.ENTERED
 
     def size(self) -> tty.Size:
         """Its rows and columns, which are asked for once after each signal that tells of a size; of one that has hung up those that it
@@ -88,32 +88,32 @@ class OuterTerminal:
         tty.make_raw(0)
         self.is_known = False
         self.is_taken = True
-        self.waiting += self.aside.keys_asked() + tty.ENTERED
+        self.waiting += self.outer_modes.keys_asked() + tty.ENTERED
         self.is_application = False
         # Whoever had it may have asked it for others.
-        self.aside.reports = ""
+        self.outer_modes.reports = ""
 
-    def give(self, title: str, shape: int) -> None:
+    def set_title_and_shape(self, title: str, shape: int) -> None:
         """Gives it a title and its cursor a shape, until it is left."""
-        self.waiting += self.aside.given(title, shape)
+        self.waiting += self.outer_modes.update(title, shape)
 
     def ask(self, reports: str) -> None:
         """Asks it for reports of the mouse: for none, `drags`, or all `motion`."""
-        self.waiting += self.aside.asked(reports)
+        self.waiting += self.outer_modes.asked(reports)
 
     def ask_colours(self) -> None:
         """Asks it for its colours; what it answers comes among what is typed, if it comes."""
-        if self.aside.is_able:
+        if self.outer_modes.is_able:
             self.waiting += ASKED
 
     def take_answer(self, text: str) -> None:
         """Takes what it answers of how it tells keys."""
-        self.aside.take_answer(text)
+        self.outer_modes.take_answer(text)
 
     def set_clip(self, text: str) -> None:
         """Sets its clipboard, by a text in base64."""
-        if self.aside.is_able:
-            self.clip.give(text)
+        if self.outer_modes.is_able:
+            self.clip.set_text(text)
 
     def has_more(self) -> bool:
         """Whether something waits for it."""
@@ -143,7 +143,7 @@ class OuterTerminal:
         if not self.is_taken:
             return
         self.left_by = time.monotonic() + LEAVES
-        self.waiting[:] = self.clip.taken_back() + self.aside.taken_back() + tty.LEFT
+        self.waiting[:] = self.clip.taken_back() + self.outer_modes.taken_back() + tty.LEFT
         self.waiting += f"{printable(line)}\r\n".encode() if line else b""
         self.write_by(0.0)
         if not self.waiting:
@@ -166,10 +166,10 @@ class OuterTerminal:
         if not is_waiting:
             write(self.end, self.waiting)
         while self.waiting and ready(self.end, WRITE, max(0.0, moment - time.monotonic())):
-            piece = self.waiting[: 1 if is_waiting else len(self.waiting)]
-            del self.waiting[: len(piece)]
-            if write(self.end, piece):
-                self.waiting[:0] = piece
+            chunk = self.waiting[: 1 if is_waiting else len(self.waiting)]
+            del self.waiting[: len(chunk)]
+            if write(self.end, chunk):
+                self.waiting[:0] = chunk
             else:
                 self.waiting.clear()
 
@@ -178,7 +178,7 @@ class Display:
     """What is shown on a terminal: a part of a session, as it is painted, and in the last row a line of the front end's own. Where the
     session may be shown whole, with its status row, a line that is told stands over that.
 
-    What a start tells comes in whole records, so nothing is ever written into the middle of a painting, and none is read.
+    What a client tells comes in whole records, so nothing is ever written into the middle of a painting, and none is read.
     """
 
     def __init__(self, loop: Loop, says: Callable[[str], object]) -> None:
@@ -203,9 +203,9 @@ class Display:
         self.is_stale = True
         # What stands in place of the session; what is told in the last row; for how many seconds nothing was heard of the server; and the
         # panes.
-        self.cover = self.told = ""
+        self.notice = self.told = ""
         # From which row on a cover is shown, the last such row, and what its last row tells of that.
-        self.cover_first, self.cover_most, self.cover_foot = 0, 0, ""
+        self.notice_first, self.notice_most, self.notice_foot = 0, 0, ""
         self.silent = 0
         self.labels = ""
         # What a person is asked, above all that is told, and whether that is a line that is typed.
@@ -220,10 +220,10 @@ class Display:
         # Whether keys go to all panes of the window.
         self.is_synchronized = False
         # What is drawn over a part of what is painted, and the line that stands in the last row meanwhile; whether that is asked for there;
-        # whether the start was told of its mask; and what is called where what is shown of the session may be another part.
-        self.drawing: Drawing | None = None
-        self.drawing_line = ""
-        self.is_drawing_asking = self.is_masked = False
+        # whether the client was told of its mask; and what is called where what is shown of the session may be another part.
+        self.popup: Popup | None = None
+        self.popup_line = ""
+        self.is_popup_asking = self.is_masked = False
         self.moved: Callable[[], object] = lambda: None
         # What tells which key fits the session to this terminal, where that may be, and which leaves.
         self.fits_line = self.leaves_line = ""
@@ -236,8 +236,8 @@ class Display:
     # ---- what is asked for
 
     def begin(self) -> None:
-        """Knows nothing of what a start paints that was just connected to: it paints the whole where it isn't asked for a part."""
-        self.asked, self.painted_size, self.place = None, NO_SIZE, self.place if self.drawing else (0, 0)
+        """Knows nothing of what a client paints that was just connected to: it paints the whole where it isn't asked for a part."""
+        self.asked, self.painted_size, self.place = None, NO_SIZE, self.place if self.popup else (0, 0)
         self.corner, self.is_from_first = None, False
         self.is_stale, self.silent, self.line_put, self.is_masked = True, 0, None, False
 
@@ -256,7 +256,7 @@ class Display:
 
     def has_row(self) -> bool:
         """Whether the last row is the front end's own: where it is hidden only while something is drawn."""
-        return not self.is_row_hidden or self.drawing is not None
+        return not self.is_row_hidden or self.popup is not None
 
     def room(self) -> tty.Size:
         """The size of a session of which this terminal shows all: a row of it is the session's status row, which is left out."""
@@ -283,8 +283,8 @@ class Display:
         if rows < tty.LEAST_SHOWN[0] or cols < tty.LEAST_SHOWN[1]:
             self.show("\n".join(filter(None, (too_small(rows, cols), self.leaves_line))))
             return
-        if self.cover.startswith(TOO_SMALL):
-            self.cover, is_painted = "", True
+        if self.notice.startswith(TOO_SMALL):
+            self.notice, is_painted = "", True
         if self.is_held:
             return
         part = self.wanted()
@@ -293,7 +293,7 @@ class Display:
         if (part, corner) != (self.asked, self.corner) or is_anew:
             self.corner = corner
             self.ask_part(part)
-        elif is_painted and not self.cover:
+        elif is_painted and not self.notice:
             self.repaint()
         self.moved()
 
@@ -303,9 +303,9 @@ class Display:
         return size != NO_SIZE and part == (size[0] - 1, size[1])
 
     def mend_place(self) -> None:
-        """Ask for another part if the one that is shown has the session's own status row. The start chooses a part over the screen that it
+        """Ask for another part if the one that is shown has the session's own status row. The client chooses a part over the screen that it
         has, and may have the new one of a session that became smaller only after that was told here. What has all panes begins at the first
-        row and column, whatever screen the start has; of another part the start has to choose again."""
+        row and column, whatever screen the client has; of another part the client has to choose again."""
         if not self.asked or self.corner or self.is_held or not self.is_beyond(self.asked):
             self.chosen = 0
         elif self.has_all(self.asked):
@@ -319,7 +319,7 @@ class Display:
         return self.is_placed and self.size() != NO_SIZE and (self.place[0] + part[0] > rows - 1 or self.place[1] + part[1] > cols)
 
     def choose_again(self) -> None:
-        """Have the start choose the part again, if it still has to."""
+        """Have the client choose the part again, if it still has to."""
         if self.asked and not self.corner and not self.is_held and self.is_beyond(self.asked):
             self.chosen += 1
             self.choose(is_anew=True)
@@ -328,7 +328,7 @@ class Display:
         """Asks for a part of the session, or for all of it: for that part with the cursor that is nearest to the first row and column, or,
         where something is drawn over it, for the one that is shown."""
         self.asked, self.is_stale, self.is_placed = part, True, False
-        if part and (self.corner or self.drawing):
+        if part and (self.corner or self.popup):
             rows, cols = self.size()
             top, left = self.corner or (max(0, min(place, most)) for place, most in zip(self.place, (rows - 1 - part[0], cols - part[1])))
             self.place = top, left
@@ -343,7 +343,7 @@ class Display:
 
     def resettle(self) -> None:
         """Paints all anew, where nothing stands in its place."""
-        if not self.cover:
+        if not self.notice:
             self.choose(is_painted=True)
 
     def shows_all(self) -> bool:
@@ -380,7 +380,7 @@ class Display:
     def blank(self) -> None:
         """Shows nothing of the window that was left any more."""
         self.end_entering()
-        if not self.cover:
+        if not self.notice:
             self.outer.waiting += tty.CLEARED
             self.line_put = None
             self.put_line()
@@ -397,7 +397,7 @@ class Display:
 
     # ---- what is told
 
-    def take(self, record: ToldRecord) -> None:
+    def take(self, record: DisplayRecord) -> None:
         """Takes a record of what is shown here."""
         if record.word == "size":
             self.take_size((record.numbers[0], record.numbers[1]))
@@ -423,26 +423,26 @@ class Display:
         rows, cols = self.outer.size()
         return self.painted_size[0] <= rows - (self.asked is not None and self.has_row()) and self.painted_size[1] <= cols
 
-    def take_painting(self, record: ToldRecord) -> None:
+    def take_painting(self, record: DisplayRecord) -> None:
         """Takes a painting: one that has no room, or comes before all is painted anew, doesn't reach the terminal, and no reset does."""
         is_anew = record.word == "anew"
         if self.asked is None:
             # A size that was told before isn't told again.
             self.whole_size = self.painted_size
-        if self.cover or self.is_held or not self.fits() or self.is_stale and not is_anew:
+        if self.notice or self.is_held or not self.fits() or self.is_stale and not is_anew:
             self.is_stale = True
             return
-        drawing, was_entering = self.drawing, self.is_entering
+        popup, was_entering = self.popup, self.is_entering
         if was_entering:
             self.end_entering()
-        self.outer.waiting += drawing.lifted() if drawing else b""
+        self.outer.waiting += popup.lifted() if popup else b""
         self.outer.waiting += tty.CLEARED + record.data.removeprefix(tty.RESET) if is_anew else record.data
         is_over = is_anew or self.is_line_lost or self.asked is None or not self.has_row()
         self.is_stale = self.is_line_lost = False
         if is_over or was_entering:
             # Another painting leaves the last row as it is, and whatever changes its line has it written then.
             self.put_line(is_over)
-        self.outer.waiting += drawing.laid(is_anew) if drawing else b""
+        self.outer.waiting += popup.laid(is_anew) if popup else b""
 
     def shown_at(self, row: int, col: int, is_near: bool = False) -> tuple[int, int] | None:
         """The place of the session that is shown at a row and a column of the terminal, all from 1; None where none is, as in the last row,
@@ -450,7 +450,7 @@ class Display:
         rows, cols = self.painted_size
         if is_near:
             row, col = min(max(row, 1), rows), min(max(col, 1), cols)
-        if self.cover or self.is_stale or not (1 <= row <= rows and 1 <= col <= cols):
+        if self.notice or self.is_stale or not (1 <= row <= rows and 1 <= col <= cols):
             return None
         top, left = self.place if self.asked else (0, 0)
         return top + row, left + col
@@ -465,24 +465,24 @@ class Display:
         end, right = min(rows, rect.row - top + rect.rows - 1), min(cols, rect.col - left + rect.cols - 1)
         return Rect(row, col, end - row + 1, right - col + 1) if row <= end and col <= right else None
 
-    def lay(self, drawing: Drawing) -> None:
+    def lay(self, popup: Popup) -> None:
         """Draws something over a part of what is shown, which stays that part: all is painted anew for it, but for that."""
-        was_masked, self.drawing = self.is_masked, drawing
+        was_masked, self.popup = self.is_masked, popup
         if was_masked:
             self.says("unmask")
         elif self.asked:
             self.ask_part(self.wanted())
         self.is_masked = self.is_stale = True
-        self.says(drawing.masks())
+        self.says(popup.masks())
 
     def draw(self) -> None:
         """Goes by other lines, or another cursor, of what is drawn."""
-        if self.drawing and not self.cover and not self.is_stale:
-            self.outer.waiting += self.drawing.laid()
+        if self.popup and not self.notice and not self.is_stale:
+            self.outer.waiting += self.popup.laid()
 
     def lift(self) -> None:
         """Draws nothing any more."""
-        self.drawing, self.drawing_line, self.is_drawing_asking = None, "", False
+        self.popup, self.popup_line, self.is_popup_asking = None, "", False
         if self.is_masked:
             self.is_masked = False
             self.says("unmask")
@@ -493,36 +493,36 @@ class Display:
     def say_line(self, line: str, is_asking: bool = False) -> None:
         """Has a line stand in the last row while something is drawn, where nothing else is told: one that is asked for stands there in any
         case."""
-        self.drawing_line, self.is_drawing_asking = line, is_asking
+        self.popup_line, self.is_popup_asking = line, is_asking
         self.change_line()
 
     # ---- lines in place of the session
 
     def show(self, text: str, first: int = 0, foot: str = "") -> None:
         """Shows lines in place of the session; where they have no room, and a last row is to tell that, from one on."""
-        self.cover, self.is_stale, self.line_put, self.cover_foot = text, True, None, foot
+        self.notice, self.is_stale, self.line_put, self.notice_foot = text, True, None, foot
         self.end_entering()
         self.forget_drawn()
         rows, cols = self.outer.size()
         lines = [part for line in text.split("\n") for part in wrapped(printable(line), max(1, cols - 1))]
-        self.cover_most = len(lines) - rows + 1 if foot and rows > 1 and len(lines) > rows else 0
-        self.cover_first = min(first, self.cover_most)
-        if self.cover_most:
-            shown = lines[self.cover_first : self.cover_first + rows - 1]
-            lines = [*shown, cut(foot.format(self.cover_first + 1, self.cover_first + len(shown), len(lines)), cols - 1)]
+        self.notice_most = len(lines) - rows + 1 if foot and rows > 1 and len(lines) > rows else 0
+        self.notice_first = min(first, self.notice_most)
+        if self.notice_most:
+            shown = lines[self.notice_first : self.notice_first + rows - 1]
+            lines = [*shown, cut(foot.format(self.notice_first + 1, self.notice_first + len(shown), len(lines)), cols - 1)]
         lines = lines[: max(1, rows)]
         self.outer.waiting += tty.CLEARED + tty.unwrapped("\r\n".join(lines))
 
     def uncover(self) -> None:
         """Shows the session again."""
-        self.cover = ""
+        self.notice = ""
         self.outer.waiting += tty.CLEARED
         self.choose(is_painted=True)
 
     def forget_drawn(self) -> None:
         """Knows that nothing of what was drawn stands on the terminal any more."""
-        if self.drawing:
-            self.drawing.forget()
+        if self.popup:
+            self.popup.forget()
 
     def enter_again(self) -> None:
         """Takes the terminal again, where nothing stands of what was painted."""
@@ -534,8 +534,8 @@ class Display:
         """Goes by a new size of the terminal: at once where there is no room for what is shown, and for all of it a moment later, since
         many sizes come where it is drawn by hand."""
         self.line_put = None
-        if self.cover:
-            self.show(self.cover, self.cover_first, self.cover_foot)
+        if self.notice:
+            self.show(self.notice, self.notice_first, self.notice_foot)
         self.is_stale = self.is_stale or not self.fits()
         if "paint" not in self.loop.due:
             self.loop.later("paint", DRAWN, lambda: self.choose(is_painted=True))
@@ -554,15 +554,15 @@ class Display:
 
     def line(self) -> str:
         """The line that stands in the last row, the first of these that is there: what a person is asked, what is told, that the server is
-        silent, what is said of a drawing, and else the panes and windows; nothing where the session's own rows stand there."""
-        if self.prompt or self.is_drawing_asking:
-            return self.prompt or self.drawing_line
+        silent, what is said of a popup, and else the panes and windows; nothing where the session's own rows stand there."""
+        if self.prompt or self.is_popup_asking:
+            return self.prompt or self.popup_line
         if self.told:
             return self.told
         if self.silent:
             return "; ".join(filter(None, (f"roam: no answer for {self.silent} s", self.leaves_line)))
-        if self.drawing_line:
-            return self.drawing_line
+        if self.popup_line:
+            return self.popup_line
         if self.asked is None or not self.has_row():
             # The session's own rows stand there, of which none tells this.
             return ALL_PANES if self.is_synchronized and self.asked is None else ""
@@ -590,7 +590,7 @@ class Display:
         """The place of the window whose label is shown at a row and a column of the terminal, from 1; None where none is."""
         rows, width = self.outer.size()
         line = self.labels_line(width)
-        if row != rows or self.cover or self.asked is None or self.line() != line:
+        if row != rows or self.notice or self.asked is None or self.line() != line:
             return None
         left, middle, _ = self.parts
         return label_at(middle, self.windows[0], len(self.panes_label()), col - columns(said(left)))
@@ -608,7 +608,7 @@ class Display:
     def put_line(self, is_over: bool = False) -> None:
         """Writes that line, behind what was painted, where it is another than stands there; over a painting it is written in any case."""
         text = self.line()
-        if self.cover or self.is_entering or not text:
+        if self.notice or self.is_entering or not text:
             return
         rows, width = self.outer.size()
         row = rows
@@ -617,12 +617,12 @@ class Display:
         if is_over or self.line_put != (text, row, width):
             self.line_put = text, row, width
             written = tty.unwrapped(f"\x1b[{row};1H{self.line_text(text, width)}")
-            is_placed = self.drawing is not None and self.drawing.is_placed
-            self.outer.waiting += written + self.drawing.placed() if self.drawing and is_placed else b"\x1b7" + written + b"\x1b8"
+            is_placed = self.popup is not None and self.popup.is_placed
+            self.outer.waiting += written + self.popup.placed() if self.popup and is_placed else b"\x1b7" + written + b"\x1b8"
 
     def change_line(self) -> None:
         """Goes by another line; where the session's own status row stands there all is painted anew."""
-        if self.line() or self.cover:
+        if self.line() or self.notice:
             self.put_line()
         else:
             self.repaint()

@@ -85,8 +85,8 @@ class Helping:
     def takes(self, key: Key) -> bool:
         """Takes a key that scrolls, and tells whether it does."""
         display = self.commands.display
-        if not display.cover_most or key.name not in ROWS and key.name not in PAGES:
+        if not display.notice_most or key.name not in ROWS and key.name not in PAGES:
             return False
         rows = ROWS.get(key.name) or PAGES[key.name] * max(1, display.outer.size()[0] - 1)
-        display.show(display.cover, max(0, min(display.cover_first + rows, display.cover_most)), FOOT)
+        display.show(display.notice, max(0, min(display.notice_first + rows, display.notice_most)), FOOT)
         return True

@@ -57,7 +57,7 @@ class Pointing:
         """Which reports the outer terminal is asked for, where this person types at all and the panes are known: those that the program in
         the pane in focus has asked for, or roam itself."""
         panes = self.commands.panes
-        if self.commands.link.watches or not panes.places:
+        if self.commands.link.is_read_only or not panes.places:
             return ""
         tracking = tracking_of(panes.focus_modes)
         return "motion" if tracking == "motion" else "drags" if tracking or self.is_on else ""
@@ -65,13 +65,13 @@ class Pointing:
     def switch(self) -> None:
         """Has roam have the mouse itself, or no more."""
         self.is_on = not self.is_on
-        self.commands.show_aside()
+        self.commands.show_metadata()
         self.commands.display.tell(ON.format(self.commands.prefix) if self.is_on else OFF, TOLD)
 
-    def told(self) -> None:
+    def panes_changed(self) -> None:
         """Takes note of what is told of the panes."""
         if self.border:
-            self.border.told()
+            self.border.panes_changed()
 
     def take(self, text: str) -> None:
         """Takes a report of the outer terminal."""
@@ -92,7 +92,7 @@ class Pointing:
             self.end_drag()
         is_near = holder > 0 or self.border is not None
         place, places = commands.display.shown_at(report.row, report.col, is_near), commands.places()
-        if not place or not places or commands.paused or commands.link.watches:
+        if not place or not places or commands.paused or commands.link.is_read_only:
             self.end_drag()
         elif self.border and (report.moves() or report.is_release):
             self.drag(self.border, report, place)
@@ -150,7 +150,7 @@ class Pointing:
     def copies(self, report: MouseReport) -> bool:
         """Whether copy mode takes a report."""
         commands = self.commands
-        if not commands.copying.is_on() or commands.paused or commands.display.cover or not commands.typing.is_typing():
+        if not commands.copying.is_on() or commands.paused or commands.display.notice or not commands.typing.is_typing():
             return False
         return commands.copying.pointing.take(report)
 

@@ -30,7 +30,7 @@ def shaped(shape: int) -> bytes:
     return b"\x1b[%d q" % shape
 
 
-class GivenClip:
+class ClipboardWriter:
     """A text for a terminal's clipboard, on its way there: between paintings, whole, and the newest where several come."""
 
     def __init__(self) -> None:
@@ -39,7 +39,7 @@ class GivenClip:
         self.rest = bytearray()
         self.has_begun = False
 
-    def give(self, text: str) -> None:
+    def set_text(self, text: str) -> None:
         """Has a text be set, which is base64, in place of one of which nothing is written yet."""
         if not self.has_begun:
             self.rest.clear()
@@ -66,7 +66,7 @@ class GivenClip:
         return text
 
 
-class GivenAside:
+class OuterModes:
     """What was given. A console of Linux has neither a title nor such a shape nor the form in which reports are read, and is given
     nothing."""
 
@@ -81,7 +81,7 @@ class GivenAside:
         self.has_keys = False
         self.keys_before, self.has_answered = 0, False
 
-    def given(self, title: str, shape: int) -> bytes:
+    def update(self, title: str, shape: int) -> bytes:
         """What is written where this is the title and the shape from now on: what is new of it. The terminal's own title isn't changed
         before there is one, and is back where there is none any more."""
         text = self.retitled(title) if self.is_able and title != self.title else b""

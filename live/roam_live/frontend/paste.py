@@ -7,15 +7,15 @@ from collections.abc import Callable, Iterable, Sequence
 from roam_live.common.event_loop import Loop
 from roam_live.input.keys import pasted_acts
 from roam_live.protocol.client_link import TYPES
-from roam_live.protocol.host_client import HELD, LATER, LOST, PUT, UNTOLD
+from roam_live.protocol.host_client import INSERTED, LATER, LOST, STORED, UNTOLD
 from roam_live.protocol.panes import MOVES
-from roam_live.protocol.paste_text import MOST_BYTES, cleaned, mark_acts, marked_in, random_name
+from roam_live.protocol.paste_text import MOST_BYTES, cleaned, placeholder_acts, placeholder_in, random_name
 
 TYPE_CHECKING = False
 if TYPE_CHECKING:
-    from roam_live.protocol.client_link import StartLink
-    from roam_live.protocol.host_client import ShellsLink
-    from roam_live.protocol.panes_client import PanesFollower
+    from roam_live.protocol.client_link import ClientLink
+    from roam_live.protocol.host_client import HostClient
+    from roam_live.protocol.panes_client import PanesSubscriber
 
 # A paste of so many characters at most is typed as acts.
 SHORT = 40
@@ -23,7 +23,7 @@ SHORT = 40
 # One of which nothing more comes for so many seconds is taken for whole, so that a terminal that tells no end keeps nothing back.
 ENDS = 5.0
 
-# So many seconds a keeper has for taking a text. They are counted each second: those of an outage don't count.
+# So many seconds a host has for taking a text. They are counted each second: those of an outage don't count.
 HANDING = 60.0
 COUNTS = 1.0
 
@@ -35,19 +35,19 @@ DROPS = 1.0
 
 # Why what is pasted isn't typed in each of several panes.
 ALONE = "pasted in the pane in focus alone: {}"
-NO_TEXTS = "what keeps the shells takes no texts"
+NO_TEXTS = "the pty host takes no texts"
 NO_ROOM = f"for all panes it has more than {MOST_BYTES >> 20} MB"
 
 # The act of C-c, by which a person drops what waits.
 INTERRUPT = "char 3"
 
-NOT_TAKEN = "nothing is pasted: what keeps the shells takes nothing"
+NOT_TAKEN = "nothing is pasted: the pty host takes nothing"
 NOTHING = "nothing is pasted: {}"
 WAITS = "what is pasted waits: {}"
 DROPPED = "what was pasted and still waited is dropped"
 BEHIND_IT = "{}; what was typed behind it is dropped"
 FULL_BEHIND = "keys are dropped: too many wait behind what is pasted; C-c drops all that waits"
-LOST_WORDS = "what was pasted last is lost: what keeps the shells ended, or had it for too long"
+LOST_WORDS = "what was pasted last is lost: the pty host ended, or had it for too long"
 TOO_LONG = f"nothing is pasted: it has more than {MOST_BYTES >> 20} MB, or waits behind others that have"
 
 
@@ -57,7 +57,7 @@ class Behind:
     def __init__(self, acts: tuple[str, ...], is_pasted: bool = False, is_together: bool = False) -> None:
         self.acts, self.is_pasted, self.is_together = acts, is_pasted, is_together
 
-    def type_at(self, link: StartLink) -> None:
+    def type_at(self, link: ClientLink) -> None:
         """Has them typed."""
         if self.is_together:
             link.say(" ; ".join(self.acts))
@@ -79,34 +79,34 @@ class Behind:
 
 
 class Paste:
-    """A paste for which a mark is typed, once the keeper of the shells holds it: a text, or a buffer of the keeper's by its number. It may
+    """A paste for which a placeholder is typed, once the pty host holds it: a text, or a buffer of the host's by its number. It may
     be for another pane than that in focus."""
 
     def __init__(self, text: str, is_bracketed: bool, buffer: int | None = None, focuses: tuple[int, int] | None = None) -> None:
         self.name, self.text, self.is_bracketed, self.buffer = random_name(), text, is_bracketed, buffer
         # The pane that gets the focus for it, and the one that gets it back.
         self.focuses = focuses
-        self.is_held = False
+        self.is_stored = False
         # For how many seconds it has waited, and when that was counted last.
         self.waited = self.counted = 0.0
         # Why nothing of it is typed where it is never held.
         self.why = NOT_TAKEN
 
     def line(self) -> str:
-        """The line that types its mark, which nothing joins."""
+        """The line that types its placeholder, which nothing joins."""
         there, *back = [f"focus {pane}" for pane in self.focuses or ()] or [""]
-        return " ; ".join(filter(None, ["paste", there, *mark_acts(self.name), *back]))
+        return " ; ".join(filter(None, ["paste", there, *placeholder_acts(self.name), *back]))
 
 
 class Pastes:
-    """Pastes and acts, in the order in which they come: a short paste as acts, a longer one as a mark, of which the text is handed to the
-    keeper. A call tells why nothing is pasted now, and another tells a person something."""
+    """Pastes and acts, in the order in which they come: a short paste as acts, a longer one as a placeholder, of which the text is handed
+    to the host. A call tells why nothing is pasted now, and another tells a person something."""
 
-    def __init__(self, link: StartLink, panes: PanesFollower, shells: ShellsLink | None, loop: Loop, refuses: Callable[[], str],
+    def __init__(self, link: ClientLink, panes: PanesSubscriber, host: HostClient | None, loop: Loop, refuses: Callable[[], str],
                  tells: Callable[[str], object]) -> None:
-        self.link, self.panes, self.shells, self.loop, self.refuses, self.tells = link, panes, shells, loop, refuses, tells
+        self.link, self.panes, self.host, self.loop, self.refuses, self.tells = link, panes, host, loop, refuses, tells
         # What came of a paste, and why nothing of it is typed.
-        self.pieces: list[str] = []
+        self.chunks: list[str] = []
         self.size = 0
         self.why = ""
         self.waiting: deque[Behind | Paste] = deque()
@@ -118,14 +118,14 @@ class Pastes:
         self.is_cut: Callable[[], object] = lambda: False
         # The panes in which what is pasted is typed, of which the first is in focus; none where that has it alone.
         self.spreads: Callable[[], list[int]] = list
-        if shells:
-            shells.answers = self.answered
+        if host:
+            host.answers = self.answered
 
     # ---- what is pasted
 
     def begin(self, why: str = "") -> None:
         """A paste begins; nothing of it is typed where it is told why, or nothing is pasted now, nor as it ends."""
-        self.pieces, self.size, self.why = [], 0, why or self.refuses()
+        self.chunks, self.size, self.why = [], 0, why or self.refuses()
 
     def add(self, text: str) -> None:
         """More of it comes."""
@@ -133,16 +133,16 @@ class Pastes:
         if not self.why and self.size + self.handing() > MOST_BYTES:
             self.why = TOO_LONG
         if self.why:
-            self.pieces = []
+            self.chunks = []
         else:
-            self.pieces.append(text)
+            self.chunks.append(text)
         self.loop.later("paste", ENDS, self.end)
 
     def end(self) -> None:
         """It is whole."""
         self.loop.drop("paste")
-        text, why = cleaned("".join(self.pieces)), self.why or self.refuses()
-        self.pieces, self.size = [], 0
+        text, why = cleaned("".join(self.chunks)), self.why or self.refuses()
+        self.chunks, self.size = [], 0
         if why == TOO_LONG:
             self.refuse(why)
         elif why:
@@ -153,7 +153,7 @@ class Pastes:
     def break_off(self) -> None:
         """Nothing more comes of one here: it isn't typed."""
         self.loop.drop("paste")
-        self.pieces, self.size = [], 0
+        self.chunks, self.size = [], 0
 
     def handing(self) -> int:
         """How many characters wait to be handed over."""
@@ -167,41 +167,41 @@ class Pastes:
             return
         is_bracketed = self.panes.wants_brackets()
         is_short = len(text) <= SHORT and self.panes.knows_modes()
-        if is_short or not self.shells or not self.shells.takes_texts():
+        if is_short or not self.host or not self.host.takes_texts():
             self.type(*pasted_acts(text, is_bracketed), is_pasted=True)
             return
         paste, data = Paste(text, is_bracketed), text.encode("utf-8", "replace")
-        if len(data) > MOST_BYTES or not self.shells.has_room(len(data)):
+        if len(data) > MOST_BYTES or not self.host.has_room(len(data)):
             self.refuse(TOO_LONG)
             return
-        self.shells.give(paste.name, data)
+        self.host.store(paste.name, data)
         self.hand(paste)
 
     def is_spread(self, text: str, panes: list[int]) -> bool:
-        """Hands a text over for each of these panes, by a mark of its own there, and tells whether it does: else why not is told."""
+        """Hands a text over for each of these panes, by a placeholder of its own there, and tells whether it does: else why not is told."""
         data = text.encode("utf-8", "replace")
-        if not self.shells or not self.shells.takes_texts():
+        if not self.host or not self.host.takes_texts():
             self.tells(ALONE.format(NO_TEXTS))
             return False
-        if len(data) * len(panes) > MOST_BYTES or not self.shells.has_room(len(data) * len(panes)):
+        if len(data) * len(panes) > MOST_BYTES or not self.host.has_room(len(data) * len(panes)):
             self.tells(ALONE.format(NO_ROOM))
             return False
         for pane in panes:
             paste = Paste(text, False, focuses=(pane, panes[0]) if pane != panes[0] else None)
-            self.shells.give(paste.name, data)
+            self.host.store(paste.name, data)
             self.hand(paste)
         return True
 
     def paste_buffer(self, number: int) -> None:
-        """Has a buffer of the keeper's be pasted."""
+        """Has a buffer of the host's be pasted."""
         why = self.refuses()
-        if why or not self.shells:
+        if why or not self.host:
             self.tells(why or NOT_TAKEN)
             return
         panes = self.spreads() or [0]
         for pane in panes:
             paste = Paste("", False, number, (pane, panes[0]) if pane != panes[0] else None)
-            self.shells.give(paste.name, number)
+            self.host.store(paste.name, number)
             self.hand(paste)
 
     def hand(self, paste: Paste) -> None:
@@ -225,7 +225,7 @@ class Pastes:
     # ---- what becomes of it
 
     def answered(self, name: str, word: str, more: str) -> None:
-        """Takes what the keeper tells of a text."""
+        """Takes what the host tells of a text."""
         paste = next((one for one in self.waiting if isinstance(one, Paste) and one.name == name), None)
         if not paste:
             if word == LOST and self.loop.clock() >= self.drops_until:
@@ -235,9 +235,9 @@ class Pastes:
             self.tells(WAITS.format(more))
             paste.why = NOTHING.format(more)
             return
-        if word == HELD:
-            paste.is_held = True
-        elif word == PUT:
+        if word == STORED:
+            paste.is_stored = True
+        elif word == INSERTED:
             self.waiting.remove(paste)
         elif word == UNTOLD and paste.focuses:
             self.waiting.remove(paste)
@@ -302,8 +302,8 @@ class Pastes:
 
     def cancel(self, paste: Paste) -> None:
         """Hands a paste over no more."""
-        if self.shells:
-            self.shells.cancel(paste.name)
+        if self.host:
+            self.host.cancel(paste.name)
         self.loop.drop(f"hand {paste.name}")
 
     # ---- what is typed
@@ -338,14 +338,14 @@ class Pastes:
             self.interrupt()
 
     def interrupt(self) -> None:
-        """Drop the pastes that wait here and the keys behind them, also what the start hasn't read of them, so that a C-c is typed at
+        """Drop the pastes that wait here and the keys behind them, also what the client hasn't read of them, so that a C-c is typed at
         once. Keys that were typed without a paste before them stay."""
         self.drops_until = 0.0
         dropped = self.link.drop_pasted()
         for line in dropped:
-            name = marked_in(line.split(" ; "))
-            if name and self.shells:
-                self.shells.cancel(name)
+            name = placeholder_in(line.split(" ; "))
+            if name and self.host:
+                self.host.cancel(name)
         if self.waiting:
             self.drop_waiting()
         elif dropped:
@@ -392,7 +392,7 @@ class Pastes:
             if isinstance(first, Behind):
                 first.type_at(self.link)
                 self.behind -= len(first.acts)
-            elif first.is_held:
+            elif first.is_stored:
                 self.link.say(first.line())
             else:
                 return

@@ -16,7 +16,7 @@ def put_at(row: int, col: int) -> bytes:
     return b"\x1b[%d;%dH\x1b[?25h" % (row, col)
 
 
-class Drawing:
+class Popup:
     """Lines in a rectangle of the terminal, which nothing that is painted reaches. Calls tell the text of each of its rows, and where the
     cursor stands, from 1."""
 

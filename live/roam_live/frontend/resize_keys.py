@@ -88,18 +88,18 @@ class BorderKeys:
         if is_late and self.waiting and not is_known:
             self.waiting.clear()
             self.commands.display.tell(NO_FOCUS)
-        while self.waiting and is_known and not self.commands.given and (not places or places.is_covered()):
+        while self.waiting and is_known and not self.commands.requested_size and (not places or places.is_covered()):
             wish = self.waiting.popleft()
             if wish == "even":
                 self.even()
             else:
                 self.move(wish)
 
-    def told(self) -> None:
+    def panes_changed(self) -> None:
         """Goes by what is told of the panes."""
         places = self.commands.panes.places
         if self.drag:
-            self.drag.told()
+            self.drag.panes_changed()
         if places and self.wanted is not None and places.rects == self.wanted:
             self.go_on()
         self.do_waiting()

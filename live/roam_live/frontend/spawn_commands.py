@@ -1,4 +1,4 @@
-"""Commands that a person has run in a new pane or window: how a front end hands them to what keeps the shells, and asks for the pane
+"""Commands that a person has run in a new pane or window: how a front end hands them to the pty host, and asks for the pane
 then."""
 from __future__ import annotations
 
@@ -13,10 +13,10 @@ TYPE_CHECKING = False
 if TYPE_CHECKING:
     from roam_live.frontend.commands import Commands
 
-NOBODY = "not run: what keeps the shells isn't there just now"
-SILENT = "not run: what keeps the shells is silent, or an earlier roam's"
+NOBODY = "not run: the pty host isn't there just now"
+SILENT = "not run: the pty host is silent, or an earlier roam's"
 NO_PANE = "not run: no pane came in its place"
-WATCHES = "a terminal that only watches runs nothing"
+READ_ONLY = "a terminal that only watches runs nothing"
 NO_FOCUS = "which pane is in focus isn't known yet"
 
 # Where a person has just come it may not be known yet where the focus is, or no connection be there: it is looked again so soon.
@@ -36,9 +36,9 @@ class Handing:
     def begin(self, wish: str, begins: Begins, goes_on: Callable[[], object], until: float = 0.0) -> None:
         """Has the pane in focus split for a command, or a window opened, as soon as that can be; then goes on. BadCommand tells why it
         can't."""
-        loop, shells = self.commands.loop, self.commands.shells
+        loop, host = self.commands.loop, self.commands.host
         until = until or loop.clock() + WAITS
-        is_awaited = self.commands.awaits_focus() or shells is not None and shells.is_connecting()
+        is_awaited = self.commands.awaits_focus() or host is not None and host.is_connecting()
         if is_awaited and loop.clock() < until:
             loop.later("hand over", AGAIN, lambda: self.begin_again(wish, begins, goes_on, until))
         elif wish.startswith("split"):
@@ -84,12 +84,12 @@ class Handing:
 
     def hand(self, begins: Begins, beside: str, goes_on: Callable[[str], object]) -> None:
         """Hands a command over, for a pane beside that making of one, or for a window."""
-        shells, name, data = self.commands.shells, random_name(), begins.packed()
-        if self.commands.link.watches:
-            raise BadCommand(WATCHES)
-        if not beside or not shells or not shells.ask_with(f"{RAN} {name} {beside} {len(data)}", data):
+        host, name, data = self.commands.host, random_name(), begins.packed()
+        if self.commands.link.is_read_only:
+            raise BadCommand(READ_ONLY)
+        if not beside or not host or not host.ask_with(f"{RAN} {name} {beside} {len(data)}", data):
             raise BadCommand(NOBODY)
-        shells.ran = self.take
+        host.ran = self.take
         self.waits[name] = goes_on
         self.commands.loop.later(f"{RAN} {name}", WAITS, lambda: self.give_up(name))
 

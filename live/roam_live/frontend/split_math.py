@@ -110,7 +110,7 @@ def row_of(parts: Parts, way: str) -> list[Parts]:
     return [parts]
 
 
-def shares(whole: int, least: list[int]) -> list[int]:
+def split_sizes(whole: int, least: list[int]) -> list[int]:
     """A length in so many shares and a border between each two: equal ones, the last of them one longer where it doesn't come out, but none
     shorter than it can be."""
     left, fixed = whole - len(least) + 1, [0] * len(least)
@@ -150,7 +150,7 @@ class Evened:
         way, whole = parts.way, length_of(box, parts.way)
         row, least = row_of(parts, way), [least_of(part, way) for part in parts[1:]]
         count = len(row_of(parts.first, way))
-        wanted = sum(shares(whole, [least_of(part, way) for part in row])[:count]) + count - 1
+        wanted = sum(split_sizes(whole, [least_of(part, way) for part in row])[:count]) + count - 1
         first = first_length(whole, shift_of(parts, self.before), *least)
         leaf = next(((part, sign) for part, sign in ((parts.first, 1), (parts.second, -1)) if isinstance(part, int)), None)
         if first != wanted and leaf:

@@ -1,4 +1,4 @@
-"""Sees that lines which a front end gave to the client start aren't taken, though the server is heard, and tells a person so."""
+"""Sees that lines which a front end gave to the client process aren't taken, though the server is heard, and tells a person so."""
 from __future__ import annotations
 
 from collections.abc import Callable
@@ -8,7 +8,7 @@ from roam_live.common.event_loop import Loop
 TYPE_CHECKING = False
 if TYPE_CHECKING:
     from roam_live.frontend.display import Display
-    from roam_live.protocol.client_link import StartLink
+    from roam_live.protocol.client_link import ClientLink
 
 # What the moment is called at which it is looked again, and how many seconds lie between two looks.
 MOMENT = "untaken"
@@ -21,7 +21,7 @@ UNTAKEN = 2.0
 UNTAKEN_SILENTLY = 12.0
 
 NO_KEYS = "the server takes no keys; it may be out of memory"
-NOT_TAKEN = "no keys are taken: the server may be out of memory, or the client start be stopped"
+NOT_TAKEN = "no keys are taken: the server may be out of memory, or the client process be stopped"
 
 
 class UntakenLines:
@@ -31,15 +31,15 @@ class UntakenLines:
     `answered` takes.
     """
 
-    def __init__(self, link: Callable[[], StartLink], display: Display, loop: Loop, asks: Callable[[], object] = lambda: None) -> None:
+    def __init__(self, link: Callable[[], ClientLink], display: Display, loop: Loop, asks: Callable[[], object] = lambda: None) -> None:
         self.link, self.display, self.loop, self.asks = link, display, loop, asks
         # The link for which that is counted, how many of its lines were taken, since when no more were, and when something was painted or
         # answered.
-        self.counted: StartLink | None = None
+        self.counted: ClientLink | None = None
         self.taken = 0
         self.since = self.painted = self.alive = 0.0
 
-    def given(self) -> None:
+    def note_sent(self) -> None:
         """A line is given."""
         if MOMENT not in self.loop.due:
             self.count()

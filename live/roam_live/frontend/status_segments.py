@@ -78,5 +78,5 @@ class StatusRow:
         name = told.names.get(number) or told.runs.get(number, "")
         session = (front.session.name or "").removesuffix(f":{number}")
         return {"session": session, "window": name or "", "index": str(number or 1), "flags": "*" + "Z" * bool(front.display.zoomed),
-                "pane": str(places.focus) if places else "", "title": front.panes.aside[0], "host": self.host,
+                "pane": str(places.focus) if places else "", "title": front.panes.title_and_shape[0], "host": self.host,
                 "short_host": self.host.partition(".")[0]}

@@ -78,23 +78,23 @@ class Synchronizing:
 
     def __init__(self, commands: Commands, loop: Loop) -> None:
         self.commands, self.loop = commands, loop
-        # For which windows of this front end that was switched, by their numbers, and the number of this one; and which guesses are shown
-        # else.
+        # For which windows of this front end that was switched, by their numbers, and the number of this one; and which predictions are
+        # shown else.
         self.switched: dict[int, bool] = {}
         self.number = 0
-        self.guesses: Callable[[], str] = lambda: "never"
+        self.predictions: Callable[[], str] = lambda: "never"
         # What each key types that isn't typed yet.
         self.keys: list[Typed] = []
 
-    def remember(self, switched: dict[int, bool], number: int, guesses: Callable[[], str]) -> None:
+    def remember(self, switched: dict[int, bool], number: int, predictions: Callable[[], str]) -> None:
         """Goes by what was switched in windows of this front end, of which this one has a number."""
-        self.switched, self.number, self.guesses = switched, number, guesses
+        self.switched, self.number, self.predictions = switched, number, predictions
         if self.is_on():
-            self.choose_guesses()
+            self.choose_prediction()
 
     def is_on(self) -> bool:
         """Whether it is so, also while a pane is zoomed."""
-        return self.switched.get(self.number, text_of(OPTION) == "on") and not self.commands.link.watches
+        return self.switched.get(self.number, text_of(OPTION) == "on") and not self.commands.link.is_read_only
 
     def is_working(self) -> bool:
         """Whether keys that are typed now go to all panes: a pane that is zoomed has them alone."""
@@ -104,14 +104,14 @@ class Synchronizing:
         """Switches it."""
         self.settle(is_last=True)
         self.switched[self.number] = not self.is_on()
-        self.choose_guesses()
+        self.choose_prediction()
         self.commands.show_known()
         places = self.commands.panes.places
         self.commands.display.tell(OFF if not self.is_on() else ALL_PANES if places else UNTOLD, TOLD)
 
-    def choose_guesses(self) -> None:
-        """Has no guesses be shown while it is on: what a key shows in one pane isn't known of the others."""
-        self.commands.link.guess("never" if self.is_on() else self.guesses())
+    def choose_prediction(self) -> None:
+        """Has no predictions be shown while it is on: what a key shows in one pane isn't known of the others."""
+        self.commands.link.predict("never" if self.is_on() else self.predictions())
 
     def panes(self) -> list[int]:
         """The panes that have what is typed, of which the first is in focus; none where it isn't known which that is."""

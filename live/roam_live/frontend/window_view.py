@@ -1,4 +1,4 @@
-"""A person's visit to a window: the front end's connections to its sockets, and what keys mean there. One that was left goes on until all
+"""A person's view of a window: the front end's connections to its sockets, and what keys mean there. One that was left goes on until all
 is taken that was typed in it."""
 from __future__ import annotations
 
@@ -11,10 +11,10 @@ from roam_live.common.process import opened_process
 TYPE_CHECKING = False
 if TYPE_CHECKING:
     from roam_live.frontend.commands import Commands
-    from roam_live.protocol.bells import BellFollower
-    from roam_live.protocol.client_link import Keeper, StartLink
-    from roam_live.protocol.host_client import ShellsLink
-    from roam_live.protocol.panes_client import PanesFollower
+    from roam_live.protocol.bells import BellSubscriber
+    from roam_live.protocol.client_link import ClientLink, Reconnector
+    from roam_live.protocol.host_client import HostClient
+    from roam_live.protocol.panes_client import PanesSubscriber
     from roam_live.protocol.session_interface import AnySession
 
 
@@ -24,13 +24,13 @@ def opened_server(session: AnySession) -> int | None:
     return opened_process(process) if process else None
 
 
-class Visit:
+class WindowView:
     """The connections of a front end to one window."""
 
-    def __init__(self, session: AnySession, link: StartLink, keeper: Keeper, panes: PanesFollower, shells: ShellsLink,
-                 bells: BellFollower, commands: Commands) -> None:
-        self.session, self.link, self.keeper, self.panes = session, link, keeper, panes
-        self.shells, self.bells, self.commands = shells, bells, commands
+    def __init__(self, session: AnySession, link: ClientLink, reconnector: Reconnector, panes: PanesSubscriber, host: HostClient,
+                 bells: BellSubscriber, commands: Commands) -> None:
+        self.session, self.link, self.reconnector, self.panes = session, link, reconnector, panes
+        self.host, self.bells, self.commands = host, bells, commands
         self.number = session.number
         # What tells of the end of the server, where its process is known.
         self.server: int | None = None
@@ -58,111 +58,111 @@ class Visit:
         self.watch_no_more(loop)
         self.panes.close()
         self.bells.close()
-        self.shells.rename(f"follow shells of {self.number}")
+        self.host.rename(f"follow host of {self.number}")
         # The connection of the window where the person is tells of it too.
-        self.shells.is_parting = True
+        self.host.is_draining = True
         loop.drop("connect")
         if self.link.peer:
             loop.remove(self.link)
 
-    def take_up(self, panes: PanesFollower, bells: BellFollower) -> None:
+    def take_up(self, panes: PanesSubscriber, bells: BellSubscriber) -> None:
         """Follows the window again, by others who tell where the panes are, and of bells."""
         self.panes, self.bells = panes, bells
         self.commands.follow_panes(panes)
-        self.keeper.is_full = panes.is_full
-        self.shells.rename(type(self.shells).again)
-        self.shells.is_parting = False
+        self.reconnector.is_full = panes.is_full
+        self.host.rename(type(self.host).again)
+        self.host.is_draining = False
 
     def is_over(self) -> bool:
         """Whether nothing that was typed there has to be taken still."""
-        link, shells = self.link, self.shells
+        link, host = self.link, self.host
         is_taken = link.is_done() if link.peer else not link.waiting
         if is_taken:
             # The session has its size back.
             self.commands.zooming.drop_note()
-        return is_taken and not link.waiting and not self.commands.pastes.hands_over() and not (shells.peer and shells.waiting)
+        return is_taken and not link.waiting and not self.commands.pastes.hands_over() and not (host.peer and host.waiting)
 
     def close(self, loop: Loop) -> None:
         """Lets all connections go."""
         if self.link.peer:
             loop.remove(self.link)
         self.link.close()
-        self.shells.end()
+        self.host.end()
         loop.drop(self.again())
 
     def again(self) -> str:
-        """What the moment is called at which the connection to the start of a window that was left is had again."""
+        """What the moment is called at which the connection to the client of a window that was left is had again."""
         return f"connect {self.number}"
 
 
-class Parting:
-    """The visits of a front end that were left and go on: what the start of each tells is of nobody's screen."""
+class DrainingViews:
+    """The views of a front end that were left and go on: what the client of each tells is of nobody's screen."""
 
     def __init__(self, loop: Loop) -> None:
         self.loop = loop
-        self.visits: dict[int, Visit] = {}
+        self.views: dict[int, WindowView] = {}
 
-    def add(self, visit: Visit) -> None:
-        """Goes on with a visit that was left."""
-        visit.part(self.loop)
-        self.visits[visit.number] = visit
-        if visit.link.peer:
-            self.join(visit)
-        elif visit.link.waiting:
-            self.connect(visit)
+    def add(self, view: WindowView) -> None:
+        """Goes on with a view that was left."""
+        view.part(self.loop)
+        self.views[view.number] = view
+        if view.link.peer:
+            self.join(view)
+        elif view.link.waiting:
+            self.connect(view)
 
-    def taken(self, number: int) -> Visit | None:
-        """The visit to a window, which is taken up again; None where there is none."""
-        visit = self.visits.pop(number, None)
-        if visit:
-            self.loop.drop(visit.again())
-            if visit.link.peer:
-                self.loop.remove(visit.link)
-        return visit
+    def taken(self, number: int) -> WindowView | None:
+        """The view of a window, which is taken up again; None where there is none."""
+        view = self.views.pop(number, None)
+        if view:
+            self.loop.drop(view.again())
+            if view.link.peer:
+                self.loop.remove(view.link)
+        return view
 
-    def join(self, visit: Visit) -> None:
+    def join(self, view: WindowView) -> None:
         """Has the loop read and write the connection of one."""
-        link = visit.link
-        self.loop.add(link, lambda: self.hear(visit), lambda: self.send(visit), has_more=lambda: link.waiting)
+        link = view.link
+        self.loop.add(link, lambda: self.hear(view), lambda: self.send(view), has_more=lambda: link.waiting)
 
-    def hear(self, visit: Visit) -> None:
+    def hear(self, view: WindowView) -> None:
         """Takes what was taken of what was typed, and nothing that is painted."""
-        if visit.link.told() is None:
-            self.lost(visit)
+        if view.link.read_events() is None:
+            self.lost(view)
 
-    def send(self, visit: Visit) -> None:
-        """Sends what the start takes."""
-        if not visit.link.send():
-            visit.link.hear_last()
-            self.lost(visit)
+    def send(self, view: WindowView) -> None:
+        """Sends what the client takes."""
+        if not view.link.send():
+            view.link.hear_last()
+            self.lost(view)
 
-    def lost(self, visit: Visit) -> None:
+    def lost(self, view: WindowView) -> None:
         """Goes on without the connection, which is had again where something was typed that hasn't gone."""
-        self.loop.remove(visit.link)
-        visit.keeper.lost()
-        if visit.link.waiting:
-            self.loop.later(visit.again(), visit.keeper.pause(), lambda: self.connect(visit))
+        self.loop.remove(view.link)
+        view.reconnector.lost()
+        if view.link.waiting:
+            self.loop.later(view.again(), view.reconnector.pause(), lambda: self.connect(view))
 
-    def connect(self, visit: Visit) -> None:
-        """Connects to the start of one; where that can't be done now it is tried again."""
-        failed = visit.keeper.connect()
+    def connect(self, view: WindowView) -> None:
+        """Connects to the client of one; where that can't be done now it is tried again."""
+        failed = view.reconnector.connect()
         if failed:
-            self.loop.later(visit.again(), failed[0], lambda: self.connect(visit))
+            self.loop.later(view.again(), failed[0], lambda: self.connect(view))
         else:
-            visit.keeper.connected()
-            self.join(visit)
+            view.reconnector.connected()
+            self.join(view)
 
     def settle(self) -> None:
         """Lets those go in which all is taken."""
-        for visit in [visit for visit in self.visits.values() if visit.is_over()]:
-            self.forget(visit.number)
+        for view in [view for view in self.views.values() if view.is_over()]:
+            self.forget(view.number)
 
     def forget(self, number: int) -> None:
         """Lets one go, as of a window that is gone."""
-        visit = self.visits.pop(number, None)
-        if visit:
-            visit.close(self.loop)
+        view = self.views.pop(number, None)
+        if view:
+            view.close(self.loop)
 
     def hands_over(self) -> bool:
         """Whether a paste is still handed over in one of them."""
-        return any(visit.commands.pastes.hands_over() for visit in self.visits.values())
+        return any(view.commands.pastes.hands_over() for view in self.views.values())

@@ -1,5 +1,5 @@
-"""The windows of a session at one person's front end: which there are, as the keeper of shells tells it, where the person is and was, and
-what is asked of the keeper. What is typed for a window that is being opened waits for it."""
+"""The windows of a session at one person's front end: which there are, as the pty host tells it, where the person is and was, and
+what is asked of the host. What is typed for a window that is being opened waits for it."""
 from __future__ import annotations
 
 import contextlib
@@ -11,7 +11,7 @@ from roam_live.common.event_loop import Loop
 from roam_live.common.text import printable
 from roam_live.common.tty import LEAST, is_large_enough, largest
 from roam_live.frontend.line_editor import AskedLine
-from roam_live.frontend.windows_client import ToldWindows, WindowsLink
+from roam_live.frontend.windows_client import WindowsLink, WindowsState
 from roam_live.input.extended_keys import ANSWERED
 from roam_live.input.mouse_reports import MOUSE
 from roam_live.protocol.colours import COLOUR
@@ -97,7 +97,7 @@ class WindowWishes:
 
     def __init__(self, front: AtWindow, loop: Loop) -> None:
         self.front, self.loop = front, loop
-        self.told = ToldWindows()
+        self.told = WindowsState()
         # Where the person was before, the last one at the end.
         self.visited: list[int] = []
         # The numbers of those whose labels stand in the last row.
@@ -106,7 +106,7 @@ class WindowWishes:
         # is typed for either.
         self.is_opening = self.is_late = self.is_listing = False
         self.held: list[Key] = []
-        # What opens one, while it isn't answered; and where it wasn't said yet, since the keeper isn't connected: it may be soon, as where
+        # What opens one, while it isn't answered; and where it wasn't said yet, since the host isn't connected: it may be soon, as where
         # it was launched just before.
         self.opens = self.unsaid = ""
         # Whether the person stays where he is once a window is opened.
@@ -115,7 +115,7 @@ class WindowWishes:
 
     def path(self) -> str:
         """The socket that tells of the windows: that of the window where the person is."""
-        return os.path.join(self.front.commands.session.folder or "", "shells")
+        return os.path.join(self.front.commands.session.folder or "", "host")
 
     def begin(self) -> None:
         """Follows them, where there may be some."""
@@ -158,7 +158,7 @@ class WindowWishes:
     # ---- what is told
 
     def take(self, lines: list[str]) -> None:
-        """Takes what the keeper told."""
+        """Takes what the host told."""
         if self.unsaid:
             self.link.ask(self.unsaid)
             self.unsaid = ""
@@ -231,7 +231,7 @@ class WindowWishes:
             self.go_by(what)
         elif what == "list":
             self.list_all()
-        elif commands.link.watches:
+        elif commands.link.is_read_only:
             return
         elif what == "new":
             self.open()
@@ -295,7 +295,7 @@ class WindowWishes:
         self.show()
 
     def say(self, line: str) -> bool:
-        """Says a line to the keeper, and tells whether it is there; where it isn't a person is told."""
+        """Says a line to the host, and tells whether it is there; where it isn't a person is told."""
         if not self.link.peer:
             self.front.display.tell(NOBODY, SAID)
             return False

@@ -1,4 +1,4 @@
-"""What is told of the windows of a session at a front end's connection to the keeper of shells: which there are, their names, what runs
+"""What is told of the windows of a session at a front end's connection to the pty host: which there are, their names, what runs
 there, and where something happened."""
 from __future__ import annotations
 
@@ -9,7 +9,7 @@ from roam_live.common.event_loop import Loop
 from roam_live.common.text import printable
 from roam_live.common.unix_socket import connected_now
 from roam_live.frontend.status_line import cut, window_label
-from roam_live.protocol.panes_client import BAD_LINE, Following
+from roam_live.protocol.panes_client import BAD_LINE, Subscription
 from roam_live.protocol.window_lines import LONGEST_NAME, WINDOWS, name_in
 
 # What is told of the windows to who asked for them: it may be told from another machine.
@@ -20,7 +20,7 @@ TOLD = re.compile(r"window (?P<window>[1-9]\d?) (?P<name>-|(?:[0-9a-f]{2}){1,256
 MOST_COLUMNS = 24
 
 
-class ToldWindows:
+class WindowsState:
     """What was told of the windows of a session so far."""
 
     def __init__(self) -> None:
@@ -84,8 +84,8 @@ class ToldWindows:
         return window_label(number, cut(name, MOST_COLUMNS), flags)
 
 
-class WindowsLink(Following):
-    """A front end's connection to the keeper of shells about windows, beside the one that tells of the terminal: at any window's socket.
+class WindowsLink(Subscription):
+    """A front end's connection to the pty host about windows, beside the one that tells of the terminal: at any window's socket.
     One who doesn't know the word is an earlier roam's, and isn't asked again."""
 
     again = "follow windows"

@@ -104,8 +104,8 @@ class Zooming:
         self.ask(places)
 
     def is_told(self, places: Places | None) -> bool:
-        """Whether it is told which pane is in focus, and by the keeper whether another has a zoom, where one is about to."""
-        return bool(places and places.focus) and not (self.commands.shells and self.commands.shells.is_awaited())
+        """Whether it is told which pane is in focus, and by the host whether another has a zoom, where one is about to."""
+        return bool(places and places.focus) and not (self.commands.host and self.commands.host.is_awaited())
 
     def drop_wait(self) -> None:
         """Waits no more for what is told of the focus."""
@@ -114,8 +114,8 @@ class Zooming:
 
     def own_size(self, places: Places | None) -> Size:
         """The session's size where nobody has a zoom: that which another's end gives back."""
-        shells, size = self.commands.shells, self.commands.given or (places.size() if places else (0, 0))
-        note = shells.zoomed[1] if shells else None
+        host, size = self.commands.host, self.commands.requested_size or (places.size() if places else (0, 0))
+        note = host.zoomed[1] if host else None
         return note.size if note and size in note.asked else size
 
     def refusal(self, places: Places | None) -> str:
@@ -135,7 +135,7 @@ class Zooming:
             self.show(places)
             return
         self.note = self.note._replace(asked=(*self.note.asked, size))
-        self.tell_keeper()
+        self.tell_host()
         self.awaited = places
         self.loop.later("zoom", REFUSES, self.give_up)
         self.commands.display.hold()
@@ -166,7 +166,7 @@ class Zooming:
             self.commands.type_together(*acts)
 
     def forget(self) -> None:
-        """Knows no more of it, but for what the keeper was told."""
+        """Knows no more of it, but for what the host was told."""
         self.pane, self.before, self.awaited, self.rects = 0, None, None, {}
         self.loop.drop("zoom")
 
@@ -186,7 +186,7 @@ class Zooming:
 
     # ---- what is told
 
-    def told(self) -> None:
+    def panes_changed(self) -> None:
         """Goes by what is told of the panes: it is over where another is in focus, or they are others, or the session's size is another
         than it was asked for."""
         places = self.commands.places()
@@ -228,7 +228,7 @@ class Zooming:
             self.commands.display.tell(why, TOLD)
             self.end()
             return
-        self.tell_keeper()
+        self.tell_host()
         self.ask(places)
 
     def overrule_own(self) -> None:
@@ -238,23 +238,23 @@ class Zooming:
             self.drop_note()
             self.commands.display.zoom(None)
 
-    # ---- what the keeper knows
+    # ---- what the host knows
 
-    def tell_keeper(self) -> None:
-        """Tells the keeper of this zoom, before the session is asked for a size."""
-        if self.commands.shells:
-            self.commands.shells.note_zoom(self.note)
+    def tell_host(self) -> None:
+        """Tells the host of this zoom, before the session is asked for a size."""
+        if self.commands.host:
+            self.commands.host.note_zoom(self.note)
 
     def tell_over(self) -> None:
-        """Tells the keeper that a zoom is over, once the session hasn't a size of it any more."""
-        shells, places = self.commands.shells, self.commands.panes.places
-        if shells and shells.zoom and not self.pane and places and places.is_covered() and places.size() not in shells.zoom.asked:
-            shells.note_zoom(None)
+        """Tells the host that a zoom is over, once the session hasn't a size of it any more."""
+        host, places = self.commands.host, self.commands.panes.places
+        if host and host.zoom and not self.pane and places and places.is_covered() and places.size() not in host.zoom.asked:
+            host.note_zoom(None)
 
     def drop_note(self) -> None:
-        """Tells the keeper that a zoom is over, whatever size the session has."""
-        if self.commands.shells and self.commands.shells.zoom and not self.pane:
-            self.commands.shells.note_zoom(None)
+        """Tells the host that a zoom is over, whatever size the session has."""
+        if self.commands.host and self.commands.host.zoom and not self.pane:
+            self.commands.host.note_zoom(None)
 
     def leave(self) -> None:
         """Ends it where the person leaves, and is told of no more."""
@@ -263,16 +263,16 @@ class Zooming:
 
     def left_by(self) -> ZoomNote | None:
         """The zoom that a front end has left, as one that was killed, and that isn't looked after yet; None where there is none."""
-        shells = self.commands.shells
-        maker, note = shells.zoomed if shells else (0, None)
+        host = self.commands.host
+        maker, note = host.zoomed if host else (0, None)
         if maker or not note:
             self.mended = self.unseen = None
-        return None if maker or self.pane or self.commands.link.watches or note == self.mended else note
+        return None if maker or self.pane or self.commands.link.is_read_only or note == self.mended else note
 
     def mend(self, is_late: bool = False) -> bool:
         """Gives the session its size back where a front end made it larger that has left, and tells whether it does: what that typed last
         may not be taken yet. Where somebody else types, or the session had another size meanwhile, it may have that of his zoom: of that
-        the keeper tells, maybe a moment after the panes are told, which is late enough."""
+        the host tells, maybe a moment after the panes are told, which is late enough."""
         note, size = self.left_by(), self.session_size()
         if not note or size == NO_SIZE:
             return False
@@ -282,7 +282,7 @@ class Zooming:
             self.loop.later("zoom left", LEFT, self.overrule_late)
         elif is_late or note != self.unseen and self.commands.has_others() is False:
             self.loop.drop("zoom comes")
-            self.commands.give(note.size)
+            self.commands.request_size(note.size)
             return True
         elif "zoom comes" not in self.loop.due:
             self.loop.later("zoom comes", LEFT, lambda: self.commands.mend(is_late=True))
@@ -290,17 +290,17 @@ class Zooming:
 
     def session_size(self) -> Size:
         """The session's size, or the one that it was given and may still get."""
-        return self.commands.given or self.commands.session_size()
+        return self.commands.requested_size or self.commands.session_size()
 
     def overrule_late(self) -> None:
-        """Tells the keeper that such a zoom is over, where nothing has come of it."""
+        """Tells the host that such a zoom is over, where nothing has come of it."""
         note, size = self.left_by(), self.session_size()
         if note and size != NO_SIZE and size not in note.asked:
             self.overrule()
 
     def overrule(self) -> None:
-        """Tells the keeper that a zoom which a front end has left is over: the session's size is one that it was given otherwise."""
+        """Tells the host that a zoom which a front end has left is over: the session's size is one that it was given otherwise."""
         note = self.left_by()
-        if note and self.commands.shells:
+        if note and self.commands.host:
             self.mended = note
-            self.commands.shells.note_zoom(None)
+            self.commands.host.note_zoom(None)

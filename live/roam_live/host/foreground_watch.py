@@ -15,7 +15,7 @@ if TYPE_CHECKING:
         """A pane whose program is looked up: its number, which making of that it is, and its pseudo-terminal while it has one."""
 
         number: int
-        life: int
+        generation: int
         terminal: int | None
 
 # So many seconds after something came it is looked up, since a program that was begun is in front a moment later; and so many lie between
@@ -46,7 +46,7 @@ class Fronts:
         self.looked[pane.number] = self.loop.clock()
         group = None if pane.terminal is None else group_in_front(pane.terminal)
         if group:
-            self.tells(pane.number, pane.life, name_of(group))
+            self.tells(pane.number, pane.generation, name_of(group))
 
     def drop(self, number: int) -> None:
         """Forgets a pane that is gone."""

@@ -1,4 +1,4 @@
-"""What is typed into a pane and waits for its programs: bytes, and texts at the places of their marks."""
+"""What is typed into a pane and waits for its programs: bytes, and texts at the places of their placeholders."""
 from __future__ import annotations
 
 import re
@@ -6,30 +6,30 @@ from collections import deque
 from collections.abc import Callable
 
 from roam_live.common.io import UNREAD_LIMIT, keep, write
-from roam_live.host.pending_pastes import GivenText, GivenTexts
+from roam_live.host.pending_pastes import PendingPaste, PendingPastes
 from roam_live.protocol.paste_text import CLOSES, OPENS, without_brackets
 
-# A mark: APC, a name and ST, in their forms of U+009F and U+009C, in UTF-8; and the beginning of one at the end of what came.
-MARK = re.compile(rb"\xc2\x9f([0-9a-f]{16})\xc2\x9c")
+# A placeholder: APC, a name and ST, in their forms of U+009F and U+009C, in UTF-8; and the beginning of one at the end of what came.
+PLACEHOLDER = re.compile(rb"\xc2\x9f([0-9a-f]{16})\xc2\x9c")
 BEGUN = re.compile(rb"\xc2(?:\x9f(?:[0-9a-f]{0,16}|[0-9a-f]{16}\xc2))?\Z")
 LONGEST_BEGUN = 19
 
 INTERRUPT = b"\x03"
 
 
-class Marks:
-    """Finds marks in what is typed, however that is cut."""
+class Placeholders:
+    """Finds placeholders in what is typed, however that is cut."""
 
     def __init__(self) -> None:
         self.rest = b""
 
     def fed(self, typed: bytes) -> list[bytes]:
-        """The bytes before, between and behind marks, as they were typed, and the names of these between them: so every second one is a
-        name. What may begin a mark at the end waits for more."""
+        """The bytes before, between and behind placeholders, as they were typed, and the names of these between them: so every second one
+        is a name. What may begin a placeholder at the end waits for more."""
         if not self.rest and b"\xc2" not in typed:
             return [typed]
         text, self.rest = self.rest + typed, b""
-        parts = MARK.split(text)
+        parts = PLACEHOLDER.split(text)
         begun = BEGUN.search(parts[-1], max(0, len(parts[-1]) - LONGEST_BEGUN))
         if begun:
             self.rest, parts[-1] = begun[0], parts[-1][: begun.start()]
@@ -39,7 +39,7 @@ class Marks:
 class PlacedText:
     """A text at its place: what of it, and of the brackets round it, is still to be typed."""
 
-    def __init__(self, text: GivenText) -> None:
+    def __init__(self, text: PendingPaste) -> None:
         self.text = text
         self.waiting = bytearray()
         self.length = self.tail = 0
@@ -75,9 +75,9 @@ class PlacedText:
 class TypedQueue:
     """What waits for a pane's programs, in the order in which it was typed: one text after the other, each whole."""
 
-    def __init__(self, texts: GivenTexts, wants_brackets: Callable[[], object]) -> None:
+    def __init__(self, texts: PendingPastes, wants_brackets: Callable[[], object]) -> None:
         self.texts, self.wants_brackets = texts, wants_brackets
-        self.marks = Marks()
+        self.placeholders = Placeholders()
         self.parts: deque[bytearray | PlacedText] = deque()
         # How many bytes wait that were typed as such.
         self.typed = 0
@@ -94,10 +94,10 @@ class TypedQueue:
         return self.typed + sum(len(part) for part in self.parts if isinstance(part, PlacedText))
 
     def take(self, typed: bytes) -> bool:
-        """Has what was typed wait, a text in the place of its mark, and tells whether all of it was kept. A mark of a text that isn't known
-        is nothing."""
+        """Has what was typed wait, a text in the place of its placeholder, and tells whether all of it was kept. A placeholder of a text
+        that isn't known is nothing."""
         is_kept = True
-        for place, part in enumerate(self.marks.fed(typed)):
+        for place, part in enumerate(self.placeholders.fed(typed)):
             if place % 2:
                 self.place(part.decode())
             elif part:
@@ -201,5 +201,5 @@ class TypedQueue:
         """Drops all, since nobody is there any more."""
         while self.parts:
             self.end_first()
-        self.typed, self.marks = 0, Marks()
+        self.typed, self.placeholders = 0, Placeholders()
         self.is_pasted = self.is_bracketed = False

@@ -6,7 +6,7 @@ import re
 # What sets and resets application mode: DECKPAM; DECKPNM, RIS and DECSTR. An escape ends whatever it stands in, so that none is hidden.
 ASKED = re.compile(rb"\x1b(?:(=)|[>c]|\[!p)")
 
-# So many bytes at the end of a piece may begin one.
+# So many bytes at the end of a chunk may begin one.
 LONGEST = 3
 
 # An escape with one of these begins a control string, in which a bell doesn't ring. A bell ends one, and so do these and any escape.
@@ -15,17 +15,17 @@ ENDS = re.compile(rb"[\x18\x1a]")
 
 
 class Keypad:
-    """The keypad of one pane, by what its programs write in any pieces."""
+    """The keypad of one pane, by what its programs write in any chunks."""
 
     def __init__(self) -> None:
         self.is_application = False
         self.rest = b""
 
-    def fed(self, piece: bytes) -> None:
-        """Goes on with a piece."""
-        if not self.rest and b"\x1b" not in piece:
+    def fed(self, chunk: bytes) -> None:
+        """Goes on with a chunk."""
+        if not self.rest and b"\x1b" not in chunk:
             return
-        text = self.rest + piece
+        text = self.rest + chunk
         for found in ASKED.finditer(text):
             self.is_application = found[1] is not None
         begun = text.rfind(b"\x1b", -LONGEST)
@@ -33,17 +33,17 @@ class Keypad:
 
 
 class Bells:
-    """Finds bells in what a program writes, in any pieces."""
+    """Finds bells in what a program writes, in any chunks."""
 
     def __init__(self) -> None:
         self.is_string = False
         self.rest = b""
 
-    def rung(self, piece: bytes) -> bool:
-        """Whether a bell rings in a piece."""
-        if not self.is_string and not self.rest and b"\x07" not in piece and b"\x1b" not in piece:
+    def rung(self, chunk: bytes) -> bool:
+        """Whether a bell rings in a chunk."""
+        if not self.is_string and not self.rest and b"\x07" not in chunk and b"\x1b" not in chunk:
             return False
-        *parts, last = (self.rest + piece).split(b"\x07")
+        *parts, last = (self.rest + chunk).split(b"\x07")
         rings = False
         for part in parts:
             self.go_on(part)

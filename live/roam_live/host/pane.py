@@ -1,4 +1,4 @@
-"""A pane of a session at the keeper of its shells: the command on its pseudo-terminal, the pane's socket, and what waits for either."""
+"""A pane of a session at the pty host: the command on its pseudo-terminal, the pane's socket, and what waits for either."""
 from __future__ import annotations
 
 import contextlib
@@ -19,7 +19,7 @@ from roam_live.common.io import UNREAD_LIMIT, read, write
 from roam_live.common.unix_socket import connected_now
 from roam_live.host.input_queue import TypedQueue
 from roam_live.host.output_scan import Bells, Keypad
-from roam_live.session.environment import AGENT, NAMES, Brought, agent_in
+from roam_live.session.environment import AGENT, NAMES, PaneEnvironment, agent_in
 from roam_live.session.foreground import PANE, group_in_front
 
 # How many bytes may wait for a pane; no more of the command's are read then. What waits here and in the socket is what is still shown
@@ -56,8 +56,8 @@ LAST_SHELL = "/bin/sh"
 
 
 class Options:
-    """What a keeper is asked for, of the panes in a folder: their command, the user's shell where none is named; the server's process,
-    where it is known; whether a command's end closes its pane, and whether another keeper was there before. Where they are those of a
+    """What a host is asked for, of the panes in a folder: their command, the user's shell where none is named; the server's process,
+    where it is known; whether a command's end closes its pane, and whether another host was there before. Where they are those of a
     window of a session, its number, and the session's own folder; or whether the folder is that of a session with windows,
     of which the first one's server is being spawned by who launches it."""
 
@@ -81,10 +81,10 @@ class Options:
         return f"pane {pane} of window {self.window}" if self.window else f"pane {pane}"
 
 
-def surroundings(asked: Options, pane: int, brought: Brought) -> dict[str, str]:
+def surroundings(asked: Options, pane: int, pane_environment: PaneEnvironment) -> dict[str, str]:
     """The environment of a pane's command, with what was brought to the session."""
     kept = {name: value for name, value in os.environ.items() if name not in (*FOREIGN, *NAMES, ASKS_WHY)}
-    return {**kept, **spawn.names(), **brought.set_values(), AGENT: agent_in(asked.common), PANE: f"{asked.dir}:{pane}"}
+    return {**kept, **spawn.names(), **pane_environment.set_values(), AGENT: agent_in(asked.common), PANE: f"{asked.dir}:{pane}"}
 
 
 def entered(folder: str) -> dict[str, str]:
@@ -108,9 +108,9 @@ class PaneCommand:
     It has no socket before it is connected, and no terminal before its command is run.
     """
 
-    def __init__(self, asked: Options, loop: Loop, number: int, life: int, size: tty.Size, is_again: bool, folder: str,
+    def __init__(self, asked: Options, loop: Loop, number: int, generation: int, size: tty.Size, is_again: bool, folder: str,
                  typed: TypedQueue) -> None:
-        self.asked, self.loop, self.number, self.life, self.size, self.is_again = asked, loop, number, life, size, is_again
+        self.asked, self.loop, self.number, self.generation, self.size, self.is_again = asked, loop, number, generation, size, is_again
         self.path = f"{asked.dir}/p{number}"
         self.named = asked.named(number)
         # Where its command begins; and its own one, where it isn't that of all panes.
@@ -138,10 +138,10 @@ class PaneCommand:
         self.is_touched = self.has_news = False
         self.touches: Callable[[], object] = lambda: None
         # What new panes have of those who attached.
-        self.brought = Brought()
+        self.pane_environment = PaneEnvironment()
         # What has it known what the server told of the panes before it handed out what was typed.
         self.follows: Callable[[], object] = lambda: None
-        # What takes all that is written to the pane, for the rows that are kept, and whether it takes more now.
+        # What takes all that is written to the pane, for the scrollback rows, and whether it takes more now.
         self.keeps: Callable[[bytes], object] = lambda data: None
         self.hears: Callable[[], bool] = always
         # Exceptions in callbacks of this pane, and what is called after too many.
@@ -169,7 +169,7 @@ class PaneCommand:
         self.run()
 
     def show(self, text: bytes) -> None:
-        """Send output to the pane, at once as far as it takes it, and to the kept rows."""
+        """Send output to the pane, at once as far as it takes it, and to the scrollback rows."""
         is_first = not self.to_pane
         self.to_pane += text
         self.keeps(text)
@@ -193,7 +193,7 @@ class PaneCommand:
             return
         if self.process == 0:
             try:
-                environment = {**surroundings(self.asked, self.number, self.brought), **entered(self.folder)}
+                environment = {**surroundings(self.asked, self.number, self.pane_environment), **entered(self.folder)}
                 spawn.become(self.command or self.asked.command, environment, None if self.command else self.asked.instead)
             finally:
                 os._exit(127)
@@ -231,7 +231,7 @@ class PaneCommand:
         self.see_to_ends()
 
     def fail(self, fault: Exception) -> None:
-        """Drop the piece whose callback failed, and give up after too many failures. If memory is short, only pause."""
+        """Drop the chunk whose callback failed, and give up after too many failures. If memory is short, only pause."""
         is_last = not isinstance(fault, MemoryError) and self.faults.is_last()
         if is_last:
             self.gives_up()
@@ -333,20 +333,20 @@ class PaneCommand:
 
     def hear_terminal(self) -> None:
         """Takes what the programs wrote, as far as there is room: a program that writes line by line hands out little at once."""
-        pieces: list[bytes] = []
+        chunks: list[bytes] = []
         room, written = LIMIT - len(self.to_pane), None
         while self.terminal is not None and room > 0:
             written = read(self.terminal)
             if not written:
                 break
-            pieces.append(written)
+            chunks.append(written)
             room -= len(written)
-        if pieces:
-            self.take(b"".join(pieces))
+        if chunks:
+            self.take(b"".join(chunks))
         if written == b"":
             self.take(written)
         elif self.has_ended:
-            self.note_last(sum(map(len, pieces)), room > 0)
+            self.note_last(sum(map(len, chunks)), room > 0)
 
     def write_terminal(self) -> None:
         """Writes what the programs take; what is gone takes no more."""

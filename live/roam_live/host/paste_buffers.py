@@ -1,4 +1,4 @@
-"""Buffers: the texts that were copied last in a session, which the keeper of shells keeps as long as it is there."""
+"""Buffers: the texts that were copied last in a session, which the pty host keeps as long as it is there."""
 from __future__ import annotations
 
 # So many are kept, the newest, of so many bytes each; and of texts that come at once to be buffers there are so many bytes.
@@ -12,7 +12,7 @@ SAMPLE = 40
 TOO_LONG = f"a buffer has {MOST_BUFFER >> 20} MB at most"
 EMPTY = "a buffer has a character at least"
 TOO_MUCH = "too many buffers come at once"
-WATCHES = "who watches has no buffer kept"
+READ_ONLY = "who watches has no buffer kept"
 UNKNOWN = "no buffer has this number"
 NOTHING = "nothing of that buffer can be typed"
 

@@ -1,23 +1,23 @@
-"""Texts that wait at the keeper of shells: each was given under a name, until it is typed at the place of its mark."""
+"""Texts that wait at the pty host: each was given under a name, until it is typed at the place of its placeholder."""
 from __future__ import annotations
 
 from collections import OrderedDict
 from collections.abc import Callable
 
 from roam_live.common.event_loop import Loop
-from roam_live.protocol.paste_text import HELD, LOST, MOST_BYTES, MOST_TEXTS, PUT, TOO_LONG, TOO_MANY
+from roam_live.protocol.paste_text import INSERTED, LOST, MOST_BYTES, MOST_TEXTS, STORED, TOO_LONG, TOO_MANY
 
 # A text waits KEPT seconds since something was done with it.
 KEPT = 60.0
 
 # The timer at which a text has waited for too long.
-WAITED = "given texts"
+WAITED = "pending pastes"
 
 # So many names are known that were spent.
 MOST_SPENT = 1024
 
 
-class GivenText:
+class PendingPaste:
     """A text: its name, its bytes, and whether it is plain, so that no brackets stand round it. A call is for when it waited for too long
     at its place."""
 
@@ -29,12 +29,12 @@ class GivenText:
         self.stop: Callable[[], object] = lambda: None
 
 
-class GivenTexts:
+class PendingPastes:
     """All that wait, and what was spent: a call for each that is put or lost."""
 
     def __init__(self, loop: Loop, tells: Callable[[str, str], object]) -> None:
         self.loop, self.tells = loop, tells
-        self.texts: dict[str, GivenText] = {}
+        self.texts: dict[str, PendingPaste] = {}
         # How many bytes are still to come of texts for which there is room.
         self.coming = 0
         self.spent: OrderedDict[str, str] = OrderedDict()
@@ -45,13 +45,13 @@ class GivenTexts:
             return TOO_MANY
         return TOO_LONG if self.coming + length + sum(text.length for text in self.texts.values()) > MOST_BYTES else ""
 
-    def take(self, text: GivenText) -> None:
+    def take(self, text: PendingPaste) -> None:
         """Has a text wait."""
         self.texts[text.name] = text
         self.spent.pop(text.name, None)
         self.renew(text)
 
-    def renew(self, text: GivenText) -> None:
+    def renew(self, text: PendingPaste) -> None:
         """Has a text wait longer, since something was done with it."""
         text.until = self.loop.clock() + KEPT
         if WAITED not in self.loop.due:
@@ -61,23 +61,23 @@ class GivenTexts:
         """What is told of the text of a name."""
         text = self.texts.get(name)
         if text:
-            return PUT if text.is_placed else HELD
+            return INSERTED if text.is_placed else STORED
         return self.spent.get(name, LOST)
 
-    def placed(self, name: str) -> GivenText | None:
-        """The text that is put at its mark, once; None where there is none of this name."""
+    def placed(self, name: str) -> PendingPaste | None:
+        """The text that is put at its placeholder, once; None where there is none of this name."""
         text = self.texts.get(name)
         if not text or text.is_placed:
             return None
         text.is_placed = True
         self.renew(text)
-        self.tells(name, PUT)
+        self.tells(name, INSERTED)
         return text
 
-    def drop(self, text: GivenText) -> None:
+    def drop(self, text: PendingPaste) -> None:
         """Forgets a text that needs no room any more."""
         if self.texts.pop(text.name, None):
-            self.spent[text.name] = PUT if text.is_placed else LOST
+            self.spent[text.name] = INSERTED if text.is_placed else LOST
         while len(self.spent) > MOST_SPENT:
             self.spent.popitem(last=False)
 

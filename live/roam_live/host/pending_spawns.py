@@ -10,7 +10,7 @@ from roam_live.protocol.spawn_request import DONE, LATE, MOST_BYTES, RAN, READY,
 
 TYPE_CHECKING = False
 if TYPE_CHECKING:
-    from roam_live.host.socket_peer import ShellsPeer
+    from roam_live.host.socket_peer import HostPeer
     from roam_live.protocol.panes import Rect
     from roam_live.protocol.spawn_request import Begins
 
@@ -25,7 +25,7 @@ BAD = "its words can't be read"
 class Handed(namedtuple("Handed", "peer begins pane rects")):
     """What was handed over: by whom, what, beside which pane, 0 for a window, and where that was and is."""
 
-    peer: ShellsPeer
+    peer: HostPeer
     begins: Begins
     pane: int
     rects: list[Rect]
@@ -51,17 +51,17 @@ class HandedCommands:
     """Those that wait at a window. A call tells who handed one over what becomes of it; two others tell where a making of a pane is, None
     where it isn't there, and where the program in front in a pane works, or in that in focus for 0."""
 
-    def __init__(self, loop: Loop, tells: Callable[[ShellsPeer, str], object]) -> None:
+    def __init__(self, loop: Loop, tells: Callable[[HostPeer, str], object]) -> None:
         self.loop, self.tells = loop, tells
         self.waiting: dict[str, Handed] = {}
-        self.rect_of: Callable[[int, int], Rect | None] = lambda pane, life: None
+        self.rect_of: Callable[[int, int], Rect | None] = lambda pane, generation: None
         self.folder_beside: Callable[[int], str] = lambda pane: ""
 
     def refusal(self, length: int) -> str:
         """Why no command of so many bytes is taken; nothing where one is."""
         return TOO_LONG if length > MOST_BYTES else TOO_MANY if len(self.waiting) >= MOST_WAITING else ""
 
-    def take(self, peer: ShellsPeer, name: str, beside: tuple[int, int], data: bytes) -> None:
+    def take(self, peer: HostPeer, name: str, beside: tuple[int, int], data: bytes) -> None:
         """Has a command wait for its pane."""
         begins, rect = unpacked(data), self.rect_of(*beside)
         refusal = self.refusal(len(data)) or (BAD if not begins else "" if rect or not beside[0] else NO_PANE)
@@ -102,7 +102,7 @@ class HandedCommands:
         self.tells(found.peer, f"{RAN} {name} {word}")
         return found.begins
 
-    def drop(self, peer: ShellsPeer) -> None:
+    def drop(self, peer: HostPeer) -> None:
         """Drops those of one who has left: nothing else is to have them."""
         for name in [name for name, one in self.waiting.items() if one.peer is peer]:
             del self.waiting[name]

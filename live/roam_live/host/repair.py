@@ -17,7 +17,7 @@ from roam_live.session.window_state import WINDOWS_VERSION, window_folder, windo
 
 TYPE_CHECKING = False
 if TYPE_CHECKING:
-    from roam_live.host.windows import KeptWindow, Windows
+    from roam_live.host.windows import HostedWindow, Windows
     from roam_live.session.windowed import WindowedSession
 
 # Suffixes of a session whose name was taken run from 2 to LAST_NUMBER. LONGEST_NAME is the limit of a session's name.
@@ -50,13 +50,13 @@ class Mending:
         # The last message about a failure: it isn't repeated.
         self.said = ""
 
-    def there(self) -> list[KeptWindow]:
+    def there(self) -> list[HostedWindow]:
         """Return the windows that have sockets."""
-        return [window for window in self.windows.windows.values() if window.shells]
+        return [window for window in self.windows.windows.values() if window.host]
 
     def look(self) -> None:
         """Restore what is missing, unless somebody holds the session's lock, as one who launches something there."""
-        if all(window.shells.is_found() for window in self.there() if window.shells):
+        if all(window.host.is_found() for window in self.there() if window.host):
             return
         from roam_live.session.windowed import WindowedSession
 
@@ -90,8 +90,8 @@ class Mending:
             window.processes.note()
             if window.name:
                 window.processes.note_name(window.name)
-            if window.shells:
-                window.shells.listen_in(window.processes.folder)
+            if window.host:
+                window.host.listen_in(window.processes.folder)
         self.windows.common.tell(told)
 
     @staticmethod
@@ -113,11 +113,11 @@ class Mending:
         else:
             raise Fault("no name is free for this session")
         windows.asked.common, windows.folder = common, windows_folder(common)
-        windows.common.shells.unmet.folder = common
+        windows.common.registry.pending_clients.folder = common
         for window in self.there():
             window.processes.common, window.processes.folder = common, window_folder(common, window.number)
-            if window.shells:
-                window.shells.asked.common = common
+            if window.host:
+                window.host.asked.common = common
         begin_agent(common)
         windows.begin_lasting()
         return common
@@ -126,7 +126,7 @@ class Mending:
         """Write the note of this process, and which window was shown last."""
         asked = self.windows.asked
         command = [] if asked.instead else asked.command
-        state = {"version": WINDOWS_VERSION, "command": command, "shells": [os.getpid(), begun(os.getpid())]}
+        state = {"version": WINDOWS_VERSION, "command": command, "host": [os.getpid(), begun(os.getpid())]}
         replace_text(os.path.join(common, "state.json"), json.dumps(state))
         os.makedirs(windows_folder(common), 0o700, exist_ok=True)
         if self.windows.last:

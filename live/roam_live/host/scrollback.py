@@ -1,5 +1,5 @@
-"""Keeps the rows that leave the screens of a session's panes, by the filter of rows: what it is handed of each pane, and what is lost where
-it doesn't keep up or ends."""
+"""Keeps the rows that leave the screens of a session's panes, by the scrollback process: what it is handed of each pane, and what is lost
+where it doesn't keep up or ends."""
 from __future__ import annotations
 
 import contextlib
@@ -10,7 +10,8 @@ from roam_live.common.errors import Fault, reason
 from roam_live.common.event_loop import Loop
 from roam_live.common.process import program
 from roam_live.config.environment import DEFAULT_ROWS, chosen_history
-from roam_live.host.scrollback_process import CLEARED, LEAST_SIZE, LOST, MOST_SIZE, MOST_TERMINALS, ROWS, RowFilter, RowRecord
+from roam_live.host.scrollback_process import (CLEARED, LEAST_SIZE, LOST, MOST_SIZE, MOST_TERMINALS, ROWS, ScrollbackProcess,
+                                               ScrollbackRecord)
 from roam_live.host.scrollback_store import PaneRows, RowsRoom, Snapshot
 
 TYPE_CHECKING = False
@@ -20,18 +21,20 @@ if TYPE_CHECKING:
     # What is called with a snapshot; None where none can be had.
     Told = Callable[["Snapshot | None"], object]
 
-# So many bytes wait for the filter before no pane is read, until half of them do; and so many seconds a pane isn't read for that.
+# So many bytes wait for the scrollback process before no pane is read, until half of them do; and so many seconds a pane isn't read for
+# that.
 QUEUE = 1 << 18
 WAITS = 1.0
 
-# So many seconds the filter has for telling what stands on a screen, and so many questions of that wait for one pane.
+# So many seconds the scrollback process has for telling what stands on a screen, and so many questions of that wait for one pane.
 SCREEN_WAIT = 2.0
 MOST_AWAITED = 64
 
 # Bytes held in reserve, freed first if memory is short.
 RESERVED = 1 << 18
 
-# The pauses before the filter is spawned again; one that ran for so many seconds was sound. The same isn't told again for so many.
+# The pauses before the scrollback process is spawned again; one that ran for so many seconds was sound. The same isn't told again for so
+# many.
 PAUSES = (0.1, 1, 5, 15, 60)
 SOUND = 10.0
 TOLD_FOR = 60.0
@@ -45,8 +48,8 @@ SHOWS_OTHER = b"\x1b[?1049h"
 # The status of a program that doesn't know the command, as an earlier one.
 UNKNOWN = 2
 
-BEHIND = "rows of history are lost: what filters them doesn't keep up"
-ENDED = "rows of history are lost: what filters them ended: {}; it is spawned again"
+BEHIND = "rows of history are lost: the scrollback process doesn't keep up"
+ENDED = "rows of history are lost: the scrollback process ended: {}; it is spawned again"
 SHORT = "rows of history are dropped: memory is short"
 NOT_RUN = "no rows of history are kept: {}; tried again"
 EARLIER = "no rows of history are kept: the program is an earlier one"
@@ -74,13 +77,14 @@ def chosen_rows() -> tuple[int, str]:
         return DEFAULT_ROWS, f"{fault}; {DEFAULT_ROWS} rows are kept of a pane"
 
 
-class KeptPane:
-    """A making of a pane: its rows, its size, and the terminal of the filter that stands for it, or -1."""
+class PaneScrollback:
+    """A making of a pane: its rows, its size, and the terminal of the scrollback process that stands for it, or -1."""
 
     def __init__(self, rows: PaneRows, size: Size) -> None:
         self.rows, self.size = rows, size
         self.terminal = -1
-        # Whether something that was written wasn't handed to the filter; and whether rows are lost, and the rows don't say so yet.
+        # Whether something that was written wasn't handed to the scrollback process; and whether rows are lost, and the rows don't say so
+        # yet.
         self.lacks = self.is_cut = False
         # Who wants to know what stands on its screen; None for one who was told that it can't be had.
         self.awaited: deque[Told | None] = deque()
@@ -90,8 +94,8 @@ class KeptPane:
         self.has_last = self.is_gone = False
 
 
-class RowKeeper:
-    """All panes' rows, and the filter. A call tells what a person has to know."""
+class Scrollback:
+    """All panes' rows, and the scrollback process. A call tells what a person has to know."""
 
     def __init__(self, loop: Loop, tells: Callable[[str], object], most_rows: int | None = None) -> None:
         self.loop, self.tells = loop, tells
@@ -99,15 +103,16 @@ class RowKeeper:
         if wrong:
             tells(wrong)
         self.room = RowsRoom(chosen if most_rows is None else most_rows)
-        self.panes: dict[int, KeptPane] = {}
+        self.panes: dict[int, PaneScrollback] = {}
         # Panes that are gone, and whose last screen is awaited.
-        self.leaving: list[KeptPane] = []
-        self.filter: RowFilter | None = None
-        # Whose rows the filter's terminals print, and those that are to be ended once it takes more.
-        self.terminals: dict[int, KeptPane] = {}
+        self.leaving: list[PaneScrollback] = []
+        self.process: ScrollbackProcess | None = None
+        # Whose rows the scrollback process's terminals print, and those that are to be ended once it takes more.
+        self.terminals: dict[int, PaneScrollback] = {}
         self.last = -1
         self.ending: list[int] = []
-        # Whether the filter is behind, so that no pane is read; and whether it was for too long, so that what is written is lost.
+        # Whether the scrollback process is behind, so that no pane is read; and whether it was for too long, so that what is written is
+        # lost.
         self.is_behind = self.is_losing = False
         self.faults, self.since = 0, 0.0
         self.is_off = self.room.most_rows == 0
@@ -124,18 +129,18 @@ class RowKeeper:
         self.is_other: Callable[[int], bool] = lambda number: False
         self.spawn()
 
-    # ---- the filter
+    # ---- the scrollback process
 
     def words(self) -> list[str]:
-        """The command of the filter."""
-        return [program(), "rows", "--as-meant"]
+        """The command of the scrollback process."""
+        return [program(), "rows", "--normalize"]
 
     def spawn(self) -> None:
-        """Has a filter; where none can be had that is tried again."""
+        """Has a scrollback process; where none can be had that is tried again."""
         if self.is_off:
             return
         try:
-            self.filter = RowFilter(self.loop, self.words(), self.take, self.wrote, self.ended, self.reads, self.shed)
+            self.process = ScrollbackProcess(self.loop, self.words(), self.take, self.wrote, self.ended, self.reads, self.shed)
         except (Fault, OSError) as fault:
             self.tell(NOT_RUN.format(reason(fault)))
             self.spawn_later()
@@ -143,13 +148,13 @@ class RowKeeper:
         self.since = self.loop.clock()
 
     def spawn_later(self) -> None:
-        """Has another filter after a pause, which grows."""
+        """Has another scrollback process after a pause, which grows."""
         self.loop.later("rows again", PAUSES[min(self.faults, len(PAUSES) - 1)], self.spawn)
         self.faults += 1
 
     def ended(self, why: str, status: int | None) -> None:
-        """Goes on where the filter ended: what its terminals showed is lost."""
-        self.filter = None
+        """Goes on where the scrollback process ended: what its terminals showed is lost."""
+        self.process = None
         self.loop.drop("rows are behind")
         self.terminals.clear()
         self.ending.clear()
@@ -186,28 +191,28 @@ class RowKeeper:
         return not self.is_behind
 
     def reads(self) -> bool:
-        """Whether what the filter prints is read now."""
+        """Whether what the scrollback process prints is read now."""
         return not (self.logs and self.waits_for_logs())
 
     def has_room(self) -> bool:
-        """Whether the filter takes records beside what is written."""
-        return self.filter is not None and self.filter.is_there and not self.is_losing and self.filter.size() < 2 * QUEUE
+        """Whether the scrollback process takes records beside what is written."""
+        return self.process is not None and self.process.is_there and not self.is_losing and self.process.size() < 2 * QUEUE
 
     def set_behind(self, is_behind: bool) -> None:
-        """Read panes, or stop, depending on whether the filter keeps up."""
+        """Read panes, or stop, depending on whether the scrollback process keeps up."""
         if is_behind != self.is_behind:
             self.is_behind = is_behind
             self.hears_changed()
 
     def demand_room(self) -> None:
-        """Has no pane read for a while where too much waits for the filter."""
-        if self.filter and not self.is_behind and not self.is_losing and self.filter.size() >= QUEUE:
+        """Has no pane read for a while where too much waits for the scrollback process."""
+        if self.process and not self.is_behind and not self.is_losing and self.process.size() >= QUEUE:
             self.set_behind(True)
             self.loop.later("rows are behind", WAITS, self.lose)
 
     def wrote(self) -> None:
-        """Goes on once the filter took enough."""
-        size = self.filter.size() if self.filter else 0
+        """Goes on once the scrollback process took enough."""
+        size = self.process.size() if self.process else 0
         if self.is_behind and size <= QUEUE // 2:
             self.set_behind(False)
             self.loop.drop("rows are behind")
@@ -217,25 +222,25 @@ class RowKeeper:
             self.end_terminals()
 
     def lose(self) -> None:
-        """Reads panes again, and hands nothing to the filter until it has taken what waits."""
+        """Reads panes again, and hands nothing to the scrollback process until it has taken what waits."""
         self.is_losing = True
         self.set_behind(False)
         self.tell(BEHIND)
 
     # ---- panes
 
-    def begin(self, number: int, life: int, size: Size) -> None:
+    def begin(self, number: int, generation: int, size: Size) -> None:
         """Keeps the rows of a new making of a pane."""
         self.drop(number)
-        self.panes[number] = KeptPane(self.room.pane(number, life), size)
+        self.panes[number] = PaneScrollback(self.room.pane(number, generation), size)
 
     def resize(self, number: int, size: Size) -> None:
         """Goes by a new size of a pane."""
         pane = self.panes.get(number)
         if pane and pane.size != size:
             pane.size = size
-            if self.filter and pane.terminal >= 0 and self.has_room():
-                self.filter.add("size {} {} {}".format(pane.terminal, *allowed(size)))
+            if self.process and pane.terminal >= 0 and self.has_room():
+                self.process.add("size {} {} {}".format(pane.terminal, *allowed(size)))
             elif pane.terminal >= 0:
                 self.cut(pane)
 
@@ -244,48 +249,48 @@ class RowKeeper:
         pane = self.panes.get(number)
         if self.is_off or not pane or not data:
             return
-        if not self.filter or not self.filter.is_there or self.is_losing:
+        if not self.process or not self.process.is_there or self.is_losing:
             pane.lacks = True
             return
         try:
             self.demand_terminal(pane)
-            self.filter.add_bytes(pane.terminal, data)
+            self.process.add_bytes(pane.terminal, data)
         except MemoryError:
             pane.lacks = True
             self.shed()
         self.demand_room()
 
-    def demand_terminal(self, pane: KeptPane) -> None:
-        """Has the filter have a terminal for a pane; where something of it is lost it is another than before."""
-        if not self.filter or pane.terminal >= 0 and not pane.lacks:
+    def demand_terminal(self, pane: PaneScrollback) -> None:
+        """Has the scrollback process have a terminal for a pane; where something of it is lost it is another than before."""
+        if not self.process or pane.terminal >= 0 and not pane.lacks:
             return
         self.cut(pane)
         self.last = (self.last + 1) % MOST_TERMINALS
         pane.terminal = self.last
         self.terminals[self.last] = pane
-        self.filter.add("pane {} {} {}".format(self.last, *allowed(pane.size)))
+        self.process.add("pane {} {} {}".format(self.last, *allowed(pane.size)))
         if pane.is_cut and self.is_other(pane.rows.pane):
-            self.filter.add_bytes(self.last, SHOWS_OTHER)
+            self.process.add_bytes(self.last, SHOWS_OTHER)
 
-    def cut(self, pane: KeptPane) -> None:
+    def cut(self, pane: PaneScrollback) -> None:
         """Has a pane's terminal count no more, where it has one: of what was written there something isn't known."""
         pane.is_cut = pane.is_cut or pane.lacks or pane.terminal >= 0
         pane.lacks = False
         self.end_terminal(pane)
         self.answer_all(pane)
 
-    def end_terminal(self, pane: KeptPane) -> None:
+    def end_terminal(self, pane: PaneScrollback) -> None:
         """Ends the terminal of a pane; what it printed may still come."""
-        if pane.terminal >= 0 and self.filter:
+        if pane.terminal >= 0 and self.process:
             self.ending.append(pane.terminal)
             self.end_terminals()
         pane.terminal = -1
 
     def end_terminals(self) -> None:
-        """Tells the filter which terminals end, where that isn't more than it takes."""
-        if self.filter and self.has_room():
+        """Tells the scrollback process which terminals end, where that isn't more than it takes."""
+        if self.process and self.has_room():
             for terminal in self.ending:
-                self.filter.add(f"gone {terminal}")
+                self.process.add(f"gone {terminal}")
             self.ending.clear()
 
     def drop(self, number: int) -> None:
@@ -299,7 +304,7 @@ class RowKeeper:
         else:
             self.forget(pane)
 
-    def take_last(self, pane: KeptPane, snapshot: Snapshot | None) -> None:
+    def take_last(self, pane: PaneScrollback, snapshot: Snapshot | None) -> None:
         """Takes the last screen of a pane that is gone, without the blank rows at its end."""
         if snapshot:
             rows = snapshot.screen.data.rstrip(b" \n").split(b"\n") if snapshot.screen.data.strip() else []
@@ -310,12 +315,12 @@ class RowKeeper:
         self.loop.later(f"last of {id(pane)}", LAST_WAIT, lambda: self.forget(pane))
         self.unlogged(pane)
 
-    def unlogged(self, pane: KeptPane) -> None:
+    def unlogged(self, pane: PaneScrollback) -> None:
         """Keeps nothing more of a pane that is gone, once nobody writes its rows down any more."""
         if pane.has_last and not pane.logs:
             self.forget(pane)
 
-    def forget(self, pane: KeptPane) -> None:
+    def forget(self, pane: PaneScrollback) -> None:
         """Keeps nothing more of a pane that is gone."""
         if pane.is_gone:
             return
@@ -328,9 +333,9 @@ class RowKeeper:
         self.room.drop(pane.rows)
         self.came()
 
-    # ---- what the filter prints
+    # ---- what the scrollback process prints
 
-    def take(self, record: RowRecord) -> None:
+    def take(self, record: ScrollbackRecord) -> None:
         """Takes what it printed of a terminal."""
         pane = self.terminals.get(record.terminal)
         if not pane or pane.is_gone:
@@ -353,7 +358,7 @@ class RowKeeper:
         if pane.logs or self.room.snapshots:
             self.came()
 
-    def add_rows(self, rows: PaneRows, record: RowRecord) -> None:
+    def add_rows(self, rows: PaneRows, record: ScrollbackRecord) -> None:
         """Keep rows. If memory is short, older ones are dropped and these are lost."""
         try:
             rows.add(record.count, record.data)
@@ -363,52 +368,54 @@ class RowKeeper:
 
     # ---- what is asked
 
-    def pane(self, number: int, life: int) -> KeptPane | None:
+    def pane(self, number: int, generation: int) -> PaneScrollback | None:
         """A making of a pane, where its rows are kept."""
         found = [self.panes[number]] if number in self.panes else []
         found += [pane for pane in self.leaving if pane.rows.pane == number]
-        return next((pane for pane in found if pane.rows.life == life and not self.is_off), None)
+        return next((pane for pane in found if pane.rows.generation == generation and not self.is_off), None)
 
-    def ask_snapshot(self, number: int, life: int, told: Told) -> None:
-        """Asks for a snapshot, which is told once the filter has told what stands on the screen; None where it can't be had soon."""
-        pane = self.pane(number, life)
+    def ask_snapshot(self, number: int, generation: int, told: Told) -> None:
+        """Asks for a snapshot, which is told once the scrollback process has told what stands on the screen; None where it can't be had
+        soon."""
+        pane = self.pane(number, generation)
         if pane and self.has_room() and len(pane.awaited) < MOST_AWAITED:
             self.ask_screen(pane, told)
         else:
             told(None)
 
-    def ask_screen(self, pane: KeptPane, told: Told) -> None:
-        """Asks the filter, which has room, what stands on a screen."""
+    def ask_screen(self, pane: PaneScrollback, told: Told) -> None:
+        """Asks the scrollback process, which has room, what stands on a screen."""
         self.demand_terminal(pane)
         pane.awaited.append(told)
-        if self.filter:
-            self.filter.add(f"screen {pane.terminal}")
+        if self.process:
+            self.process.add(f"screen {pane.terminal}")
         name = f"screen of {id(pane)}"
         if name not in self.loop.due:
             self.loop.later(name, SCREEN_WAIT, lambda: self.tell_none(pane))
 
-    def tell_none(self, pane: KeptPane) -> None:
-        """Tells all who wait for what stands on a screen that it can't be had. What the filter tells of it later answers nobody."""
+    def tell_none(self, pane: PaneScrollback) -> None:
+        """Tells all who wait for what stands on a screen that it can't be had. What the scrollback process tells of it later answers
+        nobody."""
         waited = list(pane.awaited)
         pane.awaited = deque([None] * len(waited))
         for told in waited:
             if told:
                 told(None)
 
-    def answer_all(self, pane: KeptPane) -> None:
-        """The same, where the filter tells nothing of it later."""
+    def answer_all(self, pane: PaneScrollback) -> None:
+        """The same, where the scrollback process tells nothing of it later."""
         self.loop.drop(f"screen of {id(pane)}")
         self.tell_none(pane)
         pane.awaited.clear()
 
     def close(self) -> None:
-        """Ends the filter, by the end of its input."""
+        """Ends the scrollback process, by the end of its input."""
         self.is_off = True
-        if self.filter:
-            self.filter.end("the session ends")
+        if self.process:
+            self.process.end("the session ends")
 
 
 def allowed(size: Size) -> Size:
-    """The size of the filter's terminal for a pane of a size."""
+    """The size of the scrollback process's terminal for a pane of a size."""
     rows, cols = (min(max(one, least), most) for one, least, most in zip(size, LEAST_SIZE, MOST_SIZE))
     return rows, cols

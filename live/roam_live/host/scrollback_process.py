@@ -1,4 +1,4 @@
-"""The filter of rows, a process of the program: it is handed what programs write, and prints each row that leaves a screen."""
+"""The scrollback process, a process of the program: it is handed what programs write, and prints each row that leaves a screen."""
 from __future__ import annotations
 
 import contextlib
@@ -13,7 +13,7 @@ from roam_live.common.io import read, write
 from roam_live.common.text import one_line
 from roam_live.session.foreground import PANE
 
-# No terminal of the filter has another size than one from the first to the second of these.
+# No terminal of the scrollback process has another size than one from the first to the second of these.
 LEAST_SIZE, MOST_SIZE = (2, 4), (200, 500)
 
 # Terminals have the numbers below this.
@@ -44,11 +44,11 @@ REAPS = 0.05
 
 
 class BadRecord(Exception):
-    """What the filter printed is no record."""
+    """What the scrollback process printed is no record."""
 
 
-class RowRecord(namedtuple("RowRecord", "word terminal count data")):
-    """What the filter prints of a terminal: how many rows, and their bytes."""
+class ScrollbackRecord(namedtuple("ScrollbackRecord", "word terminal count data")):
+    """What the scrollback process prints of a terminal: how many rows, and their bytes."""
 
     word: str
     terminal: int
@@ -67,8 +67,8 @@ def head_of(line: bytes) -> tuple[str, int, int, int]:
     return word, numbers[0], numbers[1], numbers[2] if word in (ROWS, SCREEN) else 0
 
 
-class RowRecords:
-    """Takes apart what the filter prints."""
+class ScrollbackRecords:
+    """Takes apart what the scrollback process prints."""
 
     def __init__(self) -> None:
         # The beginning of a line; or a record's head, what came of its bytes, and how many are missing.
@@ -77,37 +77,37 @@ class RowRecords:
         self.parts: list[bytes] = []
         self.missing = 0
 
-    def fed(self, piece: bytes) -> list[RowRecord]:
-        """Return the records that are complete; BadRecord if one is invalid. After a MemoryError the same piece can be fed again."""
+    def fed(self, chunk: bytes) -> list[ScrollbackRecord]:
+        """Return the records that are complete; BadRecord if one is invalid. After a MemoryError the same chunk can be fed again."""
         before, count = (self.rest, self.head, self.parts, self.missing), len(self.parts)
         try:
-            return self.taken_apart(piece)
+            return self.taken_apart(chunk)
         except MemoryError:
             self.rest, self.head, self.parts, self.missing = before
             del self.parts[count:]
             raise
 
-    def taken_apart(self, piece: bytes) -> list[RowRecord]:
-        """Parse a piece, and return the records that are complete."""
+    def taken_apart(self, chunk: bytes) -> list[ScrollbackRecord]:
+        """Parse a chunk, and return the records that are complete."""
         found, at = [], 0
         if self.missing:
-            self.parts.append(piece[: self.missing])
+            self.parts.append(chunk[: self.missing])
             at = len(self.parts[-1])
             self.missing -= at
             if self.missing:
                 return []
             found.append(self.made(b"".join(self.parts)))
-        piece, at = (self.rest + piece[at:], 0) if self.rest else (piece, at)
+        chunk, at = (self.rest + chunk[at:], 0) if self.rest else (chunk, at)
         self.rest = b""
         while not self.missing:
-            end = piece.find(b"\n", at, at + LONGEST_LINE)
+            end = chunk.find(b"\n", at, at + LONGEST_LINE)
             if end < 0:
-                self.rest = piece[at:]
+                self.rest = chunk[at:]
                 break
-            word, terminal, count, length = head_of(piece[at:end])
+            word, terminal, count, length = head_of(chunk[at:end])
             self.head = word, terminal, count
             at = end + 1 + length
-            data = piece[end + 1 : at]
+            data = chunk[end + 1 : at]
             self.missing = length - len(data)
             if self.missing:
                 self.parts = [data]
@@ -117,9 +117,9 @@ class RowRecords:
             raise BadRecord("it printed a line that is longer than any")
         return found
 
-    def made(self, data: bytes) -> RowRecord:
+    def made(self, data: bytes) -> ScrollbackRecord:
         """A record with its bytes, which have as many rows as it says."""
-        record = RowRecord(*self.head, data)
+        record = ScrollbackRecord(*self.head, data)
         if record.word in (ROWS, SCREEN) and (data.count(b"\n") != record.count or data[-1:] not in (b"", b"\n")):
             raise BadRecord("it printed another number of rows than it said")
         return record
@@ -149,22 +149,22 @@ def spawned(words: list[str]) -> tuple[int, list[int]]:
     return process, [to_it, from_it, said]
 
 
-class RowFilter:
-    """One process of the filter: records to it, which wait here, and from it. A call takes each record, one is for what waits having become
-    less, and one for its end, with why and its status, None where that isn't known. What it prints is read while a call says so; one has
-    memory be free where that is short."""
+class ScrollbackProcess:
+    """One process of the scrollback process: records to it, which wait here, and from it. A call takes each record, one is for what waits
+    having become less, and one for its end, with why and its status, None where that isn't known. What it prints is read while a call says
+    so; one has memory be free where that is short."""
 
-    def __init__(self, loop: Loop, words: list[str], takes: Callable[[RowRecord], object], wrote: Callable[[], object],
+    def __init__(self, loop: Loop, words: list[str], takes: Callable[[ScrollbackRecord], object], wrote: Callable[[], object],
                  ended: Callable[[str, int | None], object], reads: Callable[[], bool] = always,
                  sheds: Callable[[], object] = lambda: None) -> None:
         self.loop, self.takes, self.wrote, self.ended, self.sheds = loop, takes, wrote, ended, sheds
         self.process, (self.input, self.output, self.error) = spawned(words)
-        self.records = RowRecords()
+        self.records = ScrollbackRecords()
         self.waiting = bytearray()
         # What was written for one terminal since the last record of another: it goes as one record.
         self.terminal = -1
-        self.pieces: list[bytes] = []
-        self.pieces_size = 0
+        self.chunks: list[bytes] = []
+        self.chunks_size = 0
         # Whether what waits goes now.
         self.is_due = False
         # Whether it takes records, and prints them; why it was ended.
@@ -175,7 +175,7 @@ class RowFilter:
 
     def size(self) -> int:
         """How many bytes wait for it."""
-        return len(self.waiting) + self.pieces_size
+        return len(self.waiting) + self.chunks_size
 
     def has_batch(self) -> bool:
         """Whether something goes to it now."""
@@ -202,26 +202,26 @@ class RowFilter:
             self.terminal = terminal
         if not self.size():
             self.loop.later(f"hand rows {self.process}", GATHERS, self.hand)
-        self.pieces.append(data)
-        self.pieces_size += len(data)
+        self.chunks.append(data)
+        self.chunks_size += len(data)
         if self.size() >= BATCH:
             self.loop.changed(self.input)
 
     def join(self) -> None:
         """Makes one record of what was written for one terminal."""
-        if self.pieces:
+        if self.chunks:
             try:
-                self.join_pieces()
+                self.join_chunks()
             except MemoryError:
                 self.sheds()
-                self.join_pieces()
+                self.join_chunks()
         self.terminal = -1
 
-    def join_pieces(self) -> None:
-        """Join the pieces into one record. A MemoryError changes nothing."""
-        record = b"bytes %d %d\n" % (self.terminal, self.pieces_size) + b"".join(self.pieces)
+    def join_chunks(self) -> None:
+        """Join the chunks into one record. A MemoryError changes nothing."""
+        record = b"bytes %d %d\n" % (self.terminal, self.chunks_size) + b"".join(self.chunks)
         self.waiting += record
-        self.pieces, self.pieces_size = [], 0
+        self.chunks, self.chunks_size = [], 0
 
     def write(self) -> None:
         """Writes what it takes; where it takes nothing more its end is soon told."""
@@ -235,27 +235,27 @@ class RowFilter:
 
     def hear(self) -> None:
         """Takes what it printed."""
-        piece = read(self.output)
-        if piece is None:
+        chunk = read(self.output)
+        if chunk is None:
             return
-        if not piece:
+        if not chunk:
             self.end("it ended")
             return
         try:
-            records = self.fed(piece)
+            records = self.fed(chunk)
         except BadRecord as fault:
             self.kill(str(fault))
             return
         for record in records:
             self.takes(record)
 
-    def fed(self, piece: bytes) -> list[RowRecord]:
-        """Parse a piece. If memory is short, free some and try once more."""
+    def fed(self, chunk: bytes) -> list[ScrollbackRecord]:
+        """Parse a chunk. If memory is short, free some and try once more."""
         try:
-            return self.records.fed(piece)
+            return self.records.fed(chunk)
         except MemoryError:
             self.sheds()
-            return self.records.fed(piece)
+            return self.records.fed(chunk)
 
     # ---- its end
 
@@ -265,7 +265,7 @@ class RowFilter:
             return
         self.is_there, self.why = False, why
         self.waiting.clear()
-        self.pieces, self.pieces_size = [], 0
+        self.chunks, self.chunks_size = [], 0
         for end in (self.input, self.output):
             self.loop.remove(end)
             os.close(end)
@@ -274,7 +274,7 @@ class RowFilter:
         self.reap()
 
     def fail(self, fault: Exception) -> None:
-        """End the filter after an exception: part of its input or output is lost."""
+        """End the scrollback process after an exception: part of its input or output is lost."""
         self.kill("memory is short" if isinstance(fault, MemoryError) else "there is a fault in what is done with it")
 
     def kill(self, why: str) -> None:

@@ -1,10 +1,10 @@
-"""What is answered at the keeper's socket `shells` of the rows that are kept of panes."""
+"""What is answered at the host's socket `host` of the scrollback rows of panes."""
 from __future__ import annotations
 
 from collections.abc import Callable
 
-from roam_live.host.scrollback import KeptPane, RowKeeper, pane_key, pane_of_key
-from roam_live.host.scrollback_store import KeptRange, Search, Snapshot
+from roam_live.host.scrollback import PaneScrollback, Scrollback, pane_key, pane_of_key
+from roam_live.host.scrollback_store import ScrollbackRange, Search, Snapshot
 
 # So many seconds are spent at once on what is looked for, and so many pass between two lines that tell how many rows came.
 SEARCHES = 0.01
@@ -29,9 +29,9 @@ class RowAsker:
     """One who asks for rows: its snapshot, what is looked for, and which rows it writes down. A call answers it, one tells it a line that
     it didn't ask for, and one is for an answer that came later than the question, behind which its next question is taken."""
 
-    def __init__(self, keeper: RowKeeper, answer: Callable[[bytes], object], tells: Callable[[str], object],
+    def __init__(self, scrollback: Scrollback, answer: Callable[[bytes], object], tells: Callable[[str], object],
                  goes_on: Callable[[], object], window: int = 0) -> None:
-        self.keeper, self.answer, self.tells, self.goes_on = keeper, answer, tells, goes_on
+        self.scrollback, self.answer, self.tells, self.goes_on = scrollback, answer, tells, goes_on
         # The window whose panes are meant.
         self.window = window
         self.snapshot: Snapshot | None = None
@@ -43,7 +43,7 @@ class RowAsker:
         self.search: Search | None = None
         self.found_begin = ""
         # The pane whose rows it writes down as they come, and the next of them.
-        self.logged: KeptPane | None = None
+        self.logged: PaneScrollback | None = None
         self.next_row = 0
         # Whether it was waited for, and is waited for no more until it has all.
         self.is_late = False
@@ -77,98 +77,99 @@ class RowAsker:
         """The number of a pane among those of all windows."""
         return pane_key(self.window, pane)
 
-    def range(self, pane: int, life: int) -> KeptRange | None:
+    def range(self, pane: int, generation: int) -> ScrollbackRange | None:
         """The rows that are meant: those of the snapshot that is held, else those that are kept now."""
         held = self.snapshot
-        if held and (held.pane, held.life) == (self.key(pane), life):
+        if held and (held.pane, held.generation) == (self.key(pane), generation):
             return None if held.is_lost else held
-        kept = self.keeper.pane(self.key(pane), life)
-        return kept.rows.range() if kept else None
+        pane_scrollback = self.scrollback.pane(self.key(pane), generation)
+        return pane_scrollback.rows.range() if pane_scrollback else None
 
-    def count(self, pane: int, life: int) -> None:
+    def count(self, pane: int, generation: int) -> None:
         """Tells the numbers of the rows."""
-        among = self.range(pane, life)
-        self.say(f"count {pane} {life} {among.first} {among.end}" if among else f"count {pane} {life} {NONE}")
+        among = self.range(pane, generation)
+        self.say(f"count {pane} {generation} {among.first} {among.end}" if among else f"count {pane} {generation} {NONE}")
 
-    def rows(self, pane: int, life: int, first: int, count: int) -> None:
+    def rows(self, pane: int, generation: int, first: int, count: int) -> None:
         """Tells rows."""
-        among = self.range(pane, life)
+        among = self.range(pane, generation)
         if among:
-            self.say_rows(pane, life, *among.rows(first, count))
+            self.say_rows(pane, generation, *among.rows(first, count))
         else:
-            self.say(f"rows {pane} {life} {NONE}")
+            self.say(f"rows {pane} {generation} {NONE}")
 
-    def say_rows(self, pane: int, life: int, first: int, found: list[bytes]) -> None:
+    def say_rows(self, pane: int, generation: int, first: int, found: list[bytes]) -> None:
         """Answers with rows."""
         data = b"".join([row + b"\n" for row in found])
-        self.say(f"rows {pane} {life} {first} {len(found)} {len(data)}", data)
+        self.say(f"rows {pane} {generation} {first} {len(found)} {len(data)}", data)
 
     def find(self, words: list[str]) -> bool:
         """Looks for a text, which is told later; whether these are such words."""
         numbers = numbers_in(words[:3]) if len(words) == 5 and words[3] in BACK and words[4] else None
         if not numbers:
             return False
-        pane, life, start = numbers
-        among = self.range(pane, life)
-        self.found_begin = f"found {pane} {life}"
+        pane, generation, start = numbers
+        among = self.range(pane, generation)
+        self.found_begin = f"found {pane} {generation}"
         if among:
             self.search = Search(among, start, BACK[words[3]], words[4])
         else:
             self.say(f"{self.found_begin} {NONE}")
         return True
 
-    def ask_snapshot(self, pane: int, life: int) -> None:
+    def ask_snapshot(self, pane: int, generation: int) -> None:
         """Asks for a snapshot, which is told once it is there; it takes the place of another."""
         self.let_go()
         self.awaited, self.is_asking = self.awaited + 1, True
-        self.keeper.ask_snapshot(self.key(pane), life, lambda snapshot: self.take_snapshot(pane, life, snapshot))
+        self.scrollback.ask_snapshot(self.key(pane), generation, lambda snapshot: self.take_snapshot(pane, generation, snapshot))
         self.is_asking = False
 
-    def take_snapshot(self, pane: int, life: int, snapshot: Snapshot | None) -> None:
+    def take_snapshot(self, pane: int, generation: int, snapshot: Snapshot | None) -> None:
         """Answers with a snapshot."""
         if self.is_closed:
             if snapshot:
-                self.keeper.room.release(snapshot)
+                self.scrollback.room.release(snapshot)
             return
         self.awaited = 0
         self.snapshot, self.more, self.more_due = snapshot, 0, 0.0
         if snapshot:
             screen = snapshot.screen
-            self.say(f"snapshot {pane} {life} {snapshot.first} {snapshot.kept_end} {screen.count} {len(screen.data)}", screen.data)
+            self.say(f"snapshot {pane} {generation} {snapshot.first} {snapshot.scrollback_end} {screen.count} {len(screen.data)}",
+                     screen.data)
         else:
-            self.say(f"snapshot {pane} {life} {NONE}")
+            self.say(f"snapshot {pane} {generation} {NONE}")
         if not self.is_asking:
             self.goes_on()
 
-    def release(self, pane: int, life: int) -> None:
+    def release(self, pane: int, generation: int) -> None:
         """Lets a snapshot go."""
-        if self.snapshot and (self.snapshot.pane, self.snapshot.life) == (self.key(pane), life):
+        if self.snapshot and (self.snapshot.pane, self.snapshot.generation) == (self.key(pane), generation):
             self.let_go()
 
     def let_go(self) -> None:
         """Lets go of the snapshot that is held."""
         if self.snapshot:
-            self.keeper.room.release(self.snapshot)
+            self.scrollback.room.release(self.snapshot)
             self.snapshot = None
 
-    def log(self, pane: int, life: int, first: int) -> None:
+    def log(self, pane: int, generation: int, first: int) -> None:
         """Tells each row from a number on as it comes, until the pane is gone; the last screen too then."""
         self.unlog()
-        self.logged = self.keeper.pane(self.key(pane), life)
+        self.logged = self.scrollback.pane(self.key(pane), generation)
         if self.logged:
             self.logged.logs += 1
-            self.keeper.logs += 1
+            self.scrollback.logs += 1
             self.next_row, self.is_late = first, False
         else:
-            self.say(f"log {pane} {life} {NONE}")
+            self.say(f"log {pane} {generation} {NONE}")
 
     def unlog(self) -> None:
         """Tells no more rows as they come."""
         if self.logged:
             logged, self.logged = self.logged, None
             logged.logs -= 1
-            self.keeper.logs -= 1
-            self.keeper.unlogged(logged)
+            self.scrollback.logs -= 1
+            self.scrollback.unlogged(logged)
 
     # ---- what is told later
 
@@ -179,7 +180,7 @@ class RowAsker:
 
     def go_on_search(self, now: float) -> float | None:
         """Looks through what is to be looked through, for a while."""
-        search, clock = self.search, self.keeper.loop.clock
+        search, clock = self.search, self.scrollback.loop.clock
         if not search:
             return None
         end = clock() + SEARCHES
@@ -194,13 +195,13 @@ class RowAsker:
     def tell_more(self, now: float) -> float | None:
         """Tells how many rows came since the snapshot, where that is another number than was told."""
         held = self.snapshot
-        kept = self.keeper.pane(held.pane, held.life) if held else None
-        if not held or not kept or kept.rows.end - held.kept_end == self.more:
+        pane_scrollback = self.scrollback.pane(held.pane, held.generation) if held else None
+        if not held or not pane_scrollback or pane_scrollback.rows.end - held.scrollback_end == self.more:
             return None
         if now < self.more_due:
             return self.more_due
-        self.more, self.more_due = kept.rows.end - held.kept_end, now + TELLS_MORE
-        self.tells(f"more {pane_of_key(held.pane)[1]} {held.life} {self.more}")
+        self.more, self.more_due = pane_scrollback.rows.end - held.scrollback_end, now + TELLS_MORE
+        self.tells(f"more {pane_of_key(held.pane)[1]} {held.generation} {self.more}")
         return None
 
     def tell_logged(self) -> bool:
@@ -212,12 +213,12 @@ class RowAsker:
         first, found = rows.newest(self.next_row).rows(self.next_row, rows.end) if rows.end > self.next_row else (0, [])
         if found:
             self.next_row = first + len(found)
-            self.say_rows(pane_of_key(rows.pane)[1], rows.life, first, found)
+            self.say_rows(pane_of_key(rows.pane)[1], rows.generation, first, found)
             return True
         self.is_late = False
         if logged.is_gone or logged.has_last and self.next_row == rows.end:
             self.unlog()
-            self.say(f"log {pane_of_key(rows.pane)[1]} {rows.life} {END}")
+            self.say(f"log {pane_of_key(rows.pane)[1]} {rows.generation} {END}")
         return False
 
     def close(self) -> None:

@@ -1,17 +1,17 @@
-"""Rows that left the screens of panes, as the filter of rows printed them: pieces, which are split into rows only where those are asked
-for, the newest of each pane, and no more than a limit in all."""
+"""Rows scrolled off the screens of panes, as the scrollback process printed them: chunks, which are split into rows only where those are
+asked for, the newest of each pane, and no more than a limit in all."""
 from __future__ import annotations
 
 from collections import deque
 from collections.abc import Callable, Iterable, Iterator
 
-# So many bytes all pieces of a session have, with what is counted for each beside its bytes, those of snapshots too, and these alone. The
+# So many bytes all chunks of a session have, with what is counted for each beside its bytes, those of snapshots too, and these alone. The
 # process grows by 64 MB for them at most: what is free between them is more than what is counted beside each.
 MOST_KEPT = 56 << 20
 MOST_HELD = 24 << 20
 BESIDE = 256
 
-# What comes is joined to the last piece while that is shorter.
+# What comes is joined to the last chunk while that is shorter.
 JOINED = 8192
 
 # So many rows and so many bytes are handed out at once, one row at least.
@@ -23,8 +23,8 @@ LOST_ROWS = " [{} rows of history are lost here]\n"
 LOST_SOME = " [rows of history are lost here]\n"
 
 
-class Piece:
-    """Rows that were printed at once: the number of the first, how many there are, their bytes, and its place among all pieces of a
+class Chunk:
+    """Rows that were printed at once: the number of the first, how many there are, their bytes, and its place among all chunks of a
     session; by how many snapshots it is held, and whether it is kept without them."""
 
     __slots__ = ("first", "count", "data", "place", "holders", "is_kept")
@@ -42,11 +42,11 @@ class Piece:
         return len(self.data) + BESIDE
 
 
-class KeptRange:
-    """Rows that can be asked for: the numbers of the first and of that behind the last, and the pieces that hold them, in order."""
+class ScrollbackRange:
+    """Rows that can be asked for: the numbers of the first and of that behind the last, and the chunks that hold them, in order."""
 
-    def __init__(self, first: int, end: int, pieces: Iterable[Piece]) -> None:
-        self.first, self.end, self.pieces = first, end, list(pieces)
+    def __init__(self, first: int, end: int, chunks: Iterable[Chunk]) -> None:
+        self.first, self.end, self.chunks = first, end, list(chunks)
 
     def rows(self, first: int, count: int, most_rows: int = MOST_ROWS, most_bytes: int = MOST_BYTES) -> tuple[int, list[bytes]]:
         """The rows from a number on, as far as they are there, each without its LF: no more than may be handed out at once; and the number
@@ -54,12 +54,12 @@ class KeptRange:
         first = min(max(first, self.first), self.end)
         end, size = min(first + min(count, most_rows), self.end), 0
         found: list[bytes] = []
-        for piece in self.pieces:
-            if piece.first >= end:
+        for chunk in self.chunks:
+            if chunk.first >= end:
                 break
-            if piece.end() <= first:
+            if chunk.end() <= first:
                 continue
-            for row in piece.data.split(b"\n")[max(0, first - piece.first) : min(piece.count, end - piece.first)]:
+            for row in chunk.data.split(b"\n")[max(0, first - chunk.first) : min(chunk.count, end - chunk.first)]:
                 size += len(row) + 1
                 if found and size > most_bytes:
                     return first, found
@@ -67,29 +67,29 @@ class KeptRange:
         return first, found
 
 
-class Snapshot(KeptRange):
+class Snapshot(ScrollbackRange):
     """A pane's rows at one moment: those that were kept, and those of its screen behind them."""
 
-    def __init__(self, kept: PaneRows, screen: Piece) -> None:
-        super().__init__(kept.first, kept.end + screen.count, [*kept.pieces, screen])
-        self.pane, self.life, self.kept_end, self.screen = kept.pane, kept.life, kept.end, screen
+    def __init__(self, pane_rows: PaneRows, screen: Chunk) -> None:
+        super().__init__(pane_rows.first, pane_rows.end + screen.count, [*pane_rows.chunks, screen])
+        self.pane, self.generation, self.scrollback_end, self.screen = pane_rows.pane, pane_rows.generation, pane_rows.end, screen
         # Whether it was dropped, since snapshots held too much.
         self.is_lost = False
 
 
 class PaneRows:
-    """The rows that are kept of one making of a pane."""
+    """The scrollback rows of one making of a pane."""
 
-    def __init__(self, pane: int, life: int, room: RowsRoom) -> None:
-        self.pane, self.life, self.room = pane, life, room
+    def __init__(self, pane: int, generation: int, room: RowsRoom) -> None:
+        self.pane, self.generation, self.room = pane, generation, room
         self.first = self.end = 0
-        self.pieces: deque[Piece] = deque()
-        # How many rows are told to be lost by the last piece, where it tells that; None where no number is known.
+        self.chunks: deque[Chunk] = deque()
+        # How many rows are told to be lost by the last chunk, where it tells that; None where no number is known.
         self.lost: int | None = 0
 
     def add(self, count: int, data: bytes) -> None:
         """Keeps rows that came."""
-        last = self.pieces[-1] if self.pieces else None
+        last = self.chunks[-1] if self.chunks else None
         if last and len(last.data) < JOINED and not last.holders and self.lost == 0:
             joined = last.data + data
             last.data, last.count = joined, last.count + count
@@ -101,16 +101,16 @@ class PaneRows:
         self.keep_last()
 
     def put(self, count: int, data: bytes) -> None:
-        """Has a piece more."""
-        piece = Piece(self.end, count, data, self.room.next_place())
-        self.pieces.append(piece)
-        self.room.charge(piece.charge())
+        """Has a chunk more."""
+        chunk = Chunk(self.end, count, data, self.room.next_place())
+        self.chunks.append(chunk)
+        self.room.charge(chunk.charge())
 
     def lose(self, count: int | None) -> None:
         """Has a row say that rows are lost here, so many where that is known; one stands for all that are lost together."""
-        if self.lost != 0 and not self.pieces[-1].holders:
+        if self.lost != 0 and not self.chunks[-1].holders:
             count = count + self.lost if count is not None and self.lost is not None else None
-            self.room.charge(-self.pieces.pop().charge())
+            self.room.charge(-self.chunks.pop().charge())
             self.end -= 1
         text = LOST_SOME if count is None else LOST_ROWS.format(count)
         self.put(1, text.encode())
@@ -120,52 +120,52 @@ class PaneRows:
     def keep_last(self) -> None:
         """Keeps no more rows than may be, the last ones, and no more bytes in all."""
         self.first = max(self.first, self.end - self.room.most_rows)
-        while self.pieces and self.pieces[0].end() <= self.first:
-            self.drop_piece()
+        while self.chunks and self.chunks[0].end() <= self.first:
+            self.drop_chunk()
         self.room.keep_most()
 
-    def drop_piece(self) -> None:
-        """Keeps the oldest piece no longer."""
-        piece = self.pieces.popleft()
-        self.first = max(self.first, piece.end())
-        self.room.let_go(piece)
-        self.lost = self.lost if self.pieces else 0
+    def drop_chunk(self) -> None:
+        """Keeps the oldest chunk no longer."""
+        chunk = self.chunks.popleft()
+        self.first = max(self.first, chunk.end())
+        self.room.let_go(chunk)
+        self.lost = self.lost if self.chunks else 0
 
     def clear(self) -> None:
         """Keeps none of the rows that came so far."""
-        while self.pieces:
-            self.drop_piece()
+        while self.chunks:
+            self.drop_chunk()
         self.first = self.end
 
-    def range(self) -> KeptRange:
+    def range(self) -> ScrollbackRange:
         """What is kept now."""
-        return KeptRange(self.first, self.end, self.pieces)
+        return ScrollbackRange(self.first, self.end, self.chunks)
 
-    def newest(self, first: int) -> KeptRange:
-        """Return the kept rows from a number on, without a look at all older pieces."""
-        found: deque[Piece] = deque()
-        for piece in reversed(self.pieces):
-            found.appendleft(piece)
-            if piece.first <= first:
+    def newest(self, first: int) -> ScrollbackRange:
+        """Return the scrollback rows from a number on, without a look at all older chunks."""
+        found: deque[Chunk] = deque()
+        for chunk in reversed(self.chunks):
+            found.appendleft(chunk)
+            if chunk.first <= first:
                 break
-        return KeptRange(self.first, self.end, found)
+        return ScrollbackRange(self.first, self.end, found)
 
 
 class RowsRoom:
-    """What the kept rows of all panes of a session take together, and the snapshots of them. The oldest pieces go first, of whichever
+    """What the scrollback rows of all panes of a session take together, and the snapshots of them. The oldest chunks go first, of whichever
     pane."""
 
     def __init__(self, most_rows: int, most_bytes: int = MOST_KEPT, most_held: int = MOST_HELD) -> None:
         self.most_rows, self.most_bytes, self.most_held = most_rows, most_bytes, most_held
         self.panes: list[PaneRows] = []
         self.snapshots: list[Snapshot] = []
-        # What is counted for the pieces that are kept, and for those that snapshots alone hold, with their screens.
+        # What is counted for the chunks that are kept, and for those that snapshots alone hold, with their screens.
         self.kept = self.held = 0
         self.place = 0
 
-    def pane(self, pane: int, life: int) -> PaneRows:
+    def pane(self, pane: int, generation: int) -> PaneRows:
         """The rows of a new making of a pane."""
-        rows = PaneRows(pane, life, self)
+        rows = PaneRows(pane, generation, self)
         self.panes.append(rows)
         return rows
 
@@ -175,7 +175,7 @@ class RowsRoom:
         self.panes.remove(rows)
 
     def next_place(self) -> int:
-        """The place of a new piece among all."""
+        """The place of a new chunk among all."""
         self.place += 1
         return self.place
 
@@ -184,7 +184,7 @@ class RowsRoom:
         self.kept += count
 
     def keep_most(self) -> None:
-        """Drops the oldest pieces while there are too many bytes in all."""
+        """Drops the oldest chunks while there are too many bytes in all."""
         self.drop_oldest(self.most_bytes)
 
     def shed(self) -> None:
@@ -195,30 +195,30 @@ class RowsRoom:
         self.drop_oldest(self.kept // 2)
 
     def drop_oldest(self, most: int) -> None:
-        """Drop the oldest pieces until at most `most` bytes are left."""
+        """Drop the oldest chunks until at most `most` bytes are left."""
         while self.kept + self.held > most:
-            oldest = min((rows for rows in self.panes if rows.pieces), key=lambda rows: rows.pieces[0].place, default=None)
+            oldest = min((rows for rows in self.panes if rows.chunks), key=lambda rows: rows.chunks[0].place, default=None)
             if not oldest:
                 return
-            oldest.drop_piece()
+            oldest.drop_chunk()
 
-    def let_go(self, piece: Piece) -> None:
-        """Counts a piece no more for what is kept; a snapshot may hold it still."""
-        piece.is_kept = False
-        self.kept -= piece.charge()
-        if piece.holders:
-            self.held += piece.charge()
+    def let_go(self, chunk: Chunk) -> None:
+        """Counts a chunk no more for what is kept; a snapshot may hold it still."""
+        chunk.is_kept = False
+        self.kept -= chunk.charge()
+        if chunk.holders:
+            self.held += chunk.charge()
             self.hold_most()
 
     # ---- snapshots
 
     def snapshot(self, rows: PaneRows, count: int, screen: bytes) -> Snapshot:
         """A snapshot of a pane with the rows of its screen; too much that snapshots hold takes the oldest of them."""
-        made = Snapshot(rows, Piece(rows.end, count, screen))
+        made = Snapshot(rows, Chunk(rows.end, count, screen))
         made.screen.is_kept = False
         self.held += made.screen.charge()
-        for piece in made.pieces:
-            piece.holders += 1
+        for chunk in made.chunks:
+            chunk.holders += 1
         self.snapshots.append(made)
         self.hold_most()
         self.keep_most()
@@ -235,11 +235,11 @@ class RowsRoom:
         if snapshot not in self.snapshots:
             return
         self.snapshots.remove(snapshot)
-        for piece in snapshot.pieces:
-            piece.holders -= 1
-            if not piece.holders and not piece.is_kept:
-                self.held -= piece.charge()
-        snapshot.pieces.clear()
+        for chunk in snapshot.chunks:
+            chunk.holders -= 1
+            if not chunk.holders and not chunk.is_kept:
+                self.held -= chunk.charge()
+        snapshot.chunks.clear()
 
 
 # ---- what is looked for
@@ -253,24 +253,24 @@ def characters(data: bytes) -> str:
 
 
 class Search:
-    """Looks for the next row behind a number, or before it, in which a text begins, a piece at a time. Rows that went on are one text; case
+    """Looks for the next row behind a number, or before it, in which a text begins, a chunk at a time. Rows that went on are one text; case
     counts where the text has a capital."""
 
-    def __init__(self, among: KeptRange, start: int, is_back: bool, text: str) -> None:
+    def __init__(self, among: ScrollbackRange, start: int, is_back: bool, text: str) -> None:
         self.is_folded = text == text.lower()
         self.text, self.is_back = text, is_back
         self.first, self.end = (among.first, min(start, among.end)) if is_back else (max(among.first, start + 1), among.end)
-        self.pieces = among.pieces
+        self.chunks = among.chunks
         self.found: int | None = None
         self.places = self.order()
 
     def order(self) -> Iterator[int]:
-        """The places of the pieces that may hold it, in the order in which they are looked through."""
-        places = [place for place, piece in enumerate(self.pieces) if piece.end() > self.first and piece.first < self.end]
+        """The places of the chunks that may hold it, in the order in which they are looked through."""
+        places = [place for place, chunk in enumerate(self.chunks) if chunk.end() > self.first and chunk.first < self.end]
         return reversed(places) if self.is_back else iter(places)
 
     def step(self) -> bool:
-        """Looks through one piece more, and tells whether that was the last that is needed."""
+        """Looks through one chunk more, and tells whether that was the last that is needed."""
         place = next(self.places, None)
         if place is None:
             return True
@@ -278,18 +278,18 @@ class Search:
         return self.found is not None
 
     def lines(self, place: int) -> list[str]:
-        """The characters of a piece's rows, each behind what leads it."""
-        text = characters(self.pieces[place].data)
+        """The characters of a chunk's rows, each behind what leads it."""
+        text = characters(self.chunks[place].data)
         return (text.lower() if self.is_folded else text).split("\n")[:-1]
 
     def following(self, place: int) -> Iterator[str]:
-        """The rows behind a piece, as far as its last row may go on in them."""
-        for behind in range(place + 1, len(self.pieces)):
+        """The rows behind a chunk, as far as its last row may go on in them."""
+        for behind in range(place + 1, len(self.chunks)):
             yield from self.lines(behind)
 
     def found_in(self, place: int) -> int | None:
-        """The number of the row of a piece in which it begins; None where there is none in the part that is looked through."""
-        piece = self.pieces[place]
+        """The number of the row of a chunk in which it begins; None where there is none in the part that is looked through."""
+        chunk = self.chunks[place]
         lines = self.lines(place)
         begins, texts, length = [], [], 0
         for line in lines:
@@ -302,7 +302,7 @@ class Search:
             more -= len(line) - 1
             if line[:1] != "+" or more <= length:
                 break
-        return row_of("".join(texts), self.text, [*begins, length], piece.first, self.first, self.end, self.is_back)
+        return row_of("".join(texts), self.text, [*begins, length], chunk.first, self.first, self.end, self.is_back)
 
 
 def row_of(joined: str, text: str, begins: list[int], number: int, first: int, end: int, is_back: bool) -> int | None:
@@ -318,7 +318,7 @@ def row_of(joined: str, text: str, begins: list[int], number: int, first: int, e
 
 
 def all_of(search: Search, until: Callable[[], bool] = lambda: False) -> bool:
-    """Looks through piece by piece until that is done, or it is to stop; tells whether it is done."""
+    """Looks through chunk by chunk until that is done, or it is to stop; tells whether it is done."""
     while not search.step():
         if until():
             return False

@@ -1,4 +1,4 @@
-"""Who is connected to the socket `shells` of what keeps the shells of a session, and a text that comes from one."""
+"""Who is connected to the socket `host` of the pty host of a session, and a text that comes from one."""
 from __future__ import annotations
 
 import socket
@@ -18,7 +18,7 @@ MOST_WAITING = 1 << 16
 MOST_NAMES = 64
 
 
-class Giving:
+class Upload:
     """A text whose bytes come: they are kept, or passed over where the text is known already, or refused. It is given under a name, or to
     be a buffer."""
 
@@ -39,7 +39,7 @@ class Giving:
         self.left -= count
 
 
-class ShellsPeer:
+class HostPeer:
     """One who is connected, by a number of its own and its process: what came of its lines, what waits for it, and whether it is at a
     terminal."""
 
@@ -60,7 +60,7 @@ class ShellsPeer:
         self.asks_windows = False
         self.opening = 0
         # The text that it gives now, and the names of those of which it wants to know what becomes of them.
-        self.giving: Giving | None = None
+        self.upload: Upload | None = None
         self.names: dict[str, None] = {}
         # What it asks of rows; and how many bytes of answers wait since it took all.
         self.asker: RowAsker | None = None
@@ -80,9 +80,9 @@ class ShellsPeer:
         """Whether much of what it was answered waits for it."""
         return len(self.waiting) > MOST_WAITING
 
-    def watches(self) -> bool:
+    def is_read_only(self) -> bool:
         """Whether it said that it only watches."""
-        return self.presence is not None and self.presence.kind == "watches"
+        return self.presence is not None and self.presence.kind == "read-only"
 
     def wants(self, name: str) -> None:
         """Notes that it wants to know what becomes of a text."""
@@ -101,7 +101,7 @@ class ShellsPeer:
         return [*lines, f"{OTHERS} {len(others)}"] if lines or told is None else []
 
 
-def client_line(peer: ShellsPeer, window: int) -> str:
+def client_line(peer: HostPeer, window: int) -> str:
     """The line that tells who asks of a terminal that is there."""
     there = peer.presence
     assert there

@@ -1,5 +1,5 @@
-"""The socket `shells` of a session's folder, at which who keeps the shells knows who is at the session and what they brought, is given
-texts that are pasted, and tells what runs in the panes."""
+"""The socket `host` of a session's folder, at which the pty host knows who is at the session and what they brought, is pending pastes
+that are pasted, and tells what runs in the panes."""
 from __future__ import annotations
 
 import os
@@ -12,23 +12,23 @@ from roam_live.common.event_loop import Loop
 from roam_live.common.io import read, write
 from roam_live.common.listener import Listener
 from roam_live.common.unix_socket import SocketPeer
-from roam_live.host.paste_buffers import NOTHING, UNKNOWN, WATCHES, Buffers
-from roam_live.host.pending_clients import Unmet
-from roam_live.host.pending_pastes import KEPT, GivenText, GivenTexts
+from roam_live.host.paste_buffers import NOTHING, READ_ONLY, UNKNOWN, Buffers
+from roam_live.host.pending_clients import PendingClients
+from roam_live.host.pending_pastes import KEPT, PendingPaste, PendingPastes
 from roam_live.host.pending_spawns import HandedCommands
 from roam_live.host.scrollback_queries import RowAsker
-from roam_live.host.socket_peer import MOST_WAITING, Giving, ShellsPeer, client_line
+from roam_live.host.socket_peer import MOST_WAITING, HostPeer, Upload, client_line
 from roam_live.protocol.colours import Colours
 from roam_live.protocol.paste_text import LOST, cleaned, random_name
 from roam_live.protocol.presence import CLIENTS, LEAVE, LEAVE_OTHERS, WHO, Attended, Presence, presence_said
 from roam_live.protocol.spawn_request import RAN, REFUSED, RUN
 from roam_live.protocol.zoom_record import OVER, NotedZoom
-from roam_live.session.environment import BROUGHT, Brought
+from roam_live.session.environment import ENVIRONMENT, PaneEnvironment
 
 TYPE_CHECKING = False
 if TYPE_CHECKING:
     from roam_live.common.tty import Size
-    from roam_live.host.scrollback import RowKeeper
+    from roam_live.host.scrollback import Scrollback
     from roam_live.host.scrollback_store import PaneRows
     from roam_live.host.window_commands import WindowLines
 
@@ -56,11 +56,11 @@ ROWS_DUE = "rows are asked for"
 COMMANDS = "commands"
 
 # How one gives a text, whose bytes follow, and asks for one that it gave.
-GIVE = re.compile(r"give ([0-9a-f]{16}) ([1-9]\d{0,8})( plain)?", re.ASCII)
-ASK = re.compile(r"ask ([0-9a-f]{16})", re.ASCII)
+PASTE = re.compile(r"paste ([0-9a-f]{16}) ([1-9]\d{0,8})( plain)?", re.ASCII)
+STATUS = re.compile(r"status ([0-9a-f]{16})", re.ASCII)
 
 # How one gives a buffer, has one kept, whose bytes follow, and asks for one, or for all.
-GIVE_BUFFER = re.compile(r"give ([0-9a-f]{16}) buffer (\d{1,9})", re.ASCII)
+PASTE_BUFFER = re.compile(r"paste ([0-9a-f]{16}) buffer (\d{1,9})", re.ASCII)
 BUFFER = re.compile(r"buffer (add|show) (\d{1,9})", re.ASCII)
 BUFFER_LIST = "buffer list"
 
@@ -70,27 +70,27 @@ BAD_LINE = "bad line"
 LEAVES = re.compile(r"leave (\d{1,9})", re.ASCII)
 
 
-class CommonShells:
-    """What is one at the sockets `shells` of all windows: the name by which the keeper is known, texts that are pasted, buffers, what was
-    brought, colours, the rows that are kept, and who is connected anywhere. Where windows can be opened there are lines for that."""
+class HostRegistry:
+    """What is one at the sockets `host` of all windows: the name by which the host is known, texts that are pasted, buffers, what was
+    brought, colours, the scrollback rows, and who is connected anywhere. Where windows can be opened there are lines for that."""
 
-    def __init__(self, loop: Loop, rows: RowKeeper | None = None) -> None:
+    def __init__(self, loop: Loop, rows: Scrollback | None = None) -> None:
         self.loop, self.rows = loop, rows
         if rows:
             rows.logs_came, rows.waits_for_logs = self.tell_logged, self.has_full_log
             rows.came = self.see_to_rows
-        self.sockets: list[ShellsSocket] = []
+        self.sockets: list[HostServer] = []
         self.last = 0
-        # By it those who come again know whether this is the keeper that was there before.
+        # By it those who come again know whether this is the host that was there before.
         self.name = random_name()
-        self.texts = GivenTexts(loop, self.tell_text)
-        self.brought = Brought()
+        self.texts = PendingPastes(loop, self.tell_text)
+        self.pane_environment = PaneEnvironment()
         self.buffers = Buffers()
         self.colours = Colours()
-        self.attended, self.unmet = Attended(), Unmet(self.processes)
+        self.attended, self.pending_clients = Attended(), PendingClients(self.processes)
         self.lines: WindowLines | None = None
 
-    def peers(self) -> list[ShellsPeer]:
+    def peers(self) -> list[HostPeer]:
         """All who are connected."""
         return [peer for one in self.sockets for peer in one.peers]
 
@@ -159,7 +159,7 @@ class CommonShells:
         """Whether somebody is there who asked for windows."""
         return self.lines is not None and self.lines.has_asked()
 
-    def leave_others(self, asker: ShellsPeer) -> int:
+    def leave_others(self, asker: HostPeer) -> int:
         """Has all terminals told to leave but the one that asks for that; how many that are."""
         found = [(peer, one) for one in self.sockets for peer in list(one.peers) if peer.presence and peer is not asker]
         for peer, one in found:
@@ -182,24 +182,24 @@ class CommonShells:
             one.close()
 
 
-class ShellsSocket:
+class HostServer:
     """The socket of a window: lines of those who connect, and lines back. Where it can't be had that is told, and nobody is known to be
     there. A call is for one more who asks what runs in front in the panes; what is one for all windows is had of who has that."""
 
     def __init__(self, folder: str | os.PathLike[str], loop: Loop, asked_commands: Callable[[], object] = lambda: None,
-                 common: CommonShells | None = None, window: int = 0) -> None:
+                 common: HostRegistry | None = None, window: int = 0) -> None:
         self.loop, self.asked_commands, self.window = loop, asked_commands, window
-        self.common = common or CommonShells(loop)
+        self.common = common or HostRegistry(loop)
         self.common.sockets.append(self)
         self.rows, self.texts, self.buffers = self.common.rows, self.common.texts, self.common.buffers
-        self.peers: list[ShellsPeer] = []
+        self.peers: list[HostPeer] = []
         # Commands for new panes.
         self.handed = HandedCommands(loop, lambda peer, line: self.send(peer, [line]))
         # What is noted of a zoom of this window.
         self.zoom = NotedZoom()
         self.listener: Listener | None = None
         try:
-            self.listener = Listener(loop, os.path.join(folder, "shells"), self.take, self.has_room, lambda fault: None, True)
+            self.listener = Listener(loop, os.path.join(folder, "host"), self.take, self.has_room, lambda fault: None, True)
         except (Fault, OSError) as fault:
             say(f"who is at the session isn't told: {reason(fault)}")
 
@@ -209,7 +209,7 @@ class ShellsSocket:
 
     def take(self, end: socket.socket) -> None:
         """Takes one who came."""
-        peer = ShellsPeer(end, self.common.next_number(), SocketPeer.of(end).process)
+        peer = HostPeer(end, self.common.next_number(), SocketPeer.of(end).process)
         self.peers.append(peer)
         if self.rows:
             peer.asker = RowAsker(self.rows, lambda data: self.answer(peer, data), lambda line: self.send(peer, [line]),
@@ -219,26 +219,26 @@ class ShellsSocket:
 
     # ---- what comes
 
-    def hear(self, peer: ShellsPeer) -> None:
+    def hear(self, peer: HostPeer) -> None:
         """Takes what came of one; who has left, or says what is no line, is let go."""
-        piece = read(peer.end.fileno())
-        if piece == b"":
+        chunk = read(peer.end.fileno())
+        if chunk == b"":
             self.drop(peer)
             return
-        peer.came += piece or b""
+        peer.came += chunk or b""
         self.take_lines(peer)
 
-    def take_lines(self, peer: ShellsPeer) -> None:
+    def take_lines(self, peer: HostPeer) -> None:
         """Takes the lines that came of one, as far as those before are answered."""
         if peer in self.peers:
             self.loop.changed(peer.end)
         while peer in self.peers and not peer.is_busy():
-            if peer.giving:
-                peer.giving.take(peer.came)
-                if peer.giving.left:
+            if peer.upload:
+                peer.upload.take(peer.came)
+                if peer.upload.left:
                     self.wait_for(peer)
                     return
-                self.take_given(peer, peer.giving)
+                self.take_upload(peer, peer.upload)
             end = peer.came.find(b"\n", 0, LONGEST_LINE)
             if end < 0:
                 if len(peer.came) >= LONGEST_LINE:
@@ -248,34 +248,34 @@ class ShellsSocket:
             del peer.came[: end + 1]
             self.take_line(peer, line)
 
-    def take_line(self, peer: ShellsPeer, line: str) -> None:
+    def take_line(self, peer: HostPeer, line: str) -> None:
         """Takes a line of one who is there."""
-        presence, gives, asks = presence_said(line), GIVE.fullmatch(line), ASK.fullmatch(line)
+        presence, gives, asks = presence_said(line), PASTE.fullmatch(line), STATUS.fullmatch(line)
         if presence:
             self.comes(peer, presence)
         elif line == WHO:
             peer.asks = True
             self.renew()
-            self.send(peer, [f"keeper {self.common.name}"])
+            self.send(peer, [f"host {self.common.name}"])
         elif line == COMMANDS:
             peer.asks_commands = True
             self.asked_commands()
         elif gives:
-            self.begin_giving(peer, gives[1], int(gives[2]), bool(gives[3]))
+            self.begin_upload(peer, gives[1], int(gives[2]), bool(gives[3]))
         elif asks:
             peer.wants(asks[1])
             self.send(peer, [f"{self.texts.state(asks[1])} {asks[1]}"])
-        elif line == BROUGHT:
-            self.send(peer, self.common.brought.lines())
+        elif line == ENVIRONMENT:
+            self.send(peer, self.common.pane_environment.lines())
         elif self.take_buffer_line(peer, line) or self.take_client_line(peer, line) or self.take_run_line(peer, line):
             pass
         elif peer.asker and peer.asker.take(line):
             self.common.see_to_rows()
         elif self.common.lines and self.common.lines.take(self, peer, line):
             pass
-        elif not peer.watches() and self.zoom.take(peer.number, line):
+        elif not peer.is_read_only() and self.zoom.take(peer.number, line):
             self.renew()
-        elif peer.watches() or not (self.common.brought.take(line) or self.common.colours.take(line)):
+        elif peer.is_read_only() or not (self.common.pane_environment.take(line) or self.common.colours.take(line)):
             self.send(peer, [BAD_LINE])
 
     # ---- the zoom
@@ -292,7 +292,7 @@ class ShellsSocket:
 
     # ---- who is there
 
-    def comes(self, peer: ShellsPeer, presence: Presence) -> None:
+    def comes(self, peer: HostPeer, presence: Presence) -> None:
         """Takes note of a terminal that is here, or has another size."""
         if not peer.presence:
             peer.since = self.common.attended.comes(presence.name, self.loop.clock())
@@ -305,34 +305,34 @@ class ShellsSocket:
         """Whether a terminal is here."""
         return any(peer.presence for peer in self.peers)
 
-    def take_client_line(self, peer: ShellsPeer, line: str) -> bool:
+    def take_client_line(self, peer: HostPeer, line: str) -> bool:
         """Takes a line about the terminals of all windows, and tells whether it is one: who only watches has nobody leave."""
         leaves = LEAVES.fullmatch(line)
         if line == CLIENTS:
             self.answer(peer, "".join(f"{one}\n" for one in self.common.clients()).encode())
-        elif leaves and not peer.watches():
+        elif leaves and not peer.is_read_only():
             self.send(peer, [f"left {leaves[1]}" if self.common.leave(int(leaves[1])) else "left none"])
-        elif line == LEAVE_OTHERS and not peer.watches():
+        elif line == LEAVE_OTHERS and not peer.is_read_only():
             self.send(peer, [f"left {self.common.leave_others(peer)}"])
-        return bool(line == CLIENTS or (leaves or line == LEAVE_OTHERS) and not peer.watches())
+        return bool(line == CLIENTS or (leaves or line == LEAVE_OTHERS) and not peer.is_read_only())
 
     # ---- texts that are given
 
-    def begin_giving(self, peer: ShellsPeer, name: str, length: int, is_plain: bool) -> None:
+    def begin_upload(self, peer: HostPeer, name: str, length: int, is_plain: bool) -> None:
         """Takes a text, whose bytes follow, where there is room; one that was given before is known."""
         is_known = self.texts.state(name) != LOST
         refusal = "" if is_known else self.texts.refusal(length)
-        peer.giving = Giving(name, length, is_plain, not is_known and not refusal, refusal)
-        self.texts.coming += length if peer.giving.is_kept else 0
+        peer.upload = Upload(name, length, is_plain, not is_known and not refusal, refusal)
+        self.texts.coming += length if peer.upload.is_kept else 0
         peer.wants(name)
 
-    def take_buffer_line(self, peer: ShellsPeer, line: str) -> bool:
+    def take_buffer_line(self, peer: HostPeer, line: str) -> bool:
         """Takes a line about buffers, and tells whether it is one."""
-        gives, asks = GIVE_BUFFER.fullmatch(line), BUFFER.fullmatch(line)
+        gives, asks = PASTE_BUFFER.fullmatch(line), BUFFER.fullmatch(line)
         if line == BUFFER_LIST:
             self.answer(peer, "".join(f"{one}\n" for one in self.buffers.lines()).encode("utf-8", "replace"))
         elif gives:
-            self.give_buffer(peer, gives[1], self.buffers.texts.get(int(gives[2])))
+            self.paste_buffer(peer, gives[1], self.buffers.texts.get(int(gives[2])))
         elif asks and asks[1] == "add":
             self.begin_buffer(peer, int(asks[2]))
         elif asks:
@@ -341,68 +341,68 @@ class ShellsSocket:
             self.answer(peer, told.encode() + (data or b""))
         return bool(line == BUFFER_LIST or gives or asks)
 
-    def begin_buffer(self, peer: ShellsPeer, length: int) -> None:
+    def begin_buffer(self, peer: HostPeer, length: int) -> None:
         """Takes a text that is to be a buffer, whose bytes follow."""
-        refusal = WATCHES if peer.watches() else self.buffers.refusal(length)
-        peer.giving = Giving("", length, False, not refusal, refusal, is_buffer=True)
+        refusal = READ_ONLY if peer.is_read_only() else self.buffers.refusal(length)
+        peer.upload = Upload("", length, False, not refusal, refusal, is_buffer=True)
         self.buffers.coming += 0 if refusal else length
 
-    def take_run_line(self, peer: ShellsPeer, line: str) -> bool:
+    def take_run_line(self, peer: HostPeer, line: str) -> bool:
         """Takes a command for a new pane, whose bytes follow, of who doesn't only watch; tells whether the line is one."""
         runs = RUN.fullmatch(line)
-        if not runs or peer.watches():
+        if not runs or peer.is_read_only():
             return False
         refusal = self.handed.refusal(int(runs[4]))
-        peer.giving = Giving(runs[1], int(runs[4]), False, not refusal, refusal)
-        peer.giving.beside = int(runs[2] or 0), int(runs[3] or 0)
+        peer.upload = Upload(runs[1], int(runs[4]), False, not refusal, refusal)
+        peer.upload.beside = int(runs[2] or 0), int(runs[3] or 0)
         return True
 
-    def take_run(self, peer: ShellsPeer, given: Giving, beside: tuple[int, int]) -> None:
+    def take_run(self, peer: HostPeer, upload: Upload, beside: tuple[int, int]) -> None:
         """Has a command wait for its pane whose bytes are all there."""
-        if given.refusal:
-            self.send(peer, [f"{RAN} {given.name} {REFUSED} {given.refusal}"])
+        if upload.refusal:
+            self.send(peer, [f"{RAN} {upload.name} {REFUSED} {upload.refusal}"])
         else:
-            self.handed.take(peer, given.name, beside, bytes(given.data))
+            self.handed.take(peer, upload.name, beside, bytes(upload.data))
 
-    def give_buffer(self, peer: ShellsPeer, name: str, data: bytes | None) -> None:
+    def paste_buffer(self, peer: HostPeer, name: str, data: bytes | None) -> None:
         """Takes a buffer for a text, as if its characters were given."""
         text = cleaned((data or b"").decode("utf-8", "replace")).encode()
         if not text and self.texts.state(name) == LOST:
             self.send(peer, [f"refused {name} {UNKNOWN if data is None else NOTHING}"])
             return
-        self.begin_giving(peer, name, len(text), False)
-        if peer.giving:
-            peer.giving.take(bytearray(text))
-            self.take_given(peer, peer.giving)
+        self.begin_upload(peer, name, len(text), False)
+        if peer.upload:
+            peer.upload.take(bytearray(text))
+            self.take_upload(peer, peer.upload)
 
-    def wait_for(self, peer: ShellsPeer) -> None:
+    def wait_for(self, peer: HostPeer) -> None:
         """Waits for more of a text; one of which nothing more comes takes its room no longer than others."""
-        self.loop.later(f"given by {peer.number}", KEPT, lambda: self.drop(peer))
+        self.loop.later(f"upload by {peer.number}", KEPT, lambda: self.drop(peer))
 
-    def take_given(self, peer: ShellsPeer, given: Giving) -> None:
+    def take_upload(self, peer: HostPeer, upload: Upload) -> None:
         """Has a text wait whose bytes are all there, and answers."""
-        self.end_giving(peer)
-        if given.beside is not None:
-            self.take_run(peer, given, given.beside)
+        self.end_upload(peer)
+        if upload.beside is not None:
+            self.take_run(peer, upload, upload.beside)
             return
-        if given.is_buffer:
-            told = f"none {given.refusal}" if given.refusal else f"{self.buffers.add(bytes(given.data))} {given.length}"
+        if upload.is_buffer:
+            told = f"none {upload.refusal}" if upload.refusal else f"{self.buffers.add(bytes(upload.data))} {upload.length}"
             self.send(peer, [f"buffer add {told}"])
             return
-        if given.is_kept:
-            self.texts.take(GivenText(given.name, bytes(given.data), given.is_plain))
-        self.send(peer, [f"refused {given.name} {given.refusal}" if given.refusal else f"{self.texts.state(given.name)} {given.name}"])
+        if upload.is_kept:
+            self.texts.take(PendingPaste(upload.name, bytes(upload.data), upload.is_plain))
+        self.send(peer, [f"refused {upload.name} {upload.refusal}" if upload.refusal else f"{self.texts.state(upload.name)} {upload.name}"])
 
-    def end_giving(self, peer: ShellsPeer) -> None:
+    def end_upload(self, peer: HostPeer) -> None:
         """Waits for no more of a text."""
-        given = peer.giving
-        is_counted = given and given.is_kept and given.beside is None
-        if given and is_counted and given.is_buffer:
-            self.buffers.coming -= given.length
-        elif given and is_counted:
-            self.texts.coming -= given.length
-        peer.giving = None
-        self.loop.drop(f"given by {peer.number}")
+        upload = peer.upload
+        is_counted = upload and upload.is_kept and upload.beside is None
+        if upload and is_counted and upload.is_buffer:
+            self.buffers.coming -= upload.length
+        elif upload and is_counted:
+            self.texts.coming -= upload.length
+        peer.upload = None
+        self.loop.drop(f"upload by {peer.number}")
 
     def tell_text(self, name: str, word: str) -> None:
         """Tells what became of a text to who gave it, or asked for it."""
@@ -420,7 +420,7 @@ class ShellsSocket:
         """Tells each who asked what is new of the others, all that came at once together; who asked just now, once it is known who they
         are."""
         asked = [peer for peer in self.peers if peer.asks]
-        if any(peer.told is None for peer in asked) and self.common.unmet.are_awaited():
+        if any(peer.told is None for peer in asked) and self.common.pending_clients.are_awaited():
             asked = [peer for peer in asked if peer.told is not None]
             self.loop.later(f"others of {self.window}", MEETS_AGAIN, self.renew)
         there = {peer.number: peer.presence for peer in self.peers if peer.presence}
@@ -431,25 +431,25 @@ class ShellsSocket:
         """Whether somebody is there who asked what runs in front in the panes."""
         return any(peer.asks_commands for peer in self.peers)
 
-    def tell_command(self, pane: int, life: int, name: str) -> None:
+    def tell_command(self, pane: int, generation: int, name: str) -> None:
         """Tells those who asked what runs in front in that making of a pane, where it wasn't told so yet."""
-        for peer in [peer for peer in self.peers if peer.asks_commands and peer.commands.get(pane) != (life, name)]:
-            peer.commands[pane] = life, name
-            self.send(peer, [f"command {pane} {life} {name}"])
+        for peer in [peer for peer in self.peers if peer.asks_commands and peer.commands.get(pane) != (generation, name)]:
+            peer.commands[pane] = generation, name
+            self.send(peer, [f"command {pane} {generation} {name}"])
 
-    def send(self, peer: ShellsPeer, lines: list[str]) -> None:
+    def send(self, peer: HostPeer, lines: list[str]) -> None:
         """Has lines go to one, who is let go where too much waits for it."""
         peer.waiting += "".join(f"{line}\n" for line in lines).encode("utf-8", "replace")
         self.waits(peer)
         if len(peer.waiting) > MOST_WAITING + peer.answers:
             self.drop(peer)
 
-    def waits(self, peer: ShellsPeer) -> None:
+    def waits(self, peer: HostPeer) -> None:
         """Have the loop write to a peer."""
         if peer in self.peers:
             self.loop.changed(peer.end)
 
-    def answer(self, peer: ShellsPeer, data: bytes) -> None:
+    def answer(self, peer: HostPeer, data: bytes) -> None:
         """Has an answer with bytes behind it go to one: he asks no more until he took most of it. Where too much waits for all he is let
         go."""
         peer.waiting += data
@@ -460,12 +460,12 @@ class ShellsSocket:
         elif peer in self.peers and f"unread by {peer.number}" not in self.loop.due:
             self.loop.later(f"unread by {peer.number}", UNREAD, lambda: self.drop_unread(peer))
 
-    def drop_unread(self, peer: ShellsPeer) -> None:
+    def drop_unread(self, peer: HostPeer) -> None:
         """Lets one go who took nothing for too long; who writes rows down may take his time."""
         if not peer.logs():
             self.drop(peer)
 
-    def write(self, peer: ShellsPeer) -> None:
+    def write(self, peer: HostPeer) -> None:
         """Writes what one takes."""
         waiting = len(peer.waiting)
         if not write(peer.end.fileno(), peer.waiting):
@@ -481,10 +481,10 @@ class ShellsSocket:
         if peer.came:
             self.take_lines(peer)
 
-    def drop(self, peer: ShellsPeer) -> None:
+    def drop(self, peer: HostPeer) -> None:
         """Lets one go."""
         if peer in self.peers:
-            self.end_giving(peer)
+            self.end_upload(peer)
             self.loop.drop(f"unread by {peer.number}")
             if peer.asker:
                 peer.asker.close()

@@ -1,4 +1,4 @@
-"""The panes of one window of a session at the keeper of its shells, as the window's server tells them, with what is kept once for all
+"""The panes of one window of a session at the pty host, as the window's server tells them, with what is kept once for all
 windows."""
 from __future__ import annotations
 
@@ -19,12 +19,12 @@ from roam_live.common.process import begun, is_running, note_end
 from roam_live.host.foreground_watch import Fronts
 from roam_live.host.input_queue import TypedQueue
 from roam_live.host.pane import Options, PaneCommand, Spare, has_ended, say_in
-from roam_live.host.scrollback import RowKeeper, pane_key, pane_of_key
-from roam_live.host.socket_server import CommonShells, ShellsSocket
+from roam_live.host.scrollback import Scrollback, pane_key, pane_of_key
+from roam_live.host.socket_server import HostRegistry, HostServer
 from roam_live.protocol.bells import BellSource
-from roam_live.protocol.panes import BRACKETED, FOCUS, OTHER, Rect, ToldPanes
-from roam_live.protocol.panes_client import PROBE, KeeperFollowing
-from roam_live.protocol.queries import ASKS, holds_frames, question_in
+from roam_live.protocol.panes import BRACKETED, FOCUS, OTHER, PanesState, Rect
+from roam_live.protocol.panes_client import PROBE, HostSubscription
+from roam_live.protocol.queries import QUERY, holds_frames, query_in
 from roam_live.session.foreground import working_folder
 from roam_live.session.tmp_keepalive import LOOKS, Lasting
 
@@ -49,7 +49,7 @@ UNMENDED = "sockets of the session were removed and cannot be restored: {}"
 
 UNREAD = "{} isn't shown: the server doesn't read it, as where no descriptor is left for it"
 
-# What ends the keeper. Its shells hang up then.
+# What ends the host. Its shells hang up then.
 LEAVING = (signal.SIGTERM, signal.SIGHUP)
 
 # So many seconds who writes rows down has for the last of them, where the session ends.
@@ -64,14 +64,14 @@ FOCUS_IN, FOCUS_OUT = b"\x1b[I", b"\x1b[O"
 
 
 class Common:
-    """What a keeper has once for all windows: its loop, the rows that are kept, what is told at all sockets `shells`, the processes that
+    """What a host has once for all windows: its loop, the scrollback rows, what is told at all sockets `host`, the processes that
     were hung up, and descriptors that are kept for need."""
 
     def __init__(self, wakeup: int, loop: Loop | None = None) -> None:
         self.wakeup, self.loop = wakeup, loop or Loop()
         self.faults = FaultLog(self.loop.clock)
         # The panes of each window, by its number; 0 is that of a session that has no others.
-        self.windows: dict[int, Shells] = {}
+        self.windows: dict[int, WindowHost] = {}
         self.hung: list[int] = []
         self.is_over = False
         # What was refused, as it was told.
@@ -83,9 +83,9 @@ class Common:
         with contextlib.suppress(OSError):
             self.voice.keep()
             self.spare.keep()
-        self.rows = RowKeeper(self.loop, self.tell)
+        self.rows = Scrollback(self.loop, self.tell)
         self.rows.is_other = self.shows_other
-        self.shells = CommonShells(self.loop, self.rows)
+        self.registry = HostRegistry(self.loop, self.rows)
         self.loop.faults = self.take_fault
         self.rows.hears_changed = self.see_to_panes
         # Called once a minute to look after folders.
@@ -93,7 +93,7 @@ class Common:
         self.loop.later("folders", LOOKS, self.look_at_folders)
 
     def take_fault(self, fault: Exception) -> None:
-        """Log an unexpected exception. If memory is short, drop kept rows first: they matter least."""
+        """Log an unexpected exception. If memory is short, drop scrollback rows first: they matter least."""
         if isinstance(fault, MemoryError):
             self.rows.shed()
         self.faults.take(fault)
@@ -130,7 +130,7 @@ class Common:
         """Whether a pane's program is known to show the other screen."""
         number, pane = pane_of_key(key)
         window = self.windows.get(number)
-        return window is not None and window.aside.has_set(pane, OTHER)
+        return window is not None and window.panes_state.has_set(pane, OTHER)
 
     def keep_spares(self) -> None:
         """Has the spare descriptors, as soon as they are to be had: first that by which a pane says what it hasn't."""
@@ -191,11 +191,11 @@ class Common:
         self.end_logs()
         for window in windows:
             window.close()
-        self.shells.close()
+        self.registry.close()
         self.rows.close()
 
 
-class Shells:
+class WindowHost:
     """The panes of a window with their commands."""
 
     def __init__(self, asked: Options, common: Common, peer: socket.socket | None = None, size: Size | None = None,
@@ -208,7 +208,7 @@ class Shells:
         self.focus = 0
         self.history: list[int] = []
         # What was told of the panes since they are followed, as which modes their programs have set.
-        self.aside, self.is_new = ToldPanes(), False
+        self.panes_state, self.is_new = PanesState(), False
         # Whether it is over, and on purpose: its last command has ended.
         self.is_over = self.is_meant = False
         # Panes in which a bell rang, and whether one wrote something, since that was reported; panes with news, and a call behind `tend`.
@@ -229,13 +229,13 @@ class Shells:
         # True once it was reported that its sockets can't be restored; and once the server's socket for clients was there.
         self.has_missed = self.had_clients = False
         common.see_to(self.last)
-        self.following = KeeperFollowing(f"{asked.dir}/panes", self.loop, self.hear, self.lost, self.tell, peer)
+        self.subscription = HostSubscription(f"{asked.dir}/panes", self.loop, self.hear, self.lost, self.tell, peer)
         # The process whose end is the window's: who listens there, where it isn't named.
-        self.server = asked.server or self.following.server or None
+        self.server = asked.server or self.subscription.server or None
         self.server_began = begun(self.server) if self.server else None
         self.bells = BellSource(asked.dir, self.loop)
-        common.shells.unmet.folder = asked.common
-        self.socket = ShellsSocket(asked.dir, self.loop, self.look_at_fronts, common.shells, asked.window)
+        common.registry.pending_clients.folder = asked.common
+        self.socket = HostServer(asked.dir, self.loop, self.look_at_fronts, common.registry, asked.window)
         self.socket.handed.rect_of, self.socket.handed.folder_beside = self.rect_of, self.folder_beside
         # What runs in front in panes, as far as that was looked up.
         self.in_front: dict[int, str] = {}
@@ -248,13 +248,13 @@ class Shells:
     def tell(self, text: str) -> None:
         """Tells what a person has to know, in the log and to who follows the bells here."""
         say(f"window {self.asked.window}: {text}" if self.asked.window else text)
-        self.bells.standing = self.following.told
+        self.bells.standing = self.subscription.told
         self.bells.say(text)
 
     def told(self, line: str) -> None:
-        """Takes a line of D/panes: where a pane is, that it is gone, the focus, or what stands beside a pane's terminal; counts of starts
+        """Takes a line of D/panes: where a pane is, that it is gone, the focus, or pane metadata; counts of clients
         are nothing here, and others answer what was asked."""
-        words, is_known = line.split(), self.aside.take(line)
+        words, is_known = line.split(), self.panes_state.take(line)
         if not is_known:
             self.take_other(words, line)
         elif words[0] == "focus":
@@ -268,51 +268,51 @@ class Shells:
         elif words[1:] == ["gone"]:
             self.drop(int(words[0]))
         elif words[0].isdigit() and len(words) == 6:
-            number, *rect, life = map(int, words)
-            self.there_is(number, Rect(*rect), life)
+            number, *rect, generation = map(int, words)
+            self.there_is(number, Rect(*rect), generation)
 
     def take_other(self, words: list[str], line: str) -> None:
         """Handle a line of D/panes that doesn't describe panes."""
-        if words[:1] == [ASKS]:
+        if words[:1] == [QUERY]:
             self.answer(line)
         elif len(words) == 3 and all(word.isdigit() for word in words):
             raise Fault("the server is of an earlier roam: it doesn't tell where panes are")
 
     def answer(self, line: str) -> None:
-        """Types the answer to what a pane's program asks of its terminal, where its keeper knows one."""
-        question = question_in(line)
-        pane = self.panes.get(question.pane) if question else None
-        if question and pane and pane.life == question.life and pane.is_typed_into():
-            pane.type(question.answer(self.common.shells.colours, holds_frames(self.server)))
+        """Types the answer to what a pane's program asks of its terminal, where its host knows one."""
+        query = query_in(line)
+        pane = self.panes.get(query.pane) if query else None
+        if query and pane and pane.generation == query.generation and pane.is_typed_into():
+            pane.type(query.answer(self.common.registry.colours, holds_frames(self.server)))
 
     def report_focus(self, before: int) -> None:
         """Reports to the programs of the pane that had the focus before, and of that which has it now, that it went, where they asked for
         that."""
         for number, report in ((before, FOCUS_OUT), (self.focus, FOCUS_IN)):
             pane = self.panes.get(number)
-            if before != self.focus and pane and pane.is_typed_into() and self.aside.has_set(number, FOCUS):
+            if before != self.focus and pane and pane.is_typed_into() and self.panes_state.has_set(number, FOCUS):
                 pane.type(report)
 
-    def there_is(self, number: int, rect: Rect, life: int) -> None:
+    def there_is(self, number: int, rect: Rect, generation: int) -> None:
         """Makes, moves or sizes a pane."""
         pane, size = self.panes.get(number), self.awaited_size((rect.rows, rect.cols))
         self.untold.discard(number)
-        if pane and pane.life == life:
+        if pane and pane.generation == generation:
             self.socket.handed.moved(number, rect)
             pane.resize(size)
             self.rows.resize(self.key(number), size)
         else:
             folder, begins = self.folder_of_new(), self.handed_to(rect)
             self.drop(number)
-            typed = TypedQueue(self.common.shells.texts, lambda: self.aside.has_set(number, BRACKETED))
-            self.panes[number] = PaneCommand(self.asked, self.loop, number, life, size, self.is_again,
+            typed = TypedQueue(self.common.registry.texts, lambda: self.panes_state.has_set(number, BRACKETED))
+            self.panes[number] = PaneCommand(self.asked, self.loop, number, generation, size, self.is_again,
                                               begins and begins.folder or folder, typed)
             self.panes[number].command = begins.command() if begins else []
-            self.panes[number].follows, self.panes[number].brought = self.follow_now, self.common.shells.brought
+            self.panes[number].follows, self.panes[number].pane_environment = self.follow_now, self.common.registry.pane_environment
             self.panes[number].gives_up = functools.partial(self.give_up, self.panes[number])
             self.panes[number].touches = functools.partial(self.note, self.panes[number])
             key = self.key(number)
-            self.rows.begin(key, life, size)
+            self.rows.begin(key, generation, size)
             self.panes[number].keeps, self.panes[number].hears = lambda data: self.rows.feed(key, data), self.rows.hears
             self.begin(self.panes[number])
 
@@ -325,7 +325,7 @@ class Shells:
     def await_no_more(self) -> None:
         """Goes by the sizes that are told, since no other has come."""
         self.awaited = None
-        for number, rect in self.aside.rects.items():
+        for number, rect in self.panes_state.rects.items():
             if number in self.panes:
                 self.panes[number].resize((rect.rows, rect.cols))
                 self.rows.resize(self.key(number), (rect.rows, rect.cols))
@@ -343,10 +343,10 @@ class Shells:
         pane = self.panes.get(number or self.focus)
         return working_folder([*(pane.in_front() if pane else []), self.asked.server])
 
-    def rect_of(self, number: int, life: int) -> Rect | None:
+    def rect_of(self, number: int, generation: int) -> Rect | None:
         """Where that making of a pane is; None where it isn't there."""
         pane = self.panes.get(number)
-        return self.aside.rects.get(number) if pane and pane.life == life else None
+        return self.panes_state.rects.get(number) if pane and pane.generation == generation else None
 
     def handed_to(self, rect: Rect) -> Begins | None:
         """What a new pane begins with, where that was handed over for it."""
@@ -409,18 +409,18 @@ class Shells:
     def hear(self, lines: list[str]) -> None:
         """Takes what came from D/panes."""
         if self.is_new:
-            self.aside, self.is_new = ToldPanes(), False
+            self.panes_state, self.is_new = PanesState(), False
         for line in lines:
             self.told(line)
         self.loop.soon(self.tend)
-        places = self.aside.places() if any(line[:1].isdigit() for line in lines) else None
+        places = self.panes_state.places() if any(line[:1].isdigit() for line in lines) else None
         if places and places.is_covered():
             self.socket.sized(places.size())
 
     def follow_now(self) -> None:
         """Takes what came from D/panes so far."""
-        if self.following.peer:
-            self.loop.hear(self.following.peer)
+        if self.subscription.peer:
+            self.loop.hear(self.subscription.peer)
 
     def lost(self) -> None:
         """Goes on without D/panes, which is connected to again; where the server's process has ended the session has."""
@@ -430,20 +430,20 @@ class Shells:
 
     def has_server(self) -> bool:
         """Whether the server's process runs; where it isn't known somebody has to be at its socket."""
-        return is_running(self.server, self.server_began) if self.server else not self.following.is_gone
+        return is_running(self.server, self.server_began) if self.server else not self.subscription.is_gone
 
     def goes_on(self) -> None:
         """Sees to it that the session ends with the server; where it can't be followed from the start a pane says so."""
-        following = self.following
+        subscription = self.subscription
         self.loop.soon(self.tend)
         if not self.has_server():
             self.is_over = True
             return
-        if following.is_gone:
-            following.tell(following.why)
-        if following.told and not self.panes and not self.has_said:
+        if subscription.is_gone:
+            subscription.tell(subscription.why)
+        if subscription.told and not self.panes and not self.has_said:
             self.has_said = True
-            say_in(f"{self.asked.dir}/p1", NOT_FOLLOWED.format(following.why))
+            say_in(f"{self.asked.dir}/p1", NOT_FOLLOWED.format(subscription.why))
         for pane in self.panes.values():
             pane.asked_until = 0.0
 
@@ -471,13 +471,13 @@ class Shells:
             if now >= pane.asked_until:
                 pane.asked_until = now + CLOSE_WAIT
                 self.loop.later(f"close {pane.named}", CLOSE_WAIT, functools.partial(self.note, pane))
-                self.following.ask(self.close_line(pane))
+                self.subscription.ask(self.close_line(pane))
 
     def close_line(self, pane: PaneCommand) -> str:
         """The line that closes a pane, and where the focus goes if it has it: to the pane that had it before, of those that stay."""
         others = [number for number in self.history if number in self.panes and not self.panes[number].has_ended]
         heir = f" {others[0]}" if pane.number == self.focus and others else ""
-        return f"close {pane.number} {pane.life}{heir}"
+        return f"close {pane.number} {pane.generation}{heir}"
 
     def last(self) -> None:
         """Sees to what has to last of the folder."""
@@ -492,7 +492,7 @@ class Shells:
         """Have the server take turns: it binds removed sockets anew in a turn, by the clock of the turn before, and takes none while all
         its clients sleep."""
         for again in range(ROUSED):
-            self.loop.later(f"rouse {again} {self.asked.dir}", again * ROUSED_EACH, lambda: self.following.ask(PROBE))
+            self.loop.later(f"rouse {again} {self.asked.dir}", again * ROUSED_EACH, lambda: self.subscription.ask(PROBE))
 
     def note(self, pane: PaneCommand) -> None:
         """Note that a pane has news; `tend` handles it before the next wait."""
@@ -532,7 +532,7 @@ class Shells:
 
     def is_followed(self) -> bool:
         """Whether it is known which panes are there."""
-        return bool(self.following.peer) and not self.untold
+        return bool(self.subscription.peer) and not self.untold
 
     def tend(self) -> None:
         """Sees to what is new of the panes."""
@@ -558,10 +558,10 @@ class Shells:
             self.rung.add(pane.number)
             self.bells.tell(pane.number)
 
-    def tell_front(self, number: int, life: int, name: str) -> None:
+    def tell_front(self, number: int, generation: int, name: str) -> None:
         """Tells what runs in front in that making of a pane."""
         self.in_front[number] = name
-        self.socket.tell_command(number, life, name)
+        self.socket.tell_command(number, generation, name)
         self.loop.soon(self.tend)
 
     def look_at_fronts(self) -> None:
@@ -574,7 +574,7 @@ class Shells:
         """Has it looked up what runs in front in a pane where something was typed or written, while somebody wants to know."""
         self.has_news, pane.has_news = self.has_news or pane.has_news, False
         if pane.is_touched:
-            pane.is_touched, self.fronts.is_wanted = False, self.socket.has_asked_commands() or self.common.shells.has_asked_windows()
+            pane.is_touched, self.fronts.is_wanted = False, self.socket.has_asked_commands() or self.common.registry.has_asked_windows()
             self.fronts.touched(pane)
 
     def hang_up(self) -> None:
@@ -582,7 +582,7 @@ class Shells:
         self.bells.close()
         for number in list(self.panes):
             self.drop(number)
-        self.following.end()
+        self.subscription.end()
 
     def close(self) -> None:
         """Closes the sockets, and forgets the window."""

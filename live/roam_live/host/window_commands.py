@@ -10,8 +10,8 @@ if TYPE_CHECKING:
     from typing import Protocol
 
     from roam_live.common.tty import Size
-    from roam_live.host.socket_peer import ShellsPeer
-    from roam_live.host.socket_server import ShellsSocket
+    from roam_live.host.socket_peer import HostPeer
+    from roam_live.host.socket_server import HostServer
     from roam_live.protocol.spawn_request import Begins
 
     class WindowTable(Protocol):
@@ -42,7 +42,7 @@ MOST_OPENING = 4
 # For so many seconds a window is his who asks again for what he asked for when his connection was cut, as where a relay goes another way.
 ASKED_AGAIN = 5.0
 
-WATCHES = "a terminal that only watches opens none"
+READ_ONLY = "a terminal that only watches opens none"
 TOO_MANY = f"{MOST_OPENING} are being opened"
 NOT_HANDED = "its command isn't there"
 
@@ -50,7 +50,7 @@ NOT_HANDED = "its command isn't there"
 class AskedWindow:
     """A window that one who is at another asked for, of a size; and its number, and since when it is there."""
 
-    def __init__(self, socket: ShellsSocket, peer: ShellsPeer, size: Size) -> None:
+    def __init__(self, socket: HostServer, peer: HostPeer, size: Size) -> None:
         self.socket, self.peer, self.size = socket, peer, size
         self.number, self.since = 0, 0.0
 
@@ -62,12 +62,12 @@ class AskedWindow:
 class WindowLines:
     """The lines, at the sockets of all windows, for a table that has them: what one who only watches asks for isn't done."""
 
-    def __init__(self, table: WindowTable, sockets: list[ShellsSocket]) -> None:
+    def __init__(self, table: WindowTable, sockets: list[HostServer]) -> None:
         self.table, self.sockets = table, sockets
         # The windows that front ends asked for, and where no terminal was yet.
         self.asked: list[AskedWindow] = []
 
-    def take(self, socket: ShellsSocket, peer: ShellsPeer, line: str) -> bool:
+    def take(self, socket: HostServer, peer: HostPeer, line: str) -> bool:
         """Takes a line of one who is at a window, and tells whether it is one of these."""
         opens, names, shuts = OPEN.fullmatch(line), NAME.fullmatch(line), SHUT.fullmatch(line)
         if line == WINDOWS:
@@ -77,7 +77,7 @@ class WindowLines:
             socket.send(peer, [*told, f"{WINDOWS} {len(told)}", *runs])
         elif opens:
             self.open(socket, peer, largest((int(opens[1]), int(opens[2]))), opens[3] or "")
-        elif peer.watches():
+        elif peer.is_read_only():
             return False
         elif names and name_in(names[2]) is not None:
             self.answer_gone(socket, peer, int(names[1]), self.table.rename(int(names[1]), name_in(names[2]) or ""))
@@ -91,15 +91,15 @@ class WindowLines:
         """The line that tells a window."""
         return f"{WINDOW} {number} {name_word(self.table.named().get(number, ''))}"
 
-    def answer_gone(self, socket: ShellsSocket, peer: ShellsPeer, number: int, is_there: bool) -> None:
+    def answer_gone(self, socket: HostServer, peer: HostPeer, number: int, is_there: bool) -> None:
         """Tells one that the window isn't there of which he asked something."""
         if not is_there:
             socket.send(peer, [f"{GONE} {number}"])
 
-    def open(self, socket: ShellsSocket, peer: ShellsPeer, size: Size, name: str = "") -> None:
+    def open(self, socket: HostServer, peer: HostPeer, size: Size, name: str = "") -> None:
         """Has a window opened, by a command of this name where there is one, and answers once it is there, or can't be. A front end whose
         connection was cut asks again, and is told of the same."""
-        refusal = WATCHES if peer.watches() else TOO_MANY if peer.opening >= MOST_OPENING else ""
+        refusal = READ_ONLY if peer.is_read_only() else TOO_MANY if peer.opening >= MOST_OPENING else ""
         if refusal:
             socket.send(peer, [f"{OPENED} none {refusal}"])
             return
@@ -124,7 +124,7 @@ class WindowLines:
         """What was handed over under this name, at any window: who asks may be connected at another than he is."""
         return next((found for found in (one.handed.for_window(name) for one in self.sockets) if found), None)
 
-    def left(self, socket: ShellsSocket, size: Size) -> AskedWindow | None:
+    def left(self, socket: HostServer, size: Size) -> AskedWindow | None:
         """A window of this size that was asked for here by one who has left; None where there is none."""
         now, named = socket.loop.clock(), self.table.named()
         self.asked = [one for one in self.asked if not one.number or one.number in named and now < one.since + ASKED_AGAIN]

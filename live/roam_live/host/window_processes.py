@@ -1,4 +1,4 @@
-"""The processes of a session's window as its keeper has them: spawned, noted in the window's folder, found by its sockets, and ended."""
+"""The processes of a session's window as its host has them: spawned, noted in the window's folder, found by its sockets, and ended."""
 from __future__ import annotations
 
 import contextlib
@@ -13,7 +13,7 @@ from roam_live.common.unix_socket import SocketPeer, connected_now
 from roam_live.protocol.window_lines import NO_NAME, name_in, name_word
 from roam_live.session.foreground import PANE
 from roam_live.session.processes import is_note
-from roam_live.session.window_state import SPARE, STANDS_READY, WINDOWS_VERSION, window_folder, windows_folder
+from roam_live.session.window_state import SPARE, SPARE_VARIABLE, WINDOWS_VERSION, window_folder, windows_folder
 
 TYPE_CHECKING = False
 if TYPE_CHECKING:
@@ -22,8 +22,8 @@ if TYPE_CHECKING:
     from roam_live.session.processes import State
 
 # The roles of a window's processes, and the sockets at which they listen.
-SERVER, TERMINALS = "server", "terminals"
-SOCKETS = {SERVER: "clients", TERMINALS: "terminals"}
+SERVER, CLIENT = "server", "client"
+SOCKETS = {SERVER: "clients", CLIENT: "terminals"}
 
 # No note has so many bytes.
 MOST_NOTE = 1 << 16
@@ -86,8 +86,8 @@ class WindowProcesses:
         return role in self.noted and is_running(*self.noted[role])
 
     def runs(self, role: str) -> bool:
-        """Whether a process of a role runs; a start may have been spawned anew by a front end, which notes that."""
-        if not self.is_known(role) and role == TERMINALS:
+        """Whether a process of a role runs; a client may have been spawned anew by a front end, which notes that."""
+        if not self.is_known(role) and role == CLIENT:
             self.read()
         return self.is_known(role)
 
@@ -135,13 +135,13 @@ class WindowProcesses:
 
     def spawn_server(self) -> int:
         """Spawns the window's server."""
-        return self.spawn(SERVER, [program(), "serve", "--as-meant", "--dir", self.folder])
+        return self.spawn(SERVER, [program(), "serve", "--normalize", "--dir", self.folder])
 
-    def spawn_start(self) -> int:
-        """Spawns the client start of this machine's terminals."""
+    def spawn_client(self) -> int:
+        """Spawns the client process of this machine's terminals."""
         with contextlib.suppress(FileNotFoundError):
             os.unlink(self.path("terminals"))
-        return self.spawn(TERMINALS, [program(), "attach", "--dir", self.folder, "--terminals", self.path("terminals")])
+        return self.spawn(CLIENT, [program(), "attach", "--dir", self.folder, "--terminals", self.path("terminals")])
 
     def become(self, role: str, words: list[str]) -> NoReturn:
         """Becomes the process of a role; what it says goes where this process says something."""
@@ -153,8 +153,8 @@ class WindowProcesses:
             os.dup2(nothing, 0)
             os.dup2(2, 1)
             # By the variable programs are known that run in a pane, also of another session, in which this one was begun.
-            environment = {name: value for name, value in os.environ.items() if name not in (PANE, STANDS_READY)}
-            os.execve(words[0], words, {**environment, **({STANDS_READY: "1"} if self.is_spare() else {})})
+            environment = {name: value for name, value in os.environ.items() if name not in (PANE, SPARE_VARIABLE)}
+            os.execve(words[0], words, {**environment, **({SPARE_VARIABLE: "1"} if self.is_spare() else {})})
         except OSError as fault:
             say(f"window {self.number}: {words[0]} can't be run: {reason(fault)}")
         finally:
@@ -171,7 +171,7 @@ class WindowProcesses:
 
     def end(self, number: int, *roles: str) -> None:
         """Signals the processes that run, of these roles, or of both."""
-        for role in roles or (SERVER, TERMINALS):
+        for role in roles or (SERVER, CLIENT):
             if self.runs(role):
                 with contextlib.suppress(OSError):
                     os.kill(self.noted[role][0], number)

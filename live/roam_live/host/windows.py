@@ -1,4 +1,4 @@
-"""The windows of a session at its keeper: each is a server with its start, in a folder of its own, and shells in its panes."""
+"""The windows of a session at its host: each is a server with its client, in a folder of its own, and shells in its panes."""
 from __future__ import annotations
 
 import contextlib
@@ -15,9 +15,9 @@ from roam_live.common.unix_socket import connected_now
 from roam_live.host.pane import Options
 from roam_live.host.repair import Mending
 from roam_live.host.scrollback import pane_of_key
-from roam_live.host.window import Common, Shells
+from roam_live.host.window import Common, WindowHost
 from roam_live.host.window_commands import WindowLines
-from roam_live.host.window_processes import SERVER, TERMINALS, WindowProcesses
+from roam_live.host.window_processes import CLIENT, SERVER, WindowProcesses
 from roam_live.protocol.window_lines import ACTIVITY, BELL, GONE, MOST_WINDOWS, RUNS
 from roam_live.session.foreground import working_folder
 from roam_live.session.tmp_keepalive import Lasting
@@ -53,19 +53,19 @@ FULL = f"a session has {MOST_WINDOWS} windows at most"
 OVER = "the session ends"
 
 
-class KeptWindow:
+class HostedWindow:
     """A window: its processes, its panes once they are followed, its name, and who is told once it is there."""
 
     def __init__(self, number: int, processes: WindowProcesses, told: Callable[[int, str], object]) -> None:
         self.number, self.processes, self.told = number, processes, told
         self.state = OPENING
         self.name = processes.name()
-        self.shells: Shells | None = None
+        self.host: WindowHost | None = None
         self.size: Size | None = None
         self.sizes: SizeAct | None = None
-        # Where its first pane's command begins, whether another keeper had it before, and whether it has a start here from the beginning:
+        # Where its first pane's command begins, whether another host had it before, and whether it has a client here from the beginning:
         # of a session's first window who launches it sees to that, or a terminal of another machine has one there.
-        self.begins_in, self.is_again, self.has_start = "", False, True
+        self.begins_in, self.is_again, self.has_client = "", False, True
         # What somebody asked for it to begin with.
         self.begins: Begins | None = None
         # Whether its server is spawned by somebody else, and isn't known yet.
@@ -80,7 +80,7 @@ class KeptWindow:
 
     def has_terminals(self) -> bool:
         """Whether somebody is there."""
-        return self.shells is not None and self.shells.socket.has_terminals()
+        return self.host is not None and self.host.socket.has_terminals()
 
 
 class Windows:
@@ -89,17 +89,17 @@ class Windows:
     def __init__(self, asked: Options, common: Common) -> None:
         self.asked, self.common, self.loop = asked, common, common.loop
         self.folder = windows_folder(asked.common)
-        self.windows: dict[int, KeptWindow] = {}
+        self.windows: dict[int, HostedWindow] = {}
         self.last = 0
         # Why there is no first window.
         self.refusal = ""
-        # A server that stands ready for the next window, and when it was spawned: it has no start, so it sleeps, and is told nowhere.
+        # A server that stands ready for the next window, and when it was spawned: it has no client, so it sleeps, and is told nowhere.
         self.spare: WindowProcesses | None = None
         self.spared_at = 0.0
         self.lasting = Lasting(asked.common)
         common.see_to(Mending(self).look)
         common.see_to(self.make_last)
-        self.lines = common.shells.lines = WindowLines(self, common.shells.sockets)
+        self.lines = common.registry.lines = WindowLines(self, common.registry.sockets)
         if asked.is_first:
             self.await_first()
         else:
@@ -124,8 +124,8 @@ class Windows:
             told(0, OVER if number else FULL)
             return
         processes = self.taken_spare(number) or WindowProcesses(self.asked.common, number)
-        window = KeptWindow(number, processes, told)
-        window.has_start = size is not None
+        window = HostedWindow(number, processes, told)
+        window.has_client = size is not None
         window.size = (max(size[0], LEAST[0]), max(size[1], LEAST[1])) if size else None
         window.begins, window.begins_in = begins, begins and begins.folder or self.folder_beside(beside)
         self.windows[number] = window
@@ -180,13 +180,13 @@ class Windows:
         """Ends what stands ready, as a window is."""
         if self.spare:
             spare, self.spare = self.spare, None
-            self.windows[spare.number] = KeptWindow(spare.number, spare, lambda number, why: None)
+            self.windows[spare.number] = HostedWindow(spare.number, spare, lambda number, why: None)
             self.end(self.windows[spare.number], is_meant=True)
 
     def folder_beside(self, number: int) -> str:
         """Where the first command of a window begins: where the program in front in the pane in focus of another is."""
-        shells = self.windows[number].shells if number in self.windows else None
-        pane = shells.panes.get(shells.focus) if shells else None
+        host = self.windows[number].host if number in self.windows else None
+        pane = host.panes.get(host.focus) if host else None
         return working_folder(pane.in_front()) if pane else ""
 
     def rename(self, number: int, name: str) -> bool:
@@ -214,8 +214,8 @@ class Windows:
         """What runs in front in the windows' panes in focus, as far as that was looked up, which it is from now on."""
         self.await_spare()
         for window in self.windows.values():
-            if window.shells:
-                window.shells.look_at_fronts()
+            if window.host:
+                window.host.look_at_fronts()
         return {number: one.runs for number, one in sorted(self.windows.items()) if one.runs and one.state == THERE}
 
     def came(self, number: int) -> None:
@@ -235,7 +235,7 @@ class Windows:
     # ---- how one is begun
 
     def take_over(self) -> None:
-        """Goes on with the windows of a keeper that has ended, of which the servers run; what others left is removed."""
+        """Goes on with the windows of a host that has ended, of which the servers run; what others left is removed."""
         for number in numbers_in(self.folder):
             processes = WindowProcesses(self.asked.common, number)
             processes.find()
@@ -243,22 +243,22 @@ class Windows:
                 processes.end(signal.SIGKILL)
                 processes.clean()
                 continue
-            window = self.windows[number] = KeptWindow(number, processes, self.taken)
-            window.is_again, window.has_start = True, False
+            window = self.windows[number] = HostedWindow(number, processes, self.taken)
+            window.is_again, window.has_client = True, False
             self.await_(window, OPENS)
 
     def await_first(self) -> None:
         """Goes on with the first window, whose server somebody else is about to spawn."""
-        window = self.windows[1] = KeptWindow(1, WindowProcesses(self.asked.common, 1), self.first)
-        window.has_start, window.is_given = False, True
+        window = self.windows[1] = HostedWindow(1, WindowProcesses(self.asked.common, 1), self.first)
+        window.has_client, window.is_given = False, True
         self.await_(window, OPENS)
 
     def taken(self, number: int, why: str) -> None:
         """Takes note of a window that was taken over, or couldn't be."""
         if not number:
-            say(f"a window of an earlier keeper can't be gone on with: {why}")
+            say(f"a window of an earlier host can't be gone on with: {why}")
 
-    def begin(self, window: KeptWindow) -> None:
+    def begin(self, window: HostedWindow) -> None:
         """Begins a window with its server."""
         try:
             window.processes.make_folder()
@@ -269,12 +269,12 @@ class Windows:
             return
         self.await_(window, OPENS)
 
-    def await_(self, window: KeptWindow, seconds: float) -> None:
+    def await_(self, window: HostedWindow, seconds: float) -> None:
         """Has the next step of a window tried until a moment."""
         window.until = self.loop.clock() + seconds
         self.step(window)
 
-    def step(self, window: KeptWindow) -> None:
+    def step(self, window: HostedWindow) -> None:
         """Does the next steps of a window that is about to be there."""
         if window.state != OPENING:
             return
@@ -297,12 +297,12 @@ class Windows:
             # Its server may have been stopped.
             self.loop.later(f"window {window.number} begins", AGAIN, lambda: self.step(window))
         else:
-            self.fail(window, "its server or its client start doesn't come up")
+            self.fail(window, "its server or its client process doesn't come up")
 
-    def follow(self, window: KeptWindow) -> bool:
-        """Follows a window's panes, and has its start spawned, once its server is there; whether that is so."""
+    def follow(self, window: HostedWindow) -> bool:
+        """Follows a window's panes, and has its client spawned, once its server is there; whether that is so."""
         processes = window.processes
-        if window.shells:
+        if window.host:
             return True
         if window.is_given:
             return False
@@ -313,30 +313,30 @@ class Windows:
         except SOON_THERE:
             return False
         try:
-            if window.has_start and not processes.runs(TERMINALS):
-                self.common.hung.append(processes.spawn_start())
+            if window.has_client and not processes.runs(CLIENT):
+                self.common.hung.append(processes.spawn_client())
             asked = self.asked.of_window(window.number, processes.folder, processes.server(), window.is_again)
             size = (window.size[0] - 1, window.size[1]) if window.size else None
-            window.shells = Shells(asked, self.common, peer, size, window.begins_in, window.begins)
-            window.shells.tended = functools.partial(self.tell_news, window)
+            window.host = WindowHost(asked, self.common, peer, size, window.begins_in, window.begins)
+            window.host.tended = functools.partial(self.tell_news, window)
         except BaseException:
             peer.close()
             raise
         return True
 
-    def has_come(self, window: KeptWindow) -> bool:
+    def has_come(self, window: HostedWindow) -> bool:
         """Whether a window's start takes terminals, which has its size typed once it does, and its first command runs."""
-        if window.has_start and not self.is_sized(window):
+        if window.has_client and not self.is_sized(window):
             return False
-        return window.shells is not None and window.shells.has_begun()
+        return window.host is not None and window.host.has_begun()
 
-    def is_sized(self, window: KeptWindow) -> bool:
+    def is_sized(self, window: HostedWindow) -> bool:
         """Whether a window's start takes terminals: it has the size typed that was asked for, once."""
         try:
             peer = connected_now(window.processes.path("terminals"))
         except SOON_THERE:
-            if not window.processes.runs(TERMINALS):
-                raise Fault("its client start has ended") from None
+            if not window.processes.runs(CLIENT):
+                raise Fault("its client process has ended") from None
             return False
         if window.size:
             window.sizes, window.size = SizeAct(self.loop, peer, window.size), None
@@ -344,13 +344,13 @@ class Windows:
             peer.close()
         return True
 
-    def opened(self, window: KeptWindow) -> None:
+    def opened(self, window: HostedWindow) -> None:
         """Tells of a window that is there."""
         window.state = THERE
-        if window.shells and window.shells.awaited:
-            self.loop.later(f"window {window.number} has its size", OPENS, window.shells.await_no_more)
-        if window.shells:
-            self.loop.soon(window.shells.tend)
+        if window.host and window.host.awaited:
+            self.loop.later(f"window {window.number} has its size", OPENS, window.host.await_no_more)
+        if window.host:
+            self.loop.soon(window.host.tend)
         if window.begins and window.begins.title:
             self.rename(window.number, window.begins.title)
         else:
@@ -358,7 +358,7 @@ class Windows:
         window.told(window.number, "")
         self.await_spare()
 
-    def fail(self, window: KeptWindow, why: str) -> None:
+    def fail(self, window: HostedWindow, why: str) -> None:
         """Leaves nothing of a window that can't be there, and tells why."""
         say(f"window {window.number} can't be opened: {why}")
         told, window.told = window.told, lambda number, why: None
@@ -367,7 +367,7 @@ class Windows:
 
     # ---- how one ends
 
-    def end(self, window: KeptWindow, is_meant: bool) -> None:
+    def end(self, window: HostedWindow, is_meant: bool) -> None:
         """Ends a window: its programs are hung up, and its server and start ended, by force where they don't end in time."""
         was_there = window.state == THERE
         window.state = ENDING
@@ -377,26 +377,26 @@ class Windows:
             note_ends(self.asked.common, [window.processes.ending()])
         if was_there:
             self.lines.tell(f"{GONE} {window.number}")
-        if window.shells:
-            window.shells.hang_up()
+        if window.host:
+            window.host.hang_up()
         if window.sizes:
             window.sizes.close()
         window.processes.end(signal.SIGTERM, SERVER)
         window.until = self.loop.clock() + ENDS
         self.step_end(window)
 
-    def step_end(self, window: KeptWindow) -> None:
+    def step_end(self, window: HostedWindow) -> None:
         """Waits for the end of a window's processes, and for what was last written there."""
         now, processes = self.loop.clock(), window.processes
-        waits = [role for role in (SERVER, TERMINALS) if processes.runs(role)]
+        waits = [role for role in (SERVER, CLIENT) if processes.runs(role)]
         if waits and now >= window.until - ENDS / 2:
             processes.end(signal.SIGKILL if now >= window.until else signal.SIGTERM)
         leaves = any(pane_of_key(pane.rows.pane)[0] == window.number for pane in self.common.rows.leaving)
         if waits or leaves and now < window.until - ENDS / 2:
             self.loop.later(f"window {window.number} ends", STEP * 2, lambda: self.step_end(window))
             return
-        if window.shells:
-            window.shells.close()
+        if window.host:
+            window.host.close()
         processes.clean()
         del self.windows[window.number]
         self.common.is_over = self.common.is_over or not self.windows
@@ -420,32 +420,32 @@ class Windows:
         """Waits until something can be done, and does it."""
         self.common.turn()
 
-    def tell_news(self, window: KeptWindow) -> None:
+    def tell_news(self, window: HostedWindow) -> None:
         """Tells what is new in a window: that panes rang, that something was written where nobody is, and that it is over."""
-        shells, now = window.shells, self.loop.clock()
-        if not shells or window.state != THERE:
+        host, now = window.host, self.loop.clock()
+        if not host or window.state != THERE:
             return
-        for pane in shells.rung:
+        for pane in host.rung:
             if now >= window.rung_at.get(pane, 0.0):
                 window.rung_at[pane] = now + APART
                 self.lines.tell(f"{BELL} {window.number} {pane}")
-        shells.rung.clear()
-        runs = shells.in_front.get(shells.focus, window.runs)
+        host.rung.clear()
+        runs = host.in_front.get(host.focus, window.runs)
         if runs != window.runs:
             window.runs = runs
             self.lines.tell(f"{RUNS} {window.number} {runs}")
-        if shells.has_news and window.has_terminals():
+        if host.has_news and window.has_terminals():
             # Whoever is there saw it.
-            shells.has_news = False
-        elif shells.has_news and now >= window.active_at:
-            shells.has_news, window.active_at = False, now + APART
+            host.has_news = False
+        elif host.has_news and now >= window.active_at:
+            host.has_news, window.active_at = False, now + APART
             self.lines.tell(f"{ACTIVITY} {window.number}")
-        elif shells.has_news:
+        elif host.has_news:
             self.loop.at(f"news of window {window.number}", window.active_at, functools.partial(self.tell_news, window))
-        if shells.is_over:
-            if not shells.is_meant:
+        if host.is_over:
+            if not host.is_meant:
                 self.common.tell(f"window {window.number}: its server was killed, or has failed")
-            self.end(window, is_meant=shells.is_meant)
+            self.end(window, is_meant=host.is_meant)
 
     def make_last(self) -> None:
         """Sees to what has to last of the session's folder."""
@@ -472,11 +472,11 @@ class Windows:
 
 
 class SizeAct:
-    """A connection to a start, over which a size is typed: it is closed once the start has taken that."""
+    """A connection to a client, over which a size is typed: it is closed once the client has taken that."""
 
     def __init__(self, loop: Loop, peer: socket.socket, size: Size) -> None:
         self.loop, self.peer = loop, peer
-        # A start that is stopped takes nothing: it is closed then too.
+        # A client that is stopped takes nothing: it is closed then too.
         self.name = f"size {peer.fileno()} is taken"
         loop.add(peer, self.hear, fails=lambda fault: self.close())
         loop.later(self.name, OPENS, self.close)
@@ -487,7 +487,7 @@ class SizeAct:
             self.close()
 
     def hear(self) -> None:
-        """Passes over what is painted, until the start has closed it."""
+        """Passes over what is painted, until the client has closed it."""
         if read(self.peer.fileno()) == b"":
             self.close()
 

@@ -48,16 +48,16 @@ BEGUN = re.compile(r"\x1b(\[\[?|\[[0-?]+[ -/]*|O)?")
 
 
 class Keys:
-    """Keys of a stream that comes in any pieces."""
+    """Keys of a stream that comes in any chunks."""
 
     def __init__(self) -> None:
         self.decoder = codecs.getincrementaldecoder("utf-8")("replace")
         self.rest = ""
         self.is_pasting = False
 
-    def fed(self, piece: bytes) -> list[Key]:
+    def fed(self, chunk: bytes) -> list[Key]:
         """The keys that are whole now. An escape that may begin more waits."""
-        text, self.rest = self.rest + self.decoder.decode(piece), ""
+        text, self.rest = self.rest + self.decoder.decode(chunk), ""
         keys: list[Key] = []
         while text:
             found, text = self.pasted(text) if self.is_pasting else self.typed(text)

@@ -15,7 +15,7 @@ from roam_live.common.unix_socket import connected_now
 
 # A pane rings once in so many seconds, for so many at most who follow: terminals of other machines follow one by one, as those of this do.
 APART = 1.0
-MOST_FOLLOWERS = 64
+MOST_SUBSCRIBERS = 64
 
 # So many seconds after it was connected to, or was refused, the socket is connected to again.
 AGAIN = 1.0
@@ -34,7 +34,7 @@ class BellSource:
     def __init__(self, folder: str | os.PathLike[str], loop: Loop) -> None:
         self.loop = loop
         self.listener: Listener | None = None
-        self.followers: list[socket.socket] = []
+        self.subscribers: list[socket.socket] = []
         self.rung_at: dict[int, float] = {}
         # What each who comes is told in words, and of which panes the keypad is an application's.
         self.standing = ""
@@ -46,11 +46,11 @@ class BellSource:
 
     def has_room(self) -> bool:
         """Whether another may follow."""
-        return len(self.followers) < MOST_FOLLOWERS
+        return len(self.subscribers) < MOST_SUBSCRIBERS
 
     def take(self, peer: socket.socket) -> None:
         """Takes one who follows."""
-        self.followers.append(peer)
+        self.subscribers.append(peer)
         self.loop.add(peer, lambda: self.hear(peer), fails=lambda fault: self.drop(peer))
         lines = [f"keypad {pane} application" for pane in sorted(self.keypads)] + [f"say {self.standing}"] * bool(self.standing)
         if lines:
@@ -81,7 +81,7 @@ class BellSource:
 
     def send(self, line: str, peers: list[socket.socket] | None = None) -> None:
         """Sends a line to those of who follow, or to all of them; who doesn't take it is let go."""
-        for peer in list(self.followers if peers is None else peers):
+        for peer in list(self.subscribers if peers is None else peers):
             try:
                 peer.send(f"{line}\n".encode("ascii", "replace"))
             except OSError:
@@ -91,19 +91,19 @@ class BellSource:
         """Lets one go who follows."""
         self.loop.remove(peer)
         peer.close()
-        self.followers.remove(peer)
+        self.subscribers.remove(peer)
         if self.listener:
             self.listener.room_changed()
 
     def close(self) -> None:
         """Closes the socket, and removes it."""
-        for peer in list(self.followers):
+        for peer in list(self.subscribers):
             self.drop(peer)
         if self.listener:
             self.listener.close()
 
 
-class BellFollower:
+class BellSubscriber:
     """Follows the bells of a session's folder, where somebody tells them: a call for each pane that rang, and for what is said in words."""
 
     def __init__(self, folder: str | os.PathLike[str] | None, loop: Loop, rings: Callable[[int], object],
@@ -138,10 +138,10 @@ class BellFollower:
 
     def hear(self) -> None:
         """Takes what was told."""
-        piece = read(self.peer.fileno()) if self.peer else None
-        if piece == b"":
+        chunk = read(self.peer.fileno()) if self.peer else None
+        if chunk == b"":
             self.lost()
-        lines = self.lines.fed(piece or b"")
+        lines = self.lines.fed(chunk or b"")
         for found in filter(None, map(KEYPAD.fullmatch, lines)):
             (self.keypads.add if found[2] == "application" else self.keypads.discard)(int(found[1]))
         for found in filter(None, map(TOLD.fullmatch, lines)):

@@ -1,4 +1,5 @@
-"""A connection to a session's client start: the lines that wait for it, what is told over it, and how it is had again where it is lost."""
+"""A connection to a session's client process: the lines that wait for it, what is told over it, and how it is had again where it is
+lost."""
 from __future__ import annotations
 
 import os
@@ -15,67 +16,67 @@ from roam_live.protocol.display_records import NoRecord, Records
 
 TYPE_CHECKING = False
 if TYPE_CHECKING:
-    from roam_live.protocol.display_records import ToldRecord
+    from roam_live.protocol.display_records import DisplayRecord
     from roam_live.protocol.session_interface import AnySession
 
-# The pauses before a start is spawned anew; a connection that lasted so long had no fault at its start.
+# The pauses before a client is spawned anew; a connection that lasted so long had no fault at its start.
 PAUSES = (0.1, 1, 2, 4, 8, 15)
 SOUND = 5.0
 
-# While no room is left on the disk it is tried so often: a start is had as soon as there is some.
+# While no room is left on the disk it is tried so often: a client is had as soon as there is some.
 FULL_PAUSE = 1
 
-# So many seconds a start has for its socket, and how often it is looked for.
+# So many seconds a client has for its socket, and how often it is looked for.
 READY_WAIT = 10.0
 STEP = 0.02
 
-# So many seconds what was typed before a person left may take, and a start has for its first record.
+# So many seconds what was typed before a person left may take, and a client has for its first record.
 LAST_WAIT = 1.5
 FIRST_WAIT = 5.0
 
-# What a start tells before it ends is read so many times at most, 65,536 bytes each.
+# What a client tells before it ends is read so many times at most, 65,536 bytes each.
 LAST_READS = 64
 
-# So many acts stand in one line at most, where they come at once, as what is pasted: they are typed in one turn. A start has 64 on their
+# So many acts stand in one line at most, where they come at once, as what is pasted: they are typed in one turn. A client has 64 on their
 # way, so that one line waits while another is answered, and another terminal's key finds room between.
 MOST_ACTS = 32
 
-# So many bytes wait for a start before no more is read of what is typed.
+# So many bytes wait for a client before no more is read of what is typed.
 TYPED_LIMIT = 1 << 24
 
 # What a line begins with whose acts were pasted.
 PASTED = "paste ; "
 
 # Why a link was lost.
-LOST = "the client start has ended; what was typed last may be lost"
+LOST = "the client process has ended; what was typed last may be lost"
 NO_MORE = "no more terminals are taken: 16 are there"
 LET_GO = "this terminal was let go; what was typed last may be lost"
-EARLIER = "the client start is an earlier roam's"
-REFUSED = "the client start refused a line"
-SILENT = "the client start tells nothing"
+EARLIER = "the client process is an earlier roam's"
+REFUSED = "the client process refused a line"
+SILENT = "the client process tells nothing"
 
 # What an act begins with that goes to the program in the pane in focus.
 TYPES = ("char ", "key ")
 
 
-def greeting_of(watches: bool, guessing: str) -> bytes:
-    """What a start is told first."""
-    more = b"watch\n" if watches else b"" if guessing == "never" else f"guess {guessing}\n".encode()
-    return b"told\n" + more
+def greeting_of(is_read_only: bool, prediction: str) -> bytes:
+    """What a client is told first."""
+    more = b"watch\n" if is_read_only else b"" if prediction == "never" else f"predict {prediction}\n".encode()
+    return b"events\n" + more
 
 
-class StartLink:
-    """A terminal's connection to the start, over which it is told records. Each line goes whole to one connection: what of a line came to
+class ClientLink:
+    """A terminal's connection to the client, over which it is told records. Each line goes whole to one connection: what of a line came to
     one that is lost is nothing."""
 
-    def __init__(self, path: str | os.PathLike[str], watches: bool, guessing: str = "never") -> None:
-        self.path, self.watches = path, watches
-        self.greeting = greeting_of(watches, guessing)
+    def __init__(self, path: str | os.PathLike[str], is_read_only: bool, prediction: str = "never") -> None:
+        self.path, self.is_read_only = path, is_read_only
+        self.greeting = greeting_of(is_read_only, prediction)
         self.peer: socket.socket | None = None
         # The process at the other end, where it is known.
         self.process = 0
         self.waiting = bytearray()
-        self.given = 0
+        self.sent = 0
         # How many acts the last line has, where more may join them, and whether they were pasted.
         self.acts = 0
         self.is_pasted = False
@@ -102,27 +103,27 @@ class StartLink:
         return self.peer
 
     def connect(self) -> None:
-        """Connects to the start."""
+        """Connects to the client."""
         self.peer = connected_now(self.path)
         self.process = SocketPeer.of(self.peer).process
-        self.since, self.given = time.monotonic(), 0
+        self.since, self.sent = time.monotonic(), 0
         self.acts = 0
         self.forget()
-        if self.watches:
+        if self.is_read_only:
             self.waiting[:] = self.greeting
         elif not self.waiting.startswith(self.greeting):
             self.waiting[:0] = self.greeting
         self.lines = self.waiting.count(b"\n")
 
-    def guess(self, guessing: str) -> None:
-        """Has guesses be shown otherwise, here and by the starts that are connected to later."""
+    def predict(self, prediction: str) -> None:
+        """Has predictions be shown otherwise, here and by the clients that are connected to later."""
         is_waiting = self.waiting.startswith(self.greeting)
-        greeting = greeting_of(self.watches, guessing)
+        greeting = greeting_of(self.is_read_only, prediction)
         if is_waiting:
             self.waiting[: len(self.greeting)] = greeting
         self.greeting = greeting
-        if self.peer and not self.watches:
-            self.say(f"guess {guessing}")
+        if self.peer and not self.is_read_only:
+            self.say(f"predict {prediction}")
 
     def say(self, line: str) -> None:
         """Adds a line at the end."""
@@ -158,7 +159,7 @@ class StartLink:
         acts, and what is asked for, stay. A line that is half sent is sent whole."""
         if not self.has_pastes():
             return []
-        begin = self.waiting.find(b"\n") + 1 if self.given else 0
+        begin = self.waiting.find(b"\n") + 1 if self.sent else 0
         lines = self.waiting[begin:].decode().splitlines()
         first = next((place for place, line in enumerate(lines) if line.startswith(PASTED)), len(lines))
         left = [*lines[:first], *filter(None, map(without_keys, lines[first:]))]
@@ -169,35 +170,35 @@ class StartLink:
         return dropped
 
     def send(self) -> bool:
-        """Sends what the start takes now; tells whether it is still there."""
+        """Sends what the client takes now; tells whether it is still there."""
         self.acts = 0
         try:
-            self.given += self.end().send(memoryview(self.waiting)[self.given : self.given + 65536])
+            self.sent += self.end().send(memoryview(self.waiting)[self.sent : self.sent + 65536])
         except BlockingIOError:
             return True
         except OSError:
             return False
-        whole = self.waiting.rfind(b"\n", 0, self.given) + 1
+        whole = self.waiting.rfind(b"\n", 0, self.sent) + 1
         del self.waiting[:whole]
-        self.given -= whole
+        self.sent -= whole
         return True
 
-    def told(self) -> list[ToldRecord] | None:
+    def read_events(self) -> list[DisplayRecord] | None:
         """The records that came; None where the connection has ended, or tells what is no record."""
-        piece = read(self.end().fileno())
-        self.has_come = self.has_come or bool(piece)
+        chunk = read(self.end().fileno())
+        self.has_come = self.has_come or bool(chunk)
         try:
-            records = self.records.came(piece or b"")
+            records = self.records.came(chunk or b"")
         except NoRecord:
-            piece = b""
-        if piece == b"":
+            chunk = b""
+        if chunk == b"":
             self.has_ended = True
             return None
         for record in records:
             self.note(record)
         return records
 
-    def note(self, record: ToldRecord) -> None:
+    def note(self, record: DisplayRecord) -> None:
         """Takes note of what a record tells of the connection."""
         if record.word == "taken":
             self.taken = record.numbers[0]
@@ -206,18 +207,18 @@ class StartLink:
         elif record.word == "refused":
             self.refusal = record.words
 
-    def exchanged(self, seconds: float = 0.1) -> list[ToldRecord] | None:
+    def exchanged(self, seconds: float = 0.1) -> list[DisplayRecord] | None:
         """Waits so many seconds at most, gives what is taken, and tells the records that came; None where the connection has ended: what
         was told before that is read first."""
         events = ready(self.end(), READ | WRITE if self.waiting else READ, seconds)
         if events & WRITE:
             self.send()
-        return self.told() if events & READ else []
+        return self.read_events() if events & READ else []
 
     def hear_last(self) -> None:
-        """Takes note of what a start told that takes nothing more, as that it refused a line."""
+        """Takes note of what a client told that takes nothing more, as that it refused a line."""
         for _ in range(LAST_READS):
-            if self.told() is None:
+            if self.read_events() is None:
                 return
 
     def begins(self, seconds: float) -> bool:
@@ -237,7 +238,7 @@ class StartLink:
         return self.taken >= self.lines
 
     def loss(self) -> str:
-        """Why a connection has ended, where its start is still there."""
+        """Why a connection has ended, where its client is still there."""
         if self.is_full or not self.has_come:
             return NO_MORE
         if not self.records.begun:
@@ -251,7 +252,7 @@ class StartLink:
             self.peer = None
 
     def part(self, seconds: float = LAST_WAIT) -> bool:
-        """Gives the start what was typed, closes, and tells whether it took all in so many seconds."""
+        """Gives the client what was typed, closes, and tells whether it took all in so many seconds."""
         end = time.monotonic() + seconds
         has_said, has_ended = False, not self.peer
         while not has_ended and time.monotonic() < end:
@@ -270,25 +271,25 @@ def without_keys(line: str) -> str:
     return " ; ".join(act for act in line.split(" ; ") if not act.startswith(TYPES))
 
 
-class Keeper:
-    """Has a link connected: to the start that is there, or to another, which is spawned after pauses that grow, and in place of one that
+class Reconnector:
+    """Has a link connected: to the client that is there, or to another, which is spawned after pauses that grow, and in place of one that
     is an earlier roam's."""
 
-    def __init__(self, session: AnySession, link: StartLink, is_full: Callable[[], bool] = lambda: False) -> None:
+    def __init__(self, session: AnySession, link: ClientLink, is_full: Callable[[], bool] = lambda: False) -> None:
         self.session, self.link, self.is_full = session, link, is_full
         self.faults = 0
         self.begun_at = 0.0
-        self.start: int | None = None
-        # The process of a start that is an earlier roam's.
+        self.client: int | None = None
+        # The process of a client that is an earlier roam's.
         self.earlier: int | None = None
 
     def lost(self) -> str:
         """Takes note of a link that has ended, and tells why, as far as that is known yet."""
         self.session.read()
-        why = self.link.loss() if self.session.runs("terminals") else LOST
+        why = self.link.loss() if self.session.runs("client") else LOST
         self.faults = 1 if time.monotonic() - self.link.since > SOUND else self.faults + 1
         if why == EARLIER:
-            self.earlier, self.start = self.link.process, None
+            self.earlier, self.client = self.link.process, None
         self.link.close()
         return why
 
@@ -301,8 +302,8 @@ class Keeper:
         """Takes note of a link that is there, and tells what was lost with the one before."""
         self.begun_at = 0.0
         self.session.read()
-        before, self.start = self.start, self.session.process("terminals")
-        return "" if before is None else LET_GO if before == self.start else LOST
+        before, self.client = self.client, self.session.process("client")
+        return "" if before is None else LET_GO if before == self.client else LOST
 
     def connect(self) -> tuple[float, str] | None:
         """Connects where that can be done now; else the seconds until it is tried again, and why, where a person is to know."""
@@ -316,18 +317,18 @@ class Keeper:
         except OSError as fault:
             why = reason(fault)
         now = time.monotonic()
-        if self.begun_at and self.session.runs("terminals") and now < self.begun_at + READY_WAIT:
+        if self.begun_at and self.session.runs("client") and now < self.begun_at + READY_WAIT:
             return STEP, ""
         if self.begun_at:
-            return self.failed(f"no client start is ready: {why}")
+            return self.failed(f"no client process is ready: {why}")
         if not self.session.is_served():
             return self.failed(f"no server is {self.session}")
         if self.is_full():
-            return self.failed("the server has had the 64 client starts of its life, and hears no other")
+            return self.failed("the server has had the 64 clients of its life, and hears no other")
         return self.begin(now)
 
     def begin(self, now: float) -> tuple[float, str]:
-        """Starts a start, which has its socket soon."""
+        """Starts a client, which has its socket soon."""
         earlier, self.earlier = self.earlier, None
         try:
             self.session.revive(earlier)

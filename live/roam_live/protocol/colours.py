@@ -1,4 +1,4 @@
-"""The colours that a person's terminal has for text and behind it: as it is asked for them, as it answers, and as a keeper of shells knows
+"""The colours that a person's terminal has for text and behind it: as it is asked for them, as it answers, and as a pty host knows
 them."""
 from __future__ import annotations
 

@@ -36,10 +36,10 @@ class Carrier:
 
     def received(self) -> list[bytes] | None:
         """The datagrams that came whole; None where the other end has left, or says what is no datagram."""
-        piece = read(self.peer.fileno())
-        if piece == b"":
+        chunk = read(self.peer.fileno())
+        if chunk == b"":
             return None
-        self.coming += piece or b""
+        self.coming += chunk or b""
         found = []
         while len(self.coming) >= 2:
             length = int.from_bytes(self.coming[:2], "big")

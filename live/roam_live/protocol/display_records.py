@@ -1,26 +1,26 @@
-"""What a client start tells over the stream of a terminal that asked for it by the line `told`: records, a line each, and for some so many
-bytes behind it (roam(1), RECORDS)."""
+"""What a client process tells over the stream of a terminal that asked for it by the line `events`: records, a line each, and for some so
+many bytes behind it (roam(1), RECORDS)."""
 from __future__ import annotations
 
 from collections import namedtuple
 
 # What came before this was painted, and isn't known to the terminal any more.
-BEGIN = b"\ntold\n"
+BEGIN = b"\nevents\n"
 FULL = b"full\n"
 # A line has fewer bytes, and what stands behind one too: a screen of 200 by 500 in which each cell has an ink of its own is some 7 MB.
 LONGEST_LINE = 512
 MOST_BYTES = 1 << 24
 # How many numbers stand behind each word; of these words the number says how many bytes follow.
-NUMBERS = {"told": 0, "size": 2, "part": 2, "paint": 1, "anew": 1, "screen": 1, "silent": 1, "heard": 0, "refused": 1, "taken": 1,
+NUMBERS = {"events": 0, "size": 2, "part": 2, "paint": 1, "anew": 1, "screen": 1, "silent": 1, "heard": 0, "refused": 1, "taken": 1,
            "full": 0}
 CARRYING = ("paint", "anew", "screen")
 
 
 class NoRecord(Exception):
-    """What came is no record: whoever is at the other end isn't a start of this version."""
+    """What came is no record: whoever is at the other end isn't a client of this version."""
 
 
-class ToldRecord(namedtuple("ToldRecord", "word numbers data words", defaults=((), b"", ""))):
+class DisplayRecord(namedtuple("DisplayRecord", "word numbers data words", defaults=((), b"", ""))):
     """A record: its word, its numbers, and the bytes behind it or the words in its line."""
 
     word: str
@@ -36,7 +36,7 @@ def number_of(text: str) -> int:
     return int(text)
 
 
-def line_of(line: bytes) -> ToldRecord:
+def line_of(line: bytes) -> DisplayRecord:
     """The record of a line, without the bytes that stand behind it."""
     try:
         word, *rest = line.decode("utf-8").split(" ")
@@ -50,7 +50,7 @@ def line_of(line: bytes) -> ToldRecord:
     numbers = tuple(map(number_of, rest[:count]))
     if word in CARRYING and numbers[0] > MOST_BYTES:
         raise NoRecord(f"{word} of {numbers[0]} bytes")
-    return ToldRecord(word, numbers, b"", " ".join(rest[count:]))
+    return DisplayRecord(word, numbers, b"", " ".join(rest[count:]))
 
 
 class Records:
@@ -60,32 +60,32 @@ class Records:
         self.kept = bytearray()
         self.begun = False
         # The record whose bytes aren't there yet.
-        self.waiting: ToldRecord | None = None
+        self.waiting: DisplayRecord | None = None
 
-    def came(self, piece: bytes) -> list[ToldRecord]:
+    def came(self, chunk: bytes) -> list[DisplayRecord]:
         """The records that these bytes end. What was painted before the first one is dropped."""
-        self.kept += piece
-        found: list[ToldRecord] = []
+        self.kept += chunk
+        found: list[DisplayRecord] = []
         if not self.begun and not self._begins(found):
             return found
         while (record := self._next()) is not None:
             found.append(record)
         return found
 
-    def _begins(self, found: list[ToldRecord]) -> bool:
-        """Whether records have begun; a start without room says so and nothing else."""
+    def _begins(self, found: list[DisplayRecord]) -> bool:
+        """Whether records have begun; a client without room says so and nothing else."""
         place = self.kept.find(BEGIN)
         if place >= 0:
             del self.kept[:place + 1]
             self.begun = True
             return True
         if self.kept == FULL:
-            found.append(ToldRecord("full"))
+            found.append(DisplayRecord("full"))
         if len(self.kept) > len(FULL):
             del self.kept[:-len(BEGIN)]
         return False
 
-    def _next(self) -> ToldRecord | None:
+    def _next(self) -> DisplayRecord | None:
         """The next record that is there whole."""
         record = self.waiting or self._line()
         if record is None or record.word not in CARRYING:
@@ -99,7 +99,7 @@ class Records:
         del self.kept[:count]
         return record._replace(data=data)
 
-    def _line(self) -> ToldRecord | None:
+    def _line(self) -> DisplayRecord | None:
         """The record of the line that stands first, where one does whole."""
         end = self.kept.find(b"\n", 0, LONGEST_LINE)
         if end < 0:

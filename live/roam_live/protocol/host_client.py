@@ -1,4 +1,4 @@
-"""A front end's connection to the keeper of a session's shells."""
+"""A front end's connection to the pty host."""
 from __future__ import annotations
 
 import os
@@ -9,10 +9,10 @@ from roam_live.common.event_loop import Loop
 from roam_live.common.io import read, write
 from roam_live.common.unix_socket import connected_now
 from roam_live.protocol.colours import COLOUR, Colours, told_in
-from roam_live.protocol.panes_client import LET_GO, Following
+from roam_live.protocol.panes_client import LET_GO, Subscription
 from roam_live.protocol.paste_text import FULL, MOST_BYTES
-from roam_live.protocol.presence import HERE, LEAVE, WHO, Presence, ToldOthers, terminal_name
-from roam_live.protocol.scrollback_client import BUFFER, AnswerReader, BadAnswer, RowsLink
+from roam_live.protocol.presence import HERE, LEAVE, WHO, OtherTerminals, Presence, terminal_name
+from roam_live.protocol.scrollback_client import BUFFER, AnswerReader, BadAnswer, ScrollbackClient
 from roam_live.protocol.spawn_request import RAN
 from roam_live.protocol.zoom_record import NONE, ZOOM, ZOOMED, ZoomNote, zoomed_in
 
@@ -23,50 +23,50 @@ if TYPE_CHECKING:
 # What is told to who had all others at the session leave it: how many do.
 LEFT = "left"
 
-# What a keeper tells of a text that it was given, in words behind the text's name where it refuses it; and by what another is known.
-HELD, PUT, LOST, REFUSED = ANSWERS = ("held", "put", "lost", "refused")
-KEEPER = "keeper"
+# What a host tells of a text that it was given, in words behind the text's name where it refuses it; and by what another is known.
+STORED, INSERTED, LOST, REFUSED = ANSWERS = ("stored", "inserted", "lost", "refused")
+HOST = "host"
 
-# What is told here of one where no keeper is there that takes any, and of one for which there is no room yet: with the keeper's words. It
+# What is told here of one where no host is there that takes any, and of one for which there is no room yet: with the host's words. It
 # is given again after so many seconds, until there is.
 UNTOLD, LATER = "untold", "later"
-GIVES_AGAIN = 0.3
+STORES_AGAIN = 0.3
 
 # Where so many connections in a row couldn't be had one may still be there soon.
 FEW = 2
 
-# So many bytes wait for a keeper at most.
-MOST_GIVING = 2 * MOST_BYTES
+# So many bytes wait for a host at most.
+MOST_UNSENT = 2 * MOST_BYTES
 
-# So many seconds a keeper that took the connection has for telling who else is there: the one of another machine takes a round trip.
+# So many seconds a host that took the connection has for telling who else is there: the one of another machine takes a round trip.
 KNOWS = 2.0
 
 
-class ShellsLink(Following):
-    """The connection, while a keeper is there that knows of it: it tells of this terminal, and is told who else is at the session. A call
+class HostClient(Subscription):
+    """The connection, while a host is there that knows of it: it tells of this terminal, and is told who else is at the session. A call
     is for when that is known."""
 
-    again = "follow shells"
+    again = "follow host"
 
-    def __init__(self, folder: str | os.PathLike[str] | None, loop: Loop, size: Callable[[], Size], watches: bool,
+    def __init__(self, folder: str | os.PathLike[str] | None, loop: Loop, size: Callable[[], Size], is_read_only: bool,
                  knows: Callable[[], object]) -> None:
-        path = self.path = os.path.join(folder, "shells") if folder else ""
+        path = self.path = os.path.join(folder, "host") if folder else ""
         super().__init__(lambda: connected_now(path), loop, self.take, self.forget)
-        self.name, self.size, self.kind, self.knows = terminal_name(), size, "watches" if watches else "edits", knows
+        self.name, self.size, self.kind, self.knows = terminal_name(), size, "read-only" if is_read_only else "read-write", knows
         # What was said of this terminal, and what was told of the others.
         self.said = ""
-        self.others = ToldOthers()
-        # Whether a keeper was there that tells so much, by which name it is known, and whether it is there now.
+        self.others = OtherTerminals()
+        # Whether a host was there that tells so much, by which name it is known, and whether it is there now.
         self.is_known = False
-        self.keeper = ""
+        self.host_name = ""
         self.is_there = False
-        # What is told comes here, and rows that are kept, and buffers, are asked for by this.
-        self.reader, self.kept = AnswerReader(), RowsLink(self.ask_with)
+        # What is told comes here, and scrollback rows, and buffers, are asked for by this.
+        self.reader, self.scrollback = AnswerReader(), ScrollbackClient(self.ask_with)
         # Texts that aren't held yet, by their names, and those that are, and aren't known to be put; a call tells what becomes of one, as
-        # by the word of the keeper, with more words or none. A number is that of a buffer of the keeper's.
-        self.giving: dict[str, bytes | int] = {}
-        self.given: dict[str, None] = {}
-        # Those of which the keeper has to tell what becomes of them; and whether it had no room for one, so that one after the other is
+        # by the word of the host, with more words or none. A number is that of a buffer of the host's.
+        self.unstored: dict[str, bytes | int] = {}
+        self.stored: dict[str, None] = {}
+        # Those of which the host has to tell what becomes of them; and whether it had no room for one, so that one after the other is
         # given.
         self.asked: set[str] = set()
         self.is_full = False
@@ -74,13 +74,13 @@ class ShellsLink(Following):
         # What is called where this terminal is to leave, and with how many others do, where it had them do so.
         self.leaves: Callable[[], object] = lambda: None
         # Whether its window was left, of which what was typed goes on.
-        self.is_parting = False
+        self.is_draining = False
         self.others_left: Callable[[str], object] = lambda count: None
         # What is called with what becomes of a command that was handed over.
         self.ran: Callable[[str], object] = lambda told: None
-        # The lines by which this terminal brings what new panes have, once to each keeper: behind a cut another may have brought since.
-        self.brings: list[str] = []
-        # The colours of this terminal, as far as it told them, and what of that the keeper wasn't told: each is told them once.
+        # The lines by which this terminal brings what new panes have, once to each host: behind a cut another may have brought since.
+        self.environment: list[str] = []
+        # The colours of this terminal, as far as it told them, and what of that the host wasn't told: each is told them once.
         self.colours = Colours()
         self.untold: list[str] = []
         # The zoom of this terminal, and the one that was told of, with the number of who made it, 0 where that has left.
@@ -96,14 +96,14 @@ class ShellsLink(Following):
         self.say_here()
         self.ask(WHO)
 
-    def follow_on(self, before: ShellsLink) -> None:
-        """Knows what the keeper was told by an earlier connection of this terminal, which brings nothing twice to one."""
-        self.keeper, self.brings, self.colours, self.untold = before.keeper, before.brings, before.colours, before.untold
+    def follow_on(self, before: HostClient) -> None:
+        """Knows what the host was told by an earlier connection of this terminal, which brings nothing twice to one."""
+        self.host_name, self.environment, self.colours, self.untold = before.host_name, before.environment, before.colours, before.untold
         self.is_known = before.is_known
 
     def leave_now(self) -> None:
         """Leaves, as another terminal has it."""
-        if not self.is_parting:
+        if not self.is_draining:
             self.leaves()
 
     def rename(self, again: str) -> None:
@@ -113,7 +113,7 @@ class ShellsLink(Following):
         self.again = again
 
     def is_connecting(self) -> bool:
-        """Whether a connection may be there soon: none is, as where the keeper was launched just before, and few were tried in a row."""
+        """Whether a connection may be there soon: none is, as where the host was launched just before, and few were tried in a row."""
         return bool(self.path) and self.peer is None and self.faults <= FEW
 
     def say_here(self) -> None:
@@ -124,7 +124,7 @@ class ShellsLink(Following):
             self.ask(line)
 
     def ask_with(self, line: str, data: bytes) -> bool:
-        """Says a line with bytes behind it, and tells whether a keeper is connected that takes them."""
+        """Says a line with bytes behind it, and tells whether a host is connected that takes them."""
         if not self.peer or not self.has_room(len(line) + len(data)):
             return False
         self.ask(line)
@@ -133,35 +133,35 @@ class ShellsLink(Following):
 
     def hear(self) -> None:
         """Takes what came; what can't be an answer ends the connection."""
-        piece = read(self.peer.fileno()) if self.peer else None
-        if piece == b"":
+        chunk = read(self.peer.fileno()) if self.peer else None
+        if chunk == b"":
             self.lost(LET_GO)
             return
         try:
-            for answer in self.reader.fed(piece or b""):
+            for answer in self.reader.fed(chunk or b""):
                 self.faults = 0
-                if not self.kept.take(answer):
+                if not self.scrollback.take(answer):
                     self.take([" ".join(answer.words)])
         except BadAnswer as fault:
             self.lost(str(fault))
 
     def tell_colour(self, text: str) -> None:
-        """Takes an answer of the terminal: what colour it has, which the keeper is told where this terminal edits."""
+        """Takes an answer of the terminal: what colour it has, which the host is told where this terminal edits."""
         told = told_in(text)
         line = " ".join((COLOUR, *told)) if told else ""
-        if line and self.kind == "edits" and line not in self.colours.lines():
+        if line and self.kind == "read-write" and line not in self.colours.lines():
             self.colours.take(line)
             self.untold.append(line)
             self.tell_colours()
 
     def tell_colours(self) -> None:
-        """Tells the keeper what it wasn't told of this terminal's colours, while it is there."""
+        """Tells the host what it wasn't told of this terminal's colours, while it is there."""
         for line in self.untold if self.is_there else ():
             self.ask(line)
         self.untold = [] if self.is_there else self.untold
 
     def note_zoom(self, note: ZoomNote | None) -> None:
-        """Tells the keeper of this terminal's zoom, or that it is over: at once, where it can, since what comes of it goes elsewhere."""
+        """Tells the host of this terminal's zoom, or that it is over: at once, where it can, since what comes of it goes elsewhere."""
         self.zoom = note
         if self.is_there and self.peer:
             self.ask(f"{ZOOM} {note or NONE}")
@@ -174,7 +174,7 @@ class ShellsLink(Following):
             if word in ANSWERS:
                 name, _, more = rest.partition(" ")
                 self.answered(name, word, more)
-            elif word == KEEPER:
+            elif word == HOST:
                 self.meet(rest)
             elif line == LEAVE:
                 self.leave_now()
@@ -191,23 +191,23 @@ class ShellsLink(Following):
             self.knows()
 
     def forget(self) -> None:
-        """Knows no more who is there. Where no keeper was known before, none is there that takes texts."""
-        self.others, self.is_there, self.zoomed = ToldOthers(), False, (0, None)
-        self.kept.forget()
+        """Knows no more who is there. Where no host was known before, none is there that takes texts."""
+        self.others, self.is_there, self.zoomed = OtherTerminals(), False, (0, None)
+        self.scrollback.forget()
         if not self.is_known:
             self.lose(UNTOLD)
 
     # ---- texts
 
     def meet(self, name: str) -> None:
-        """Goes on with a keeper: what it doesn't hold yet is given again. To another one all is lost that was given before: what was pasted
+        """Goes on with a host: what it doesn't hold yet is given again. To another one all is lost that was given before: what was pasted
         into a program isn't put into the shell that is in its place."""
-        is_other = self.keeper not in ("", name)
-        for line in self.brings if name != self.keeper else ():
+        is_other = self.host_name not in ("", name)
+        for line in self.environment if name != self.host_name else ():
             self.ask(line)
-        if name != self.keeper:
+        if name != self.host_name:
             self.untold = self.colours.lines()
-        self.keeper, self.is_there = name, True
+        self.host_name, self.is_there = name, True
         self.tell_colours()
         if self.zoom:
             self.ask(f"{ZOOM} {self.zoom}")
@@ -215,89 +215,89 @@ class ShellsLink(Following):
             self.lose(LOST)
         self.asked.clear()
         self.is_full = False
-        for text, data in self.giving.items():
+        for text, data in self.unstored.items():
             self.ask_to_take(text, data)
-        for text in self.given:
-            self.ask(f"ask {text}")
+        for text in self.stored:
+            self.ask(f"status {text}")
 
     def lose(self, word: str) -> None:
         """Gives no more of what was to be given, and tells why."""
-        names = [*self.given, *self.giving]
-        self.given.clear()
-        self.giving.clear()
+        names = [*self.stored, *self.unstored]
+        self.stored.clear()
+        self.unstored.clear()
         for name in names:
             self.answers(name, word, "")
 
     def takes_texts(self) -> bool:
-        """Whether a keeper takes texts, as far as is known: one was there, or is connected and may tell soon."""
+        """Whether a host takes texts, as far as is known: one was there, or is connected and may tell soon."""
         return self.is_known or self.peer is not None and self.is_awaited()
 
     def has_room(self, length: int) -> bool:
-        """Whether a text of so many bytes may wait here: where a keeper is stopped nothing goes, not even what isn't wanted any more."""
-        return len(self.waiting) + length <= MOST_GIVING
+        """Whether a text of so many bytes may wait here: where a host is stopped nothing goes, not even what isn't wanted any more."""
+        return len(self.waiting) + length <= MOST_UNSENT
 
-    def give(self, name: str, data: bytes | int) -> None:
-        """Has the keeper hold a text, or a buffer of its own as one, of which one that it hasn't is refused: it is given again, where the
-        connection is lost or the keeper has no room, until it is held."""
-        self.giving[name] = data
+    def store(self, name: str, data: bytes | int) -> None:
+        """Has the host hold a text, or a buffer of its own as one, of which one that it hasn't is refused: it is given again, where the
+        connection is lost or the host has no room, until it is held."""
+        self.unstored[name] = data
         if self.is_there and not self.is_full:
             self.ask_to_take(name, data)
 
-    def give_first(self) -> None:
-        """Gives a keeper that had no room the first text that waits, once it has told of those that it was given; the next ones are given
+    def store_first(self) -> None:
+        """Gives a host that had no room the first text that waits, once it has told of those that it was given; the next ones are given
         at once, where none waits."""
-        name = next(iter(self.giving), "")
+        name = next(iter(self.unstored), "")
         self.is_full = name != ""
         if name and self.is_there and not self.asked:
-            self.ask_to_take(name, self.giving[name])
+            self.ask_to_take(name, self.unstored[name])
 
     def ask_to_take(self, name: str, data: bytes | int) -> None:
-        """Gives a text, or a buffer, to the keeper that is there."""
+        """Gives a text, or a buffer, to the host that is there."""
         self.asked.add(name)
-        self.ask(giving_line(name, data))
+        self.ask(paste_line(name, data))
         self.waiting += b"" if isinstance(data, int) else data
 
     def cancel(self, name: str) -> None:
         """Gives a text no more. One that is half given is given whole, since its bytes are awaited."""
-        data = self.giving.pop(name, None)
-        self.given.pop(name, None)
+        data = self.unstored.pop(name, None)
+        self.stored.pop(name, None)
         if data is not None:
             self.drop_waiting(name, data)
 
     def drop_waiting(self, name: str, data: bytes | int) -> None:
-        """Take a text out of what waits for the keeper, where nothing of it was sent: no other line has its name, which is random."""
-        line = f"{giving_line(name, data)}\n".encode()
+        """Take a text out of what waits for the host, where nothing of it was sent: no other line has its name, which is random."""
+        line = f"{paste_line(name, data)}\n".encode()
         begin = self.waiting.find(line)
         if begin >= 0:
             del self.waiting[begin : begin + len(line) + (0 if isinstance(data, int) else len(data))]
             self.asked.discard(name)
             if self.is_full:
-                self.give_first()
+                self.store_first()
 
     def answered(self, name: str, word: str, more: str) -> None:
-        """Takes what becomes of a text that was given: one for which the keeper has no room is given again later."""
+        """Takes what becomes of a text that was given: one for which the host has no room is given again later."""
         self.asked.discard(name)
         if word == REFUSED and more in FULL:
             self.is_full = True
-            self.loop.later(f"give {name} again", GIVES_AGAIN, self.give_first)
-            if name in self.giving:
+            self.loop.later(f"paste {name} again", STORES_AGAIN, self.store_first)
+            if name in self.unstored:
                 self.answers(name, LATER, more)
             return
-        if name in self.giving or name in self.given:
+        if name in self.unstored or name in self.stored:
             self.take_answer(name, word, more)
         if self.is_full:
-            self.give_first()
+            self.store_first()
 
     def take_answer(self, name: str, word: str, more: str) -> None:
         """Takes what becomes of a text that was given, and has room."""
-        if self.giving.pop(name, None) is None:
-            del self.given[name]
-        if word == HELD:
-            self.given[name] = None
+        if self.unstored.pop(name, None) is None:
+            del self.stored[name]
+        if word == STORED:
+            self.stored[name] = None
         self.answers(name, word, more)
 
     def is_awaited(self) -> bool:
-        """Whether it isn't known yet who else is there, and may be soon: the keeper is about to tell it, or to be connected."""
+        """Whether it isn't known yet who else is there, and may be soon: the host is about to tell it, or to be connected."""
         return self.is_connecting() or self.peer is not None and not self.others.is_whole and self.loop.clock() < self.since + KNOWS
 
     def has_others(self) -> bool | None:
@@ -305,6 +305,6 @@ class ShellsLink(Following):
         return self.others.has_typing()
 
 
-def giving_line(name: str, data: bytes | int) -> str:
-    """Return the line by which a text is given, behind which its bytes stand, or a buffer of the keeper's."""
-    return f"give {name} {BUFFER} {data}" if isinstance(data, int) else f"give {name} {len(data)}"
+def paste_line(name: str, data: bytes | int) -> str:
+    """Return the line by which a text is given, behind which its bytes stand, or a buffer of the host's."""
+    return f"paste {name} {BUFFER} {data}" if isinstance(data, int) else f"paste {name} {len(data)}"

@@ -23,31 +23,31 @@ MOVES = ("focus", "next", "split", "close")
 MOST_PANES = 9
 ROOM = {"right": (0, 9), "down": (5, 0)}
 
-# A server knows so many client starts that edit, and that watch; from so many that edit on a person is warned: then none of another machine
-# that is new is taken.
-MOST_STARTS, MOST_WATCHERS = 64, 16
-WARNED_STARTS = 48
+# A server knows so many client processes that edit, and that watch; from so many that edit on a person is warned: then none of another
+# machine that is new is taken.
+MOST_CLIENTS, MOST_WATCHERS = 64, 16
+WARNED_CLIENTS = 48
 
-# What a line tells: where a pane is and which making of its number, that it is gone, which is in focus, or how many starts there were of
-# how many; and to who asked for it which modes a pane's program has set, or what else stands beside its terminal. It may have come from
+# What a line tells: where a pane is and which making of its number, that it is gone, which is in focus, or how many clients there were of
+# how many; and to who asked for it which modes a pane's program has set, or pane metadata. It may have come from
 # another machine: its numbers are small, and a text for the clipboard is base64 and has 131,072 characters at most.
-TOLD = re.compile(r"(?P<pane>[1-9])((?: \d{1,4}){4}) (?P<life>\d{1,19})|(?P<gone>[1-9]) gone|focus (?P<focus>[1-9])"
-                  r"|(?P<kind>starts|watchers) (?P<count>\d{1,4})(?: of \d{1,4})?"
-                  r"|(?P<aside>modes [1-9] \d{1,19}(?: [a-z0-9]{1,16}){0,16}|shape [1-9] \d{1,19} [0-6]"
+TOLD = re.compile(r"(?P<pane>[1-9])((?: \d{1,4}){4}) (?P<generation>\d{1,19})|(?P<gone>[1-9]) gone|focus (?P<focus>[1-9])"
+                  r"|(?P<kind>clients|watchers) (?P<count>\d{1,4})(?: of \d{1,4})?"
+                  r"|(?P<metadata>modes [1-9] \d{1,19}(?: [a-z0-9]{1,16}){0,16}|shape [1-9] \d{1,19} [0-6]"
                   r"|title [1-9] \d{1,19} (?:[0-9a-f]{2}){0,800})|bell [1-9] \d{1,19}|(?P<clip>clip [1-9] \d{1,19} "
                   r"(?:[A-Za-z0-9+/]{4}){0,32767}(?:[A-Za-z0-9+/]{4}|[A-Za-z0-9+/]{3}=|[A-Za-z0-9+/]{2}==)?)", re.ASCII)
 LONGEST_LINE = (1 << 17) + 64
 
-# What a server is asked for by who goes by what stands beside the panes' terminals, and the words that begin the lines of that; that a
+# What a server is asked for by who goes by pane metadata, and the words that begin the lines of that; that a
 # program wants what is pasted between brackets, and reports of the focus.
-ASIDE = "beside"
-ASIDES = ("modes", "shape", "title", "bell")
+METADATA = "metadata"
+METADATA_WORDS = ("modes", "shape", "title", "bell")
 BRACKETED = "paste"
 FOCUS = "focus"
 OTHER = "other"
 
 # What it is asked for by who sets a clipboard too, and the word of its lines.
-CLIPS = "clips"
+CLIPBOARD = "clipboard"
 CLIP = "clip"
 
 # So many seconds a server has for what it is asked once, and what is told behind the focus for coming.
@@ -64,12 +64,12 @@ class Rect(namedtuple("Rect", "row col rows cols")):
     cols: int
 
 
-class Places(namedtuple("Places", "rects focus starts watchers", defaults=(0, 0, 0))):
-    """What is told of a session: the rectangles of its panes by number, the focus, and how many starts edited and watched so far."""
+class Places(namedtuple("Places", "rects focus clients watchers", defaults=(0, 0, 0))):
+    """What is told of a session: the rectangles of its panes by number, the focus, and how many clients edited and watched so far."""
 
     rects: dict[int, Rect]
     focus: int
-    starts: int
+    clients: int
     watchers: int
 
     def size(self) -> tuple[int, int]:
@@ -91,12 +91,12 @@ class Places(namedtuple("Places", "rects focus starts watchers", defaults=(0, 0,
         return next((pane for pane, rect in self.rects.items() if covers(rect, row, col, True) and covers(rect, row, col, False)), 0)
 
     def is_full(self) -> bool:
-        """Whether the server knows as many starts as it ever does."""
-        return self.starts >= MOST_STARTS
+        """Whether the server knows as many clients as it ever does."""
+        return self.clients >= MOST_CLIENTS
 
     def warning(self) -> str:
-        """What a person is warned of, in a few words: that the server takes only so many starts more; nothing where it isn't needed."""
-        return f"{self.starts} of {MOST_STARTS} starts" if self.starts >= WARNED_STARTS else ""
+        """What a person is warned of, in a few words: that the server takes only so many clients more; nothing where it isn't needed."""
+        return f"{self.clients} of {MOST_CLIENTS} clients" if self.clients >= WARNED_CLIENTS else ""
 
     def neighbour(self, way: str) -> int | None:
         """The pane that touches the one in focus on that side, nearest to its middle; None where none does."""
@@ -145,30 +145,30 @@ def distance(rect: Rect, row: float, col: float) -> float:
     return max(rect.row - row, row - below, 0) + max(rect.col - col, col - beside, 0)
 
 
-def aside_of(line: str) -> str:
-    """What a line tells of what stands beside a pane's terminal: its word and the pane, and of the clipboard its word alone; nothing where
+def metadata_key(line: str) -> str:
+    """What a line tells of pane metadata: its word and the pane, and of the clipboard its word alone; nothing where
     it tells something else."""
     word, _, rest = line.partition(" ")
-    return f"{word} {rest[:1]}" if word in ASIDES else CLIP if word == CLIP else ""
+    return f"{word} {rest[:1]}" if word in METADATA_WORDS else CLIP if word == CLIP else ""
 
 
-class ToldAside(namedtuple("ToldAside", "life value line")):
-    """Something that stands beside the terminal of one making of a pane, and the line that tells it."""
+class PaneMetadata(namedtuple("PaneMetadata", "generation value line")):
+    """A piece of pane metadata of one making of a pane, and the line that tells it."""
 
-    life: str
+    generation: str
     value: str
     line: str
 
 
-class ToldPanes:
+class PanesState:
     """What was told of a session's panes so far."""
 
     def __init__(self) -> None:
         self.panes: dict[int, str] = {}
         self.rects: dict[int, Rect] = {}
-        # Of each pane which making of its number it is; and the newest of what stands beside its terminal, by word and pane.
-        self.lives: dict[int, str] = {}
-        self.asides: dict[str, ToldAside] = {}
+        # Of each pane which making of its number it is; and the newest of pane metadata, by word and pane.
+        self.generations: dict[int, str] = {}
+        self.metadata: dict[str, PaneMetadata] = {}
         # The text for the clipboard that was told last, and the pane, until it is taken.
         self.clip: tuple[int, str] | None = None
         self.focus = 0
@@ -182,19 +182,19 @@ class ToldPanes:
         if found["pane"]:
             pane = int(found["pane"])
             self.panes[pane], self.rects[pane] = line, Rect(*map(int, found[2].split()))
-            self.lives[pane] = found["life"]
+            self.generations[pane] = found["generation"]
         elif found["gone"]:
             self.panes.pop(int(found["gone"]), None)
             self.rects.pop(int(found["gone"]), None)
-            self.forget_aside(found["gone"])
+            self.forget_metadata(found["gone"])
         elif found["focus"]:
             self.focus = int(found["focus"])
-        elif found["aside"]:
-            life, _, value = line.split(" ", 2)[2].partition(" ")
-            self.asides[aside_of(line)] = ToldAside(life, value, line)
+        elif found["metadata"]:
+            generation, _, value = line.split(" ", 2)[2].partition(" ")
+            self.metadata[metadata_key(line)] = PaneMetadata(generation, value, line)
         elif found["clip"]:
-            pane_told, life, text = line.split(" ")[1:]
-            self.clip = (int(pane_told), text) if life == self.lives.get(int(pane_told)) else self.clip
+            pane_told, generation, text = line.split(" ")[1:]
+            self.clip = (int(pane_told), text) if generation == self.generations.get(int(pane_told)) else self.clip
         elif found["kind"]:
             self.counts[found["kind"]] = int(found["count"]), line
         return True
@@ -203,18 +203,18 @@ class ToldPanes:
         """Where the panes are; None where the focus, which is told behind them, isn't known, or on no pane."""
         if self.focus not in self.rects:
             return None
-        starts, watchers = (self.counts.get(kind, (0, ""))[0] for kind in ("starts", "watchers"))
-        return Places(dict(sorted(self.rects.items())), self.focus, starts, watchers)
+        clients, watchers = (self.counts.get(kind, (0, ""))[0] for kind in ("clients", "watchers"))
+        return Places(dict(sorted(self.rects.items())), self.focus, clients, watchers)
 
-    def forget_aside(self, pane: str) -> None:
-        """Knows nothing of what stands beside the terminal of a pane that is gone."""
-        for word in ASIDES:
-            self.asides.pop(f"{word} {pane}", None)
+    def forget_metadata(self, pane: str) -> None:
+        """Knows nothing of pane metadata of a pane that is gone."""
+        for word in METADATA_WORDS:
+            self.metadata.pop(f"{word} {pane}", None)
 
     def value(self, word: str, pane: int) -> str:
-        """What is told by a word of what stands beside a pane's terminal; nothing where it isn't known of this making of the pane."""
-        told = self.asides.get(f"{word} {pane}")
-        return told.value if told and told.life == self.lives.get(pane) else ""
+        """What is told by a word of pane metadata; nothing where it isn't known of this making of the pane."""
+        told = self.metadata.get(f"{word} {pane}")
+        return told.value if told and told.generation == self.generations.get(pane) else ""
 
     def taken_clip(self) -> tuple[int, str] | None:
         """The text for the clipboard that was told since, and the pane."""
@@ -225,7 +225,7 @@ class ToldPanes:
         """Whether a pane's program is known to have set a mode."""
         return mode in self.value("modes", pane).split()
 
-    def aside(self, pane: int) -> tuple[str, int]:
+    def title_and_shape(self, pane: int) -> tuple[str, int]:
         """A pane's title, and the shape of its cursor, as far as they are known."""
         return bytes.fromhex(self.value("title", pane)).decode("utf-8", "replace"), int(self.value("shape", pane) or 0)
 
@@ -235,12 +235,12 @@ class ToldPanes:
 
     def lines(self) -> list[str]:
         """The lines by which somebody who knows nothing knows as much, in the order of a server."""
-        counts = [self.counts[kind][1] for kind in ("starts", "watchers") if kind in self.counts]
+        counts = [self.counts[kind][1] for kind in ("clients", "watchers") if kind in self.counts]
         return [*(line for _, line in sorted(self.panes.items())), f"focus {self.focus}", *counts] if self.places() else []
 
-    def lines_beside(self) -> dict[str, str]:
-        """The lines by which somebody knows as much of what stands beside the terminals, by word and pane. Bells have rung."""
-        return {key: told.line for key, told in self.asides.items()}
+    def metadata_lines(self) -> dict[str, str]:
+        """The lines by which somebody knows as much of pane metadata, by word and pane. Bells have rung."""
+        return {key: told.line for key, told in self.metadata.items()}
 
 
 def asked_places(path: str | os.PathLike[str], seconds: float = ASKED) -> Places | None:
@@ -255,12 +255,12 @@ def asked_places(path: str | os.PathLike[str], seconds: float = ASKED) -> Places
 
 def places_by(peer: socket.socket, end: float) -> Places | None:
     """Where the panes are, as is told there until a moment; None where it isn't."""
-    told, lines = ToldPanes(), Lines()
+    told, lines = PanesState(), Lines()
     while not told.is_whole() and comes(peer, max(0.0, end - time.monotonic())):
-        piece = read(peer.fileno())
-        if piece == b"":
+        chunk = read(peer.fileno())
+        if chunk == b"":
             break
-        for line in lines.fed(piece or b""):
+        for line in lines.fed(chunk or b""):
             told.take(line)
         end = min(end, time.monotonic() + BEHIND) if told.places() else end
     return told.places()

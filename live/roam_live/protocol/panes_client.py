@@ -10,8 +10,8 @@ from roam_live.common.errors import reason, say
 from roam_live.common.event_loop import Loop
 from roam_live.common.io import Lines, read, write
 from roam_live.common.unix_socket import SocketPeer, connected, connected_now, runs_program
-from roam_live.protocol.panes import ASIDE, BRACKETED, CLIPS, LONGEST_LINE, Places, ToldPanes
-from roam_live.protocol.queries import ASKS
+from roam_live.protocol.panes import BRACKETED, CLIPBOARD, LONGEST_LINE, METADATA, PanesState, Places
+from roam_live.protocol.queries import QUERIES
 
 TYPE_CHECKING = False
 if TYPE_CHECKING:
@@ -25,15 +25,15 @@ LET_GO = "the server lets this go, as where as many others follow the panes as m
 QUIET = 3.0
 TELLS_NOTHING = "the server tells nothing, as where no descriptor is left for it"
 
-# A connection that ended sooner is had again after a longer pause, whatever it told: so two keepers of shells, who take the server's one
+# A connection that ended sooner is had again after a longer pause, whatever it told: so two pty hosts, who take the server's one
 # place for them from each other, do so ever more seldom.
 SOUND = 5.0
 
 # A server that lets go who asks for texts for a clipboard is asked for them again after so many seconds.
 CLIPS_AGAIN = 60.0
 
-# What a server is told by the keeper of shells, for which it has a place of its own; and what it answers to a line that it doesn't know.
-KEEPER = "keeper"
+# What a server is told by the pty host, for which it has a place of its own; and what it answers to a line that it doesn't know.
+HOST = "host"
 BAD_LINE = "bad line"
 
 # A line that no server knows: the refusal shows that it lives. So many may be unanswered.
@@ -53,7 +53,7 @@ NO_PLACE = "no more may follow where panes are; an arrow goes to the next pane"
 STANDS = 1.0
 
 
-class Following:
+class Subscription:
     """Follows a socket, as `panes`, which a call connects to: a call for the lines that came, and one where the connection is lost. It is
     had again then after pauses, for as long as this is there."""
 
@@ -96,7 +96,7 @@ class Following:
 
     def lengthen(self) -> None:
         """Takes lines that are longer where a text for a clipboard may be told."""
-        if CLIPS in self.words:
+        if CLIPBOARD in self.words:
             self.lines.longest = LONGEST_LINE
 
     def ask(self, line: str) -> None:
@@ -107,11 +107,11 @@ class Following:
 
     def hear(self) -> None:
         """Takes what came."""
-        piece = read(self.peer.fileno()) if self.peer else None
-        if piece == b"":
+        chunk = read(self.peer.fileno()) if self.peer else None
+        if chunk == b"":
             self.lost(LET_GO)
             return
-        lines = self.lines.fed(piece) if piece else []
+        lines = self.lines.fed(chunk) if chunk else []
         if lines:
             self.faults = 0
             self.hears(lines)
@@ -120,10 +120,10 @@ class Following:
         """Lets go of a connection, which is had again after a pause."""
         if self.peer:
             self.soon = self.soon + 1 if self.loop.clock() < self.since + SOUND else 1
-        if self.soon > 1 and CLIPS in self.words:
+        if self.soon > 1 and CLIPBOARD in self.words:
             # Who is let go again and again may be so for what was asked.
-            self.words.remove(CLIPS)
-            self.loop.later("clips again", CLIPS_AGAIN, lambda: self.want(CLIPS))
+            self.words.remove(CLIPBOARD)
+            self.loop.later("clipboard again", CLIPS_AGAIN, lambda: self.want(CLIPBOARD))
         self.leave()
         self.why = why
         self.loop.later(self.again, PAUSES[min(self.pauses(), len(PAUSES) - 1)], self.connect)
@@ -156,8 +156,8 @@ class Following:
             self.lost(reason(fault))
 
 
-class KeeperFollowing(Following):
-    """Follows the panes of a folder's server, of this machine, and what stands beside their terminals, for what keeps their shells: it says
+class HostSubscription(Subscription):
+    """Follows the panes of a folder's server, of this machine, and pane metadata, for the pty host: it says
     so, and what is wrong is told in words, once, and that it is over."""
 
     def __init__(self, path: str, loop: Loop, hears: Callable[[list[str]], object], loses: Callable[[], object],
@@ -174,12 +174,12 @@ class KeeperFollowing(Following):
         self.begin(peer)
 
     def begin(self, peer: socket.socket) -> None:
-        """Follows a connection that is there; something has to come soon. An earlier server doesn't know who keeps the shells."""
+        """Follows a connection that is there; something has to come soon. An earlier server doesn't know the pty host."""
         super().begin(peer)
         if runs_program(peer):
-            self.ask(KEEPER)
-            self.ask(ASIDE)
-            self.ask(ASKS)
+            self.ask(HOST)
+            self.ask(METADATA)
+            self.ask(QUERIES)
         self.loop.later(self.quiet, QUIET, lambda: self.tell(TELLS_NOTHING))
 
     def end(self) -> None:
@@ -213,8 +213,8 @@ class KeeperFollowing(Following):
             self.tells(self.told)
 
 
-class AsideFollowing(Following):
-    """Follows the panes, and what stands beside their terminals: an earlier server doesn't know the word, and answers so."""
+class MetadataSubscription(Subscription):
+    """Follows the panes, and pane metadata: an earlier server doesn't know the word, and answers so."""
 
     # Whether it was asked, and hasn't answered that.
     has_asked = False
@@ -222,26 +222,26 @@ class AsideFollowing(Following):
     def begin(self, peer: socket.socket) -> None:
         """Follows a connection that is there."""
         super().begin(peer)
-        self.has_asked = ASIDE in self.words
+        self.has_asked = METADATA in self.words
 
     def hear_refusal(self) -> None:
         """Takes note that it doesn't know a word: of two the one that came later."""
-        if CLIPS in self.words:
-            self.words.remove(CLIPS)
+        if CLIPBOARD in self.words:
+            self.words.remove(CLIPBOARD)
         else:
             self.has_asked = False
 
 
-class PanesFollower:
+class PanesSubscriber:
     """What a front end knows of a session's panes: where they are, None where that isn't told. A call is for what is new of that, and one
     for why it can't be told here, which a person is told once."""
 
     def __init__(self, folder: pathlib.Path | None, loop: Loop, changed: Callable[[], object], tells: Callable[[str], object]) -> None:
         self.folder, self.loop, self.changed, self.tells = folder, loop, changed, tells
-        self.told = ToldPanes()
+        self.told = PanesState()
         self.places: Places | None = None
         # The title of the pane in focus, and the shape of its cursor; and the modes that its program has set.
-        self.aside = ("", 0)
+        self.title_and_shape = ("", 0)
         self.focus_modes: list[str] = []
         # What is called with a text for the clipboard that the program in focus set, and the making of its pane.
         self.clipped: Callable[[str, str], object] = lambda text, making: None
@@ -250,10 +250,10 @@ class PanesFollower:
         self.probes: deque[Callable[[], object]] = deque()
         self.awaited_until = loop.clock() + AWAITED if folder else 0.0
         path = os.path.join(folder, "panes") if folder else ""
-        self.following = AsideFollowing(lambda: connected_now(path), loop, self.hear, self.lose)
-        self.following.want(ASIDE)
+        self.subscription = MetadataSubscription(lambda: connected_now(path), loop, self.hear, self.lose)
+        self.subscription.want(METADATA)
         if folder:
-            self.following.connect()
+            self.subscription.connect()
 
     def is_awaited(self) -> bool:
         """Whether nothing is told yet, and something may be soon."""
@@ -266,12 +266,12 @@ class PanesFollower:
     def follow_clips(self, clipped: Callable[[str, str], object]) -> None:
         """Has a call be for each text for the clipboard that the program in focus sets, with the making of its pane."""
         self.clipped = clipped
-        self.following.want(CLIPS)
+        self.subscription.want(CLIPBOARD)
 
     def making(self, pane: int) -> str:
         """Which making of its number a pane is: another has other words. Nothing where that isn't known."""
-        life = self.told.lives.get(pane) if self.places else None
-        return f"{pane} {life}" if life else ""
+        generation = self.told.generations.get(pane) if self.places else None
+        return f"{pane} {generation}" if generation else ""
 
     def modes(self, pane: int) -> list[str]:
         """The modes that a pane's program is known to have set."""
@@ -283,26 +283,26 @@ class PanesFollower:
 
     def knows_modes(self) -> bool:
         """Whether it is told here which modes the panes' programs have set."""
-        return self.places is not None and self.following.has_asked
+        return self.places is not None and self.subscription.has_asked
 
     def is_full(self) -> bool:
-        """Whether the server is known to have had as many starts as it ever has."""
+        """Whether the server is known to have had as many clients as it ever has."""
         return self.places is not None and self.places.is_full()
 
     def probe(self, answered: Callable[[], object]) -> None:
         """Ask the server for a sign of life; `answered` is called once it comes."""
-        if self.following.peer and len(self.probes) < MOST_PROBES:
+        if self.subscription.peer and len(self.probes) < MOST_PROBES:
             self.probes.append(answered)
-            self.following.ask(PROBE)
+            self.subscription.ask(PROBE)
 
     def hear(self, lines: list[str]) -> None:
         """Takes what was told."""
         for _ in range(lines.count(BAD_LINE)):
-            (self.probes.popleft() if self.probes else self.following.hear_refusal)()
+            (self.probes.popleft() if self.probes else self.subscription.hear_refusal)()
         taken = [self.told.take(line) for line in lines if line != BAD_LINE]
         if taken and not any(taken) and not self.places:
             self.say(UNTOLD)
-        if self.has_no_place and self.loop.clock() < self.following.since + STANDS:
+        if self.has_no_place and self.loop.clock() < self.subscription.since + STANDS:
             self.loop.later("panes stand", STANDS, self.know)
         else:
             self.know()
@@ -310,11 +310,11 @@ class PanesFollower:
     def know(self) -> None:
         """Goes by what was told."""
         self.has_no_place = False
-        before, self.places = (self.places, self.aside, self.focus_modes), self.told.places()
-        self.aside = self.told.aside(self.places.focus) if self.places else ("", 0)
+        before, self.places = (self.places, self.title_and_shape, self.focus_modes), self.told.places()
+        self.title_and_shape = self.told.title_and_shape(self.places.focus) if self.places else ("", 0)
         self.focus_modes = self.modes(self.places.focus) if self.places else []
         self.was_told = self.was_told or self.places is not None
-        if (self.places, self.aside, self.focus_modes) != before:
+        if (self.places, self.title_and_shape, self.focus_modes) != before:
             self.changed()
         clip = self.told.taken_clip()
         if clip and self.places and clip[0] == self.places.focus:
@@ -322,24 +322,24 @@ class PanesFollower:
 
     def lose(self) -> None:
         """Goes on without, until it is told anew; where it stays so from the beginning that is said."""
-        following, was_told = self.following, self.places is not None
+        subscription, was_told = self.subscription, self.places is not None
         self.probes.clear()
-        self.told, self.places, self.aside, self.focus_modes = ToldPanes(), None, ("", 0), []
+        self.told, self.places, self.title_and_shape, self.focus_modes = PanesState(), None, ("", 0), []
         self.loop.drop("panes stand")
         if was_told:
             # A relay that goes another way cuts what it carries, which is there again in a moment.
             self.awaited_until = self.loop.clock() + AWAITED
             self.changed()
-        if following.faults >= TRIES and following.is_gone and self.folder:
+        if subscription.faults >= TRIES and subscription.is_gone and self.folder:
             self.say(UNTOLD if os.path.exists(os.path.join(self.folder, "bells")) else NOR_BELLS)
-        elif max(following.faults, following.soon) >= TRIES and following.why == LET_GO:
+        elif max(subscription.faults, subscription.soon) >= TRIES and subscription.why == LET_GO:
             self.has_no_place = True
             self.say(NO_PLACE)
 
     def close(self) -> None:
         """Follows them no more."""
-        self.following.end()
-        for name in ("panes stand", "clips again"):
+        self.subscription.end()
+        for name in ("panes stand", "clipboard again"):
             self.loop.drop(name)
 
     def say(self, words: str) -> None:

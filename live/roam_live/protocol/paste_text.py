@@ -1,4 +1,4 @@
-"""Texts that are pasted: what of one is typed, the brackets round it, and the mark that is typed in its place."""
+"""Texts that are pasted: what of one is typed, the brackets round it, and the placeholder that is typed in its place."""
 from __future__ import annotations
 
 import os
@@ -8,7 +8,7 @@ import re
 OPENS, CLOSES = b"\x1b[200~", b"\x1b[201~"
 BRACKET_ENDS = tuple(begin + kind for begin in (b"\x1b[", b"\xc2\x9b", b"\x9b") for kind in (b"200", b"201"))
 
-# A text has fewer bytes, and all that wait at a keeper have together.
+# A text has fewer bytes, and all that wait at a host have together.
 MOST_BYTES = 1 << 24
 
 # The control characters that are no part of a paste: all but TAB and CR, which LF becomes.
@@ -18,8 +18,8 @@ DROPPED_BUT_ESCAPE = re.compile(r"[\x00-\x08\x0a-\x0c\x0e-\x1a\x1c-\x1f\x7f-\x9f
 # MOST_TEXTS texts wait at the pty host at most, with MOST_BYTES together.
 MOST_TEXTS = 64
 
-# What is told of a text: that it waits, that it was put at its mark, or that it isn't known, as one that waited for too long.
-HELD, PUT, LOST = "held", "put", "lost"
+# What is told of a text: that it waits, that it was put at its placeholder, or that it isn't known, as one that waited for too long.
+STORED, INSERTED, LOST = "stored", "inserted", "lost"
 
 # Why there is no room for one yet.
 TOO_MANY = f"{MOST_TEXTS} texts wait to be pasted"
@@ -56,18 +56,18 @@ def random_name() -> str:
     return os.urandom(8).hex()
 
 
-# The acts that begin and end a mark.
-MARK_ACTS = "char 9f", "char 9c"
+# The acts that begin and end a placeholder.
+PLACEHOLDER_ACTS = "char 9f", "char 9c"
 
 
-def mark_acts(name: str) -> list[str]:
-    """The acts that type the mark of a text: APC, its name and ST, in forms that no key sends. They stand in one line, so that nothing
-    comes between."""
+def placeholder_acts(name: str) -> list[str]:
+    """The acts that type the placeholder of a text: APC, its name and ST, in forms that no key sends. They stand in one line, so that
+    nothing comes between."""
     return [f"char {ord(letter):x}" for letter in f"\x9f{name}\x9c"]
 
 
-def marked_in(acts: list[str]) -> str:
-    """Return the name of the text whose mark these acts type; "" if they type none."""
-    begin = acts.index(MARK_ACTS[0]) + 1 if MARK_ACTS[0] in acts else len(acts)
-    end = acts.index(MARK_ACTS[1], begin) if MARK_ACTS[1] in acts[begin:] else begin
+def placeholder_in(acts: list[str]) -> str:
+    """Return the name of the text whose placeholder these acts type; "" if they type none."""
+    begin = acts.index(PLACEHOLDER_ACTS[0]) + 1 if PLACEHOLDER_ACTS[0] in acts else len(acts)
+    end = acts.index(PLACEHOLDER_ACTS[1], begin) if PLACEHOLDER_ACTS[1] in acts[begin:] else begin
     return "".join(chr(int(act.removeprefix("char "), 16)) for act in acts[begin:end])

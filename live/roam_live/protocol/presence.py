@@ -1,4 +1,4 @@
-"""Who is at a session: terminals that say so to the keeper of its shells, and what that tells of the others, line by line."""
+"""Who is at a session: terminals that say so to the pty host, and what that tells of the others, line by line."""
 from __future__ import annotations
 
 import os
@@ -22,7 +22,7 @@ MOST_ATTENDED = 256
 
 # The longest name of a terminal, what one does, and the highest numbers of its rows and columns, and of terminals.
 LONGEST_NAME = 64
-KINDS = ("edits", "watches")
+KINDS = ("read-write", "read-only")
 MOST_SIZE, MOST_NUMBER = 99999, 9999999999
 
 # So many others are told of at most; they may be told from another machine.
@@ -30,7 +30,7 @@ MOST_OTHERS = 64
 
 
 class Presence(namedtuple("Presence", "name rows cols kind")):
-    """A terminal that is at a session: its name, its size, and whether it `edits` or `watches`."""
+    """A terminal that is at a session: its name, its size, and whether it `read-write` or `read-only`."""
 
     name: str
     rows: int
@@ -96,7 +96,7 @@ class Attended:
             self.since[name] = self.since[name][0], now
 
 
-class ToldOthers:
+class OtherTerminals:
     """What was told of the others at a session so far."""
 
     def __init__(self) -> None:
@@ -122,4 +122,4 @@ class ToldOthers:
 
     def has_typing(self) -> bool | None:
         """Whether one of them types; None where that isn't known."""
-        return any(one.kind == "edits" for one in self.there.values()) if self.is_whole else None
+        return any(one.kind == "read-write" for one in self.there.values()) if self.is_whole else None

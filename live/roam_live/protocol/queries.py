@@ -6,7 +6,7 @@ import pathlib
 from roam_live.protocol.colours import NUMBERS, Colours
 
 # What a server is asked for by who answers, and the word that begins each line of that. No number there has more digits.
-ASKS = "asks"
+QUERIES, QUERY = "queries", "query"
 MOST_DIGITS = 19
 
 # What the terminal of a pane is called (XTVERSION).
@@ -18,11 +18,11 @@ NAMED = b"\x1bP>|roam %s\x1b\\" % VERSION.encode()
 MODES = {"frames": 2026, "pastes": 2004}
 SET, RESET, UNKNOWN = 1, 2, 0
 
-# How an answer ends that tells a colour: as the question did.
+# How an answer ends that tells a colour: as the query did.
 BELL, ENDED = b"\x07", b"\x1b\\"
 
 # The word by which a server holds frames together.
-AS_MEANT = b"--as-meant"
+AS_MEANT = b"--normalize"
 
 
 def holds_frames(process: int | None) -> bool:
@@ -38,11 +38,11 @@ def mode_told(mode: int, state: int) -> bytes:
     return b"\x1b[?%d;%d$y" % (mode, state)
 
 
-class PaneQuestion:
-    """A question of a making of a pane's program, by the words of a line."""
+class PaneQuery:
+    """A query of a making of a pane's program, by the words of a line."""
 
     def __init__(self, words: list[str]) -> None:
-        self.pane, self.life, self.what, self.more = int(words[0]), int(words[1]), words[2], words[3:]
+        self.pane, self.generation, self.what, self.more = int(words[0]), int(words[1]), words[2], words[3:]
 
     def answer(self, colours: Colours, has_frames: bool) -> bytes:
         """What is typed for it: nothing where a colour isn't known."""
@@ -60,11 +60,11 @@ class PaneQuestion:
 BEHIND = {"version": [], "frames": ["set"], "pastes": ["set"], "foreground": ["bell"], "background": ["bell"]}
 
 
-def question_in(line: str) -> PaneQuestion | None:
-    """The question that a line tells, `asks P LIFE WHAT`; None where it is another line."""
+def query_in(line: str) -> PaneQuery | None:
+    """The query that a line tells, `query P LIFE WHAT`; None where it is another line."""
     word, *words = line.split(" ")
-    if word != ASKS or len(words) < 3 or words[2] not in BEHIND:
+    if word != QUERY or len(words) < 3 or words[2] not in BEHIND:
         return None
     if not all(part.isascii() and part.isdigit() and len(part) <= MOST_DIGITS for part in words[:2]):
         return None
-    return PaneQuestion(words) if words[3:] in ([], BEHIND[words[2]]) else None
+    return PaneQuery(words) if words[3:] in ([], BEHIND[words[2]]) else None

@@ -1,4 +1,4 @@
-"""The cells of a screen as a client start tells it, each with its style: what stands in one, and the SGR before it."""
+"""The cells of a screen as a client process tells it, each with its style: what stands in one, and the SGR before it."""
 from __future__ import annotations
 
 from collections.abc import Iterable

@@ -1,4 +1,4 @@
-"""What a front end asks of the rows that left a pane's screen, and of buffers, which the keeper of shells keeps: questions over its
+"""What a front end asks of the rows scrolled off a pane's screen, and of buffers, which the pty host keeps: questions over its
 connection there, each with a call for the answer."""
 from __future__ import annotations
 
@@ -23,23 +23,23 @@ BACK, ON = "back", "on"
 MOST_ANSWER = 1 << 24
 MOST_LISTED = 64
 
-# No text that is searched for has so many bytes: it stands in a line, which the keeper takes up to 256.
+# No text that is searched for has so many bytes: it stands in a line, which the host takes up to 256.
 MOST_SOUGHT = 180
 
-# So many rows are asked for at once at most: the keeper hands out no more.
+# So many rows are asked for at once at most: the host hands out no more.
 MOST_ROWS = 2000
 
 
 class BadAnswer(Exception):
-    """What a keeper told can't be an answer."""
+    """What a host told can't be an answer."""
 
 
-class Snapshot(namedtuple("Snapshot", "pane life first end screen")):
+class Snapshot(namedtuple("Snapshot", "pane generation first end screen")):
     """A pane's rows at one moment: those that left are `first` to `end` without it, and those of the screen, which are given, are `end` and
     on. Each has a space or `+` before it, which says that the row goes on in the next."""
 
     pane: int
-    life: int
+    generation: int
     first: int
     end: int
     screen: list[bytes]
@@ -55,23 +55,23 @@ class BufferNote(namedtuple("BufferNote", "number length sample")):
 
 if TYPE_CHECKING:
 
-    class KeptRows(Protocol):
-        """Who answers what is asked of kept rows and buffers. A call may be told at once, as None where no keeper is there that keeps any;
-        the rows of a snapshot stay as they are until it is released, or another is asked for."""
+    class ScrollbackSource(Protocol):
+        """Who answers what is asked of scrollback rows and buffers. A call may be told at once, as None where no host is there that keeps
+        any; the rows of a snapshot stay as they are until it is released, or another is asked for."""
 
         # What is called with a pane, its life, and how many rows came since its snapshot.
         on_more: Callable[[int, int, int], object]
 
-        def snapshot(self, pane: int, life: int, told: Callable[[Snapshot | None], object]) -> None:
+        def snapshot(self, pane: int, generation: int, told: Callable[[Snapshot | None], object]) -> None:
             """Asks for a snapshot of a pane; this end has one at a time."""
 
-        def rows(self, pane: int, life: int, first: int, count: int, told: Callable[[int, list[bytes]], object]) -> None:
+        def rows(self, pane: int, generation: int, first: int, count: int, told: Callable[[int, list[bytes]], object]) -> None:
             """Asks for rows by their numbers; told with the number of the first that is there, and those that were had: maybe fewer."""
 
-        def find(self, pane: int, life: int, first: int, back: bool, text: str, told: Callable[[int | None], object]) -> None:
+        def find(self, pane: int, generation: int, first: int, back: bool, text: str, told: Callable[[int | None], object]) -> None:
             """Asks for the next row behind `first`, or before it, in which a text begins; case counts where the text has a capital."""
 
-        def release(self, pane: int, life: int) -> None:
+        def release(self, pane: int, generation: int) -> None:
             """Lets a snapshot go."""
 
         def add_buffer(self, text: bytes, told: Callable[[int | None], object]) -> None:
@@ -111,7 +111,7 @@ def rows_in(data: bytes) -> list[bytes]:
 
 
 class AnswerReader:
-    """Takes apart what a keeper tells: lines, of which some have bytes behind them, or more lines."""
+    """Takes apart what a host tells: lines, of which some have bytes behind them, or more lines."""
 
     # The words of those with bytes, by how many words they have, the last of which is the length.
     LENGTHS = {ROWS: 6, SNAPSHOT: 7}
@@ -121,9 +121,9 @@ class AnswerReader:
         self.answer: Answer | None = None
         self.missing = self.lines_missing = 0
 
-    def fed(self, piece: bytes) -> list[Answer]:
+    def fed(self, chunk: bytes) -> list[Answer]:
         """What is whole now; BadAnswer where a line, or what is behind it, is longer than any."""
-        self.came += piece
+        self.came += chunk
         found: list[Answer] = []
         while True:
             if self.answer and self.missing:
@@ -162,25 +162,25 @@ class AnswerReader:
         return True
 
 
-class RowsLink:
-    """The questions of this end, as `KeptRows` has them: a call asks the keeper, by a line and bytes behind it, and tells whether one is
-    connected."""
+class ScrollbackClient:
+    """The questions of this end, as `ScrollbackSource` has them: a call asks the host, by a line and bytes behind it, and tells whether one
+    is connected."""
 
     def __init__(self, ask: Callable[[str, bytes], bool]) -> None:
         self.ask = ask
-        self.on_more: Callable[[int, int, int], object] = lambda pane, life, count: None
+        self.on_more: Callable[[int, int, int], object] = lambda pane, generation, count: None
         # What was asked, in the order in which it is answered: the word of its answer, and the call.
         self.asked: deque[tuple[str, Told]] = deque()
-        # Whether the keeper that is connected has answered something of this, so that it knows how many bytes follow a line.
+        # Whether the host that is connected has answered something of this, so that it knows how many bytes follow a line.
         self.is_known = False
 
     # ---- questions
 
-    def count(self, pane: int, life: int, told: Callable[[tuple[int, int] | None], object]) -> None:
+    def count(self, pane: int, generation: int, told: Callable[[tuple[int, int] | None], object]) -> None:
         """Asks for the numbers of the first row that is kept and of that behind the last."""
-        self.put(f"{COUNT} {pane} {life}", COUNT, lambda answer: told((answer.number(3), answer.number(4)) if answer else None))
+        self.put(f"{COUNT} {pane} {generation}", COUNT, lambda answer: told((answer.number(3), answer.number(4)) if answer else None))
 
-    def rows(self, pane: int, life: int, first: int, count: int, told: Callable[[int, list[bytes]], object]) -> None:
+    def rows(self, pane: int, generation: int, first: int, count: int, told: Callable[[int, list[bytes]], object]) -> None:
         """Asks for rows by their numbers; told with the number of the first that is there, and those that were had: maybe fewer."""
 
         def take(answer: Answer | None) -> None:
@@ -189,29 +189,29 @@ class RowsLink:
             else:
                 told(first, [])
 
-        self.put(f"{ROWS} {pane} {life} {max(0, first)} {min(count, MOST_ROWS)}", ROWS, take)
+        self.put(f"{ROWS} {pane} {generation} {max(0, first)} {min(count, MOST_ROWS)}", ROWS, take)
 
-    def find(self, pane: int, life: int, first: int, back: bool, text: str, told: Callable[[int | None], object]) -> None:
+    def find(self, pane: int, generation: int, first: int, back: bool, text: str, told: Callable[[int | None], object]) -> None:
         """Asks for the next row behind `first`, or before it, in which a text begins; case counts where the text has a capital. No row
         holds a text with a control character, or one that is longer than a line may be."""
         if not text.isprintable() or not text or len(text.encode("utf-8", "replace")) > MOST_SOUGHT:
             told(None)
             return
-        line = f"{FIND} {pane} {life} {max(0, first)} {BACK if back else ON} {text}"
+        line = f"{FIND} {pane} {generation} {max(0, first)} {BACK if back else ON} {text}"
         self.put(line, FOUND, lambda answer: told(answer.number(3) if answer else None))
 
-    def snapshot(self, pane: int, life: int, told: Callable[[Snapshot | None], object]) -> None:
+    def snapshot(self, pane: int, generation: int, told: Callable[[Snapshot | None], object]) -> None:
         """Asks for a snapshot of a pane; this end has one at a time."""
 
         def take(answer: Answer | None) -> None:
-            told(Snapshot(pane, life, answer.number(3), answer.number(4), rows_in(answer.data)) if answer else None)
+            told(Snapshot(pane, generation, answer.number(3), answer.number(4), rows_in(answer.data)) if answer else None)
 
-        self.put(f"{SNAPSHOT} {pane} {life}", SNAPSHOT, take)
+        self.put(f"{SNAPSHOT} {pane} {generation}", SNAPSHOT, take)
 
-    def release(self, pane: int, life: int) -> None:
+    def release(self, pane: int, generation: int) -> None:
         """Lets a snapshot go."""
         if self.is_known:
-            self.ask(f"{RELEASE} {pane} {life}", b"")
+            self.ask(f"{RELEASE} {pane} {generation}", b"")
 
     def add_buffer(self, text: bytes, told: Callable[[int | None], object]) -> None:
         """Has a buffer kept; told with its number, None where it isn't kept."""
@@ -222,7 +222,7 @@ class RowsLink:
                 return
             self.put(f"{BUFFER} {ADD} {len(text)}", BUFFER, lambda answer: told(answer.number(2) if answer else None), text)
 
-        # An earlier keeper would take the bytes for lines.
+        # An earlier host would take the bytes for lines.
         if self.is_known:
             add(True)
         else:
@@ -237,7 +237,7 @@ class RowsLink:
         self.put(f"{BUFFER} {SHOW} {number}", BUFFER, lambda answer: told(answer.data if answer else None))
 
     def put(self, line: str, word: str, told: Told, data: bytes = b"") -> None:
-        """Asks, and notes who is told; at once that it can't be, where no keeper is connected."""
+        """Asks, and notes who is told; at once that it can't be, where no host is connected."""
         if self.ask(line, data):
             self.asked.append((word, told))
         else:
@@ -246,7 +246,7 @@ class RowsLink:
     # ---- answers
 
     def take(self, answer: Answer) -> bool:
-        """Takes what a keeper told, and tells whether it is of this; BadAnswer where it can't be."""
+        """Takes what a host told, and tells whether it is of this; BadAnswer where it can't be."""
         words = answer.words
         if words[0] == MORE:
             self.on_more(*(number_at(words, place) for place in (1, 2, 3)))
@@ -262,7 +262,7 @@ class RowsLink:
         return True
 
     def forget(self) -> None:
-        """Knows of no keeper any more: nothing that was asked is answered."""
+        """Knows of no host any more: nothing that was asked is answered."""
         self.is_known = False
         asked, self.asked = self.asked, deque()
         for _, told in asked:

@@ -69,7 +69,7 @@ class Home:
         return f": {why}" if why and why != os.strerror(errno.ECONNREFUSED) else ""
 
     def attach_words(self, more: list[str]) -> list[str]:
-        """The words of a client start; no id stands in them where the folder keeps others out."""
+        """The words of a client process; no id stands in them where the folder keeps others out."""
         if self.folder:
             return [program(), "attach", "--dir", self.folder, *more]
         return [program(), "attach", "--port", str(self.port), "--session", self.session, "--client", random_id(), *more]

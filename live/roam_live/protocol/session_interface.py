@@ -8,24 +8,24 @@ from collections.abc import Sequence
 from typing import Protocol
 
 
-class Kept(Protocol):
+class HostedSession(Protocol):
     """A session whose shells are kept by a process that may end before it."""
 
     name: str
 
     def process(self, role: str) -> int | None:
-        """The process of a role, as `server`, `shells` or `terminals`; None where none runs, or none is known."""
+        """The process of a role, as `server`, `host` or `client`; None where none runs, or none is known."""
 
-    def revive_shells(self) -> bool:
+    def revive_host(self) -> bool:
         """Spawns the shells anew where what kept them has ended, and this process may; tells whether they run."""
 
 
-class AnySession(Kept, Protocol):
+class AnySession(HostedSession, Protocol):
     """A session, as a front end needs it. Its words name where it is, as in `no server is {session}`."""
 
     # The role of the process whose end is the session's.
     served: str
-    # The socket of the client start.
+    # The socket of the client process.
     terminals: pathlib.Path
 
     @property
@@ -49,7 +49,7 @@ class AnySession(Kept, Protocol):
         """The panes in which another program than a shell runs, and its name; None where that isn't known, of one pane or of all."""
 
     def revive(self, earlier: int | None = None) -> None:
-        """Spawns the client start, where none is there but that process of an earlier roam; Fault or OSError tells why that can't be."""
+        """Spawns the client process, where none is there but that process of an earlier roam; Fault or OSError tells why that can't be."""
 
     def ending(self) -> tuple[str, int]:
         """What a person is told once it has ended, and the status of the front end."""

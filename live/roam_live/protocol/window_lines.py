@@ -1,4 +1,4 @@
-"""The lines about windows at the sockets `shells`: which windows there are, and how one is opened, named and shut."""
+"""The lines about windows at the sockets `host`: which windows there are, and how one is opened, named and shut."""
 from __future__ import annotations
 
 import re

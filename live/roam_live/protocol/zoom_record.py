@@ -1,4 +1,4 @@
-"""What is noted of a zoom, at the keeper of a session's shells: which size the session is to have again, so that it gets that also where
+"""What is noted of a zoom, at the pty host: which size the session is to have again, so that it gets that also where
 the front end was killed that made it larger."""
 from __future__ import annotations
 

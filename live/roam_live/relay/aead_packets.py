@@ -1,6 +1,6 @@
-"""Sealed packets: what two ends that share a key send each other by UDP, so that nobody else can read, make, change or repeat it.
+"""Encrypted packets: what two ends that share a key send each other by UDP, so that nobody else can read, make, change or repeat it.
 
-A packet begins with its counter, 8 bytes, whose highest bit tells the way; the rest is sealed by ChaCha20 and Poly1305 under the key and
+A packet begins with its counter, 8 bytes, whose highest bit tells the way; the rest is encrypted by ChaCha20 and Poly1305 under the key and
 that counter. A counter is used once: who makes a key gives it to one other process, and neither of the two is ever copied.
 """
 from __future__ import annotations
@@ -17,13 +17,13 @@ if TYPE_CHECKING:
     from typing import Any, Protocol
 
     class Cipher(Protocol):
-        """What seals under a key, and opens."""
+        """What encrypts under a key, and opens."""
 
         def encrypt(self, nonce: bytes, data: bytes, associated_data: bytes | None) -> bytes:
-            """What is sealed, with its tag."""
+            """What is encrypted, with its tag."""
 
         def decrypt(self, nonce: bytes, data: bytes, associated_data: bytes | None) -> bytes:
-            """What was sealed."""
+            """What was encrypted."""
 
     # Where a packet goes or came from, of either family; and what is told beside a packet: a level, a kind, and bytes.
     Place = tuple[Any, ...]
@@ -52,7 +52,7 @@ TOLD_4 = struct.Struct("4x4s4x")
 
 
 def cipher() -> Callable[[bytes], Cipher] | None:
-    """What seals, of the library `cryptography`; None where it isn't there, or refuses."""
+    """What encrypts, of the library `cryptography`; None where it isn't there, or refuses."""
     try:
         kind: Callable[[bytes], Cipher] = importlib.import_module("cryptography.hazmat.primitives.ciphers.aead").ChaCha20Poly1305
         kind(bytes(KEY_LENGTH))
@@ -64,11 +64,11 @@ def cipher() -> Callable[[bytes], Cipher] | None:
     return kind
 
 
-class Seal:
-    """Seals what goes, and opens what comes."""
+class AeadPackets:
+    """Encrypts what goes, and opens what comes."""
 
-    def __init__(self, sealing: Cipher, is_near: bool) -> None:
-        self.cipher = sealing
+    def __init__(self, cipher_of_key: Cipher, is_near: bool) -> None:
+        self.cipher = cipher_of_key
         self.is_near = is_near
         self.way, self.other_way = (0, TO_NEAR) if is_near else (TO_NEAR, 0)
         self.counter = 0
@@ -77,7 +77,7 @@ class Seal:
         """Whether no counter is left."""
         return self.counter >= MOST_PACKETS - 1
 
-    def sealed(self, text: bytes) -> bytes:
+    def encrypted(self, text: bytes) -> bytes:
         """The packet that carries a text."""
         if self.is_spent():
             raise ValueError("no counter is left under this key")
@@ -93,7 +93,7 @@ class Seal:
         counter = word & ~TO_NEAR
         return counter if word & TO_NEAR == self.other_way and counter < MOST_PACKETS else 0
 
-    def opened(self, packet: bytes) -> bytes | None:
+    def decrypted(self, packet: bytes) -> bytes | None:
         """What a packet carries; None where it isn't the other end's."""
         try:
             return self.cipher.decrypt(bytes(4) + packet[: COUNTER.size], packet[COUNTER.size :], None)

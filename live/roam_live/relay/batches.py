@@ -1,9 +1,9 @@
-"""Bundles: what goes over sealed packets. The datagrams of an instruction are all of use or none, so they go together: joined, compressed,
-and cut to pieces of a packet's size, of which the lost ones alone go again.
+"""Batches: what goes over encrypted packets. The datagrams of an instruction are all of use or none, so they go together: joined,
+compressed, and cut to chunks of a packet's size, of which the lost ones alone go again.
 
-Each peer has bundles of its own; all of one way are numbered from 1. A newer one of a peer tells all that those before it told: once it has
+Each peer has batches of its own; all of one way are numbered from 1. A newer one of a peer tells all that those before it told: once it has
 come whole no earlier one is wanted. It is compressed with an earlier one at hand that the other end is known to have whole, its base.
-Bundles of peer 0 are of the relays themselves: each carries the whole state of what an end tells the other.
+Batches of peer 0 are of the relays themselves: each carries the whole state of what an end tells the other.
 """
 from __future__ import annotations
 
@@ -20,23 +20,23 @@ TYPE_CHECKING = False
 if TYPE_CHECKING:
     from typing import Any
 
-# A piece as it stands in a packet: its kind, peer, bundle, place and how many there are, and its length. One kind is acknowledged, and sent
+# A chunk as it stands in a packet: its kind, peer, batch, place and how many there are, and its length. One kind is acknowledged, and sent
 # again where it is lost; the other goes once.
-PIECE = struct.Struct(">cHIHHH")
-PIECE_KIND, ONCE_KIND = b"p", b"o"
-# Of a peer the newest bundle that came whole; 0 where the base of one isn't there.
+CHUNK = struct.Struct(">cHIHHH")
+CHUNK_KIND, ONCE_KIND = b"p", b"o"
+# Of a peer the newest batch that came whole; 0 where the base of one isn't there.
 WHOLE = struct.Struct(">cHI")
 WHOLE_KIND = b"w"
-# What a bundle begins with: its base, 0 for none, or that it is a large one.
+# What a batch begins with: its base, 0 for none, or that it is a large one.
 BASE = struct.Struct(">I")
 LARGE_BASE = 0xFFFFFFFF
 LENGTH = struct.Struct(">H")
 
-PIECE_LENGTH = 1080
-MOST_PIECES = 4096
-MOST_BUNDLES = 1 << 31
+CHUNK_LENGTH = 1080
+MOST_CHUNKS = 4096
+MOST_BATCHES = 1 << 31
 
-# What a bundle unpacks to at most: an instruction; and of peer 0 what an end tells of itself.
+# What a batch unpacks to at most: an instruction; and of peer 0 what an end tells of itself.
 LONGEST_TEXT = 5 << 20
 LONGEST_STATE = 1 << 14
 
@@ -47,14 +47,14 @@ LARGE = 4096
 LZMA2 = 0x21
 FILTERS: list[dict[str, Any]] = [{"id": LZMA2, "preset": 0}]
 
-# A base is so many bundles behind at most. What may become one is kept, so many texts and bytes of each peer: at the end that says which
+# A base is so many batches behind at most. What may become one is kept, so many texts and bytes of each peer: at the end that says which
 # base it takes fewer.
 OLDEST_BASE = 48
 MOST_TEXTS = 64
 KEPT_GOING, KEPT_COMING = 1 << 18, 1 << 19
 
-# So many bundles of more than one piece are on their way to a peer at most; so many that aren't whole are kept of a peer, and so many bytes
-# of them of all peers. A piece counts what it takes beside its own bytes, so that many small or empty ones are no more.
+# So many batches of more than one chunk are on their way to a peer at most; so many that aren't whole are kept of a peer, and so many bytes
+# of them of all peers. A chunk counts what it takes beside its own bytes, so that many small or empty ones are no more.
 MOST_LARGE = 2
 MOST_PARTS = 4
 KEPT_PARTS = 1 << 24
@@ -77,8 +77,8 @@ MOST_ONCE = 1000
 NOW, ONCE, SOON = "now", "once", "soon"
 
 
-class Piece(namedtuple("Piece", "peer number index")):
-    """A piece of a bundle on its way."""
+class Chunk(namedtuple("Chunk", "peer number index")):
+    """A chunk of a batch on its way."""
 
     peer: int
     number: int
@@ -155,16 +155,16 @@ def unpacked_by(unpacker: Any, packed: bytes, longest: int, faults: tuple[type[E
     return found if unpacker.eof else None
 
 
-def packed_bundle(text: bytes, number: int, base: bytes) -> bytes:
-    """A bundle of a text, with its base at hand where it has one, whose number stands before it."""
+def packed_batch(text: bytes, number: int, base: bytes) -> bytes:
+    """A batch of a text, with its base at hand where it has one, whose number stands before it."""
     if len(text) > LARGE:
         return BASE.pack(LARGE_BASE) + pack_large(text)
     packer = zlib.compressobj(6, zlib.DEFLATED, -zlib.MAX_WBITS, 9, zlib.Z_DEFAULT_STRATEGY, *([base] if base else []))
     return BASE.pack(number if base else 0) + packer.compress(text) + packer.flush()
 
 
-def unpacked_bundle(packed: bytes, texts: dict[int, bytes], longest: int) -> bytes | None:
-    """The text of a bundle, whose base is one of these texts; None where it can't be read, or is too long."""
+def unpacked_batch(packed: bytes, texts: dict[int, bytes], longest: int) -> bytes | None:
+    """The text of a batch, whose base is one of these texts; None where it can't be read, or is too long."""
     if len(packed) < BASE.size:
         return None
     number = BASE.unpack_from(packed)[0]
@@ -188,13 +188,13 @@ def kept_texts(texts: dict[int, bytes], most: int, size: int) -> dict[int, bytes
     return found
 
 
-class Bundle:
-    """A bundle that is on its way."""
+class InstructionBatch:
+    """A batch that is on its way."""
 
     def __init__(self, said: bytes, packed: bytes, is_once: bool) -> None:
         self.said, self.is_once = said, is_once
-        self.pieces = [packed[k : k + PIECE_LENGTH] for k in range(0, len(packed), PIECE_LENGTH)]
-        self.missing = set(range(len(self.pieces)))
+        self.chunks = [packed[k : k + CHUNK_LENGTH] for k in range(0, len(packed), CHUNK_LENGTH)]
+        self.missing = set(range(len(self.chunks)))
         self.has_base = BASE.unpack_from(packed)[0] not in (0, LARGE_BASE)
 
 
@@ -206,25 +206,25 @@ class Outgoing:
         self.base, self.base_text = 0, b""
         # What may become the base, and what is on its way.
         self.texts: dict[int, bytes] = {}
-        self.going: dict[int, Bundle] = {}
+        self.going: dict[int, InstructionBatch] = {}
 
     def may_begin(self) -> bool:
-        """Whether one more large bundle may go: where two are on their way another would only keep both from arriving."""
-        return sum(len(bundle.pieces) > 1 and bool(bundle.missing) for bundle in self.going.values()) < MOST_LARGE
+        """Whether one more large batch may go: where two are on their way another would only keep both from arriving."""
+        return sum(len(batch.chunks) > 1 and bool(batch.missing) for batch in self.going.values()) < MOST_LARGE
 
     def begun(self, said: bytes) -> int:
-        """The number of a bundle that says the same and is still on its way; 0 where there is none."""
-        return next((number for number, bundle in self.going.items() if bundle.said == said and bundle.missing), 0)
+        """The number of a batch that says the same and is still on its way; 0 where there is none."""
+        return next((number for number, batch in self.going.items() if batch.said == said and batch.missing), 0)
 
     def begin(self, number: int, said: bytes, text: bytes, is_once: bool) -> None:
-        """Begins a bundle."""
+        """Begins a batch."""
         if number > self.base + OLDEST_BASE:
             self.base, self.base_text = 0, b""
-        bundle = Bundle(said, packed_bundle(text, self.base, self.base_text), is_once)
+        batch = InstructionBatch(said, packed_batch(text, self.base, self.base_text), is_once)
         # What is on its way is told by this one; but where this one is large too, what is large and almost there is finished.
-        self.going = {other: one for other, one in self.going.items() if min(len(one.pieces), len(bundle.pieces)) > 1}
+        self.going = {other: one for other, one in self.going.items() if min(len(one.chunks), len(batch.chunks)) > 1}
         self.said = said
-        self.going[number] = bundle
+        self.going[number] = batch
         self.texts[number] = text[-DICTIONARY:]
         self.texts = kept_texts(self.texts, OLDEST_BASE, KEPT_GOING)
 
@@ -232,21 +232,21 @@ class Outgoing:
         """Takes what the other end has whole; 0 tells that it lacks a base, so that what was made with one is nothing to it. Whether
         something was lost so."""
         if number == 0:
-            has_lost = any(bundle.has_base for bundle in self.going.values())
+            has_lost = any(batch.has_base for batch in self.going.values())
             self.base, self.base_text = 0, b""
-            self.going = {other: bundle for other, bundle in self.going.items() if not bundle.has_base}
+            self.going = {other: batch for other, batch in self.going.items() if not batch.has_base}
             self.texts = {other: text for other, text in self.texts.items() if other in self.going}
             return has_lost
         if number in self.texts:
             self.base, self.base_text = number, self.texts[number]
         if number >= self.base:
             self.texts = {other: text for other, text in self.texts.items() if other > number}
-            self.going = {other: bundle for other, bundle in self.going.items() if other > number}
+            self.going = {other: batch for other, batch in self.going.items() if other > number}
         return False
 
     def is_said(self) -> bool:
         """Whether nothing of it is on its way."""
-        return not any(bundle.missing for bundle in self.going.values())
+        return not any(batch.missing for batch in self.going.values())
 
 
 class Incoming:
@@ -263,12 +263,12 @@ class Incoming:
         """What the other end is told."""
         return 0 if self.lacks_base else self.newest
 
-    def take(self, number: int, index: int, count: int, piece: bytes) -> bytes | None:
-        """Takes a piece: the text of the bundle that it makes whole, or None."""
-        if not self.newest < number < MOST_BUNDLES or not index < count <= MOST_PIECES:
+    def take(self, number: int, index: int, count: int, chunk: bytes) -> bytes | None:
+        """Takes a chunk: the text of the batch that it makes whole, or None."""
+        if not self.newest < number < MOST_BATCHES or not index < count <= MOST_CHUNKS:
             return None
         parts = self.parts.setdefault(number, {})
-        parts[index] = piece
+        parts[index] = chunk
         if len(parts) == count and max(parts) == count - 1:
             return self.finish(number)
         while len(self.parts) > MOST_PARTS:
@@ -276,10 +276,10 @@ class Incoming:
         return None
 
     def finish(self, number: int) -> bytes | None:
-        """The text of a bundle that is whole."""
+        """The text of a batch that is whole."""
         parts = self.parts.pop(number)
         packed = b"".join(parts[index] for index in range(len(parts)))
-        text = unpacked_bundle(packed, self.texts, self.longest)
+        text = unpacked_batch(packed, self.texts, self.longest)
         if text is None:
             self.lacks_base = True
             return None
@@ -292,36 +292,36 @@ class Incoming:
         return text
 
     def size(self) -> int:
-        """What the pieces of bundles that aren't whole count."""
-        return sum(len(piece) + OVERHEAD for parts in self.parts.values() for piece in parts.values())
+        """What the chunks of batches that aren't whole count."""
+        return sum(len(chunk) + OVERHEAD for parts in self.parts.values() for chunk in parts.values())
 
 
-class Bundles:
-    """The bundles of all peers, those that go and those that come."""
+class Batches:
+    """The batches of all peers, those that go and those that come."""
 
     def __init__(self) -> None:
         self.going: dict[int, Outgoing] = {}
         self.coming: dict[int, Incoming] = {}
         self.last = 0
-        # What the pieces count that came since it was looked how much is kept.
+        # What the chunks count that came since it was looked how much is kept.
         self.uncounted = 0
 
     # ---- what goes
 
     def is_spent(self) -> bool:
         """Whether no number is left."""
-        return self.last >= MOST_BUNDLES - 1
+        return self.last >= MOST_BATCHES - 1
 
     def may_begin(self, peer: int, size: int = 0) -> bool:
-        """Whether one more bundle of so many bytes may go to a peer: a small one always may, since it takes the place of all before it."""
+        """Whether one more batch of so many bytes may go to a peer: a small one always may, since it takes the place of all before it."""
         return not self.is_spent() and (size <= LARGE or peer not in self.going or self.going[peer].may_begin())
 
     def haste(self, peer: int, texts: Sequence[bytes]) -> str:
         """How an instruction goes."""
         return haste(texts, self.going[peer].said if peer in self.going else b"") if peer else NOW
 
-    def begin(self, peer: int, texts: Sequence[bytes], is_once: bool = False) -> tuple[list[Piece], bool]:
-        """Begins a bundle: the pieces that are to go, and whether they are new. One on its way that says the same is gone on with."""
+    def begin(self, peer: int, texts: Sequence[bytes], is_once: bool = False) -> tuple[list[Chunk], bool]:
+        """Begins a batch: the chunks that are to go, and whether they are new. One on its way that says the same is gone on with."""
         way = self.going.setdefault(peer, Outgoing())
         self.forget_one(self.going, peer)
         text = joined(texts)
@@ -331,38 +331,38 @@ class Bundles:
         if is_new:
             self.last = number = self.last + 1
             way.begin(number, said, text, is_once)
-        return [Piece(peer, number, index) for index in sorted(way.going[number].missing)], is_new
+        return [Chunk(peer, number, index) for index in sorted(way.going[number].missing)], is_new
 
-    def bundle(self, piece: Piece) -> Bundle | None:
-        """The bundle of a piece that is still wanted; else None."""
-        bundle = self.going[piece.peer].going.get(piece.number) if piece.peer in self.going else None
-        return bundle if bundle and piece.index in bundle.missing else None
+    def batch(self, chunk: Chunk) -> InstructionBatch | None:
+        """The batch of a chunk that is still wanted; else None."""
+        batch = self.going[chunk.peer].going.get(chunk.number) if chunk.peer in self.going else None
+        return batch if batch and chunk.index in batch.missing else None
 
-    def length(self, piece: Piece) -> int:
-        """How many bytes a piece takes in a packet; 0 where it isn't wanted any more."""
-        bundle = self.bundle(piece)
-        return PIECE.size + len(bundle.pieces[piece.index]) if bundle else 0
+    def length(self, chunk: Chunk) -> int:
+        """How many bytes a chunk takes in a packet; 0 where it isn't wanted any more."""
+        batch = self.batch(chunk)
+        return CHUNK.size + len(batch.chunks[chunk.index]) if batch else 0
 
-    def frame(self, piece: Piece) -> bytes:
-        """A piece that is wanted, as it stands in a packet."""
-        bundle = self.going[piece.peer].going[piece.number]
-        text, kind = bundle.pieces[piece.index], ONCE_KIND if bundle.is_once else PIECE_KIND
-        return PIECE.pack(kind, *piece, len(bundle.pieces), len(text)) + text
+    def frame(self, chunk: Chunk) -> bytes:
+        """A chunk that is wanted, as it stands in a packet."""
+        batch = self.going[chunk.peer].going[chunk.number]
+        text, kind = batch.chunks[chunk.index], ONCE_KIND if batch.is_once else CHUNK_KIND
+        return CHUNK.pack(kind, *chunk, len(batch.chunks), len(text)) + text
 
-    def went(self, piece: Piece) -> bool:
-        """Notes that a piece went; whether it is still wanted, so that it goes again where it is lost."""
-        if not self.going[piece.peer].going[piece.number].is_once:
+    def went(self, chunk: Chunk) -> bool:
+        """Notes that a chunk went; whether it is still wanted, so that it goes again where it is lost."""
+        if not self.going[chunk.peer].going[chunk.number].is_once:
             return True
-        self.arrived(piece)
+        self.arrived(chunk)
         return False
 
-    def arrived(self, piece: Piece) -> None:
-        """Notes that a piece has arrived, or that nobody asks whether."""
-        bundle = self.bundle(piece)
-        if bundle:
-            bundle.missing.discard(piece.index)
-            if bundle.is_once and not bundle.missing:
-                del self.going[piece.peer].going[piece.number]
+    def arrived(self, chunk: Chunk) -> None:
+        """Notes that a chunk has arrived, or that nobody asks whether."""
+        batch = self.batch(chunk)
+        if batch:
+            batch.missing.discard(chunk.index)
+            if batch.is_once and not batch.missing:
+                del self.going[chunk.peer].going[chunk.number]
 
     def note_whole(self, peer: int, number: int) -> bool:
         """Takes what the other end tells of a peer; whether something that was on its way there is lost, since it lacks a base."""
@@ -378,12 +378,12 @@ class Bundles:
         """What is told of a peer, as it stands in a packet."""
         return WHOLE.pack(WHOLE_KIND, peer, self.coming[peer].whole() if peer in self.coming else 0)
 
-    def take(self, peer: int, number: int, index: int, count: int, piece: bytes) -> list[bytes]:
-        """Takes a piece that came: what its bundle carries, where it makes one whole. Of a peer these are datagrams."""
+    def take(self, peer: int, number: int, index: int, count: int, chunk: bytes) -> list[bytes]:
+        """Takes a chunk that came: what its batch carries, where it makes one whole. Of a peer these are datagrams."""
         way = self.coming.setdefault(peer, Incoming(LONGEST_TEXT if peer else LONGEST_STATE))
         self.forget_one(self.coming, peer)
-        text = way.take(number, index, count, piece)
-        self.uncounted += len(piece) + OVERHEAD
+        text = way.take(number, index, count, chunk)
+        self.uncounted += len(chunk) + OVERHEAD
         if self.uncounted > KEPT_PARTS // 8:
             self.uncounted = 0
             self.keep_parts(peer)

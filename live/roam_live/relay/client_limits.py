@@ -1,7 +1,7 @@
-"""How many new client starts other machines bring to a server, which knows a number of them in its life and gives none back: a start
+"""How many new client processes other machines bring to a server, which knows a number of them in its life and gives none back: a client
 that it knows always passes, and new ones come slowly and leave some for the server's own machine.
 
-All far ends of a window count together: each start that one lets through is a line of a file in the window's folder. A line is written at
+All far ends of a window count together: each client that one lets through is a line of a file in the window's folder. A line is written at
 once and never changed, so that an end that is killed leaves nothing half done.
 """
 from __future__ import annotations
@@ -13,9 +13,9 @@ import struct
 from collections import namedtuple
 from collections.abc import Callable, Iterator
 
-from roam_live.protocol.panes import MOST_STARTS, MOST_WATCHERS, asked_places
+from roam_live.protocol.panes import MOST_CLIENTS, MOST_WATCHERS, asked_places
 from roam_live.protocol.server_address import is_id
-from roam_live.session.window_state import STARTS
+from roam_live.session.window_state import REMOTE_CLIENTS
 
 # The file has so many bytes at most.
 MOST_NOTE = 1 << 14
@@ -31,15 +31,15 @@ ASKED = 0.25
 # What stands for a server whose session isn't known: no datagram is taken for another's there.
 UNKNOWN = 0
 
-# A datagram's version, kind, session and client start; the kinds of those that a start sends, and of each how many a server knows and how
-# many of these other machines leave.
+# A datagram's version, kind, session and client process; the kinds of those that a client sends, and of each how many a server knows and
+# how many of these other machines leave.
 HEAD = struct.Struct(">2xBBQQ")
-EDITS, WATCHES = 2, 3
-LIMITS = {EDITS: (MOST_STARTS, 16), WATCHES: (MOST_WATCHERS, 4)}
+READ_WRITE, READ_ONLY = 2, 3
+LIMITS = {READ_WRITE: (MOST_CLIENTS, 16), READ_ONLY: (MOST_WATCHERS, 4)}
 
 
-class Start(namedtuple("Start", "session kind name moment count")):
-    """A start that was let through: its server's session, its kind and its id, when that was, and how many the server knew before."""
+class RemoteClient(namedtuple("RemoteClient", "session kind name moment count")):
+    """A client that was let through: its server's session, its kind and its id, when that was, and how many the server knew before."""
 
     session: int
     kind: int
@@ -51,13 +51,13 @@ class Start(namedtuple("Start", "session kind name moment count")):
         return f"{self.session:x} {self.kind} {self.name:x} {self.moment:.3f} {self.count}"
 
 
-def start_in(line: str) -> Start | None:
-    """The start that a line tells; None where it is none."""
+def remote_client_in(line: str) -> RemoteClient | None:
+    """The client that a line tells; None where it is none."""
     words = line.split(" ")
     if len(words) != 5 or not (is_id(words[0]) and is_id(words[2])):
         return None
     try:
-        return Start(int(words[0], 16), int(words[1]), int(words[2], 16), float(words[3]), int(words[4]))
+        return RemoteClient(int(words[0], 16), int(words[1]), int(words[2], 16), float(words[3]), int(words[4]))
     except ValueError:
         return None
 
@@ -73,19 +73,19 @@ def room_at(moments: list[float], now: float) -> float:
 
 
 def counted(folder: str) -> dict[int, int] | None:
-    """How many starts of each kind the server of a folder tells that it knows; None where it doesn't tell."""
+    """How many clients of each kind the server of a folder tells that it knows; None where it doesn't tell."""
     places = asked_places(os.path.join(folder, "panes"), ASKED) if folder else None
-    return {EDITS: places.starts, WATCHES: places.watchers} if places else None
+    return {READ_WRITE: places.clients, READ_ONLY: places.watchers} if places else None
 
 
-class StartLimit:
+class ClientLimit:
     """What passes to the server of one folder; without a folder this end counts for itself alone."""
 
     def __init__(self, folder: str, clock: Callable[[], float], counts: Callable[[str], dict[int, int] | None] = counted) -> None:
         self.folder, self.clock, self.counts = folder, clock, counts
         # Those that this end let through; and of these the ones that couldn't be noted.
         self.known: set[tuple[int, int, int]] = set()
-        self.unnoted: list[Start] = []
+        self.unnoted: list[RemoteClient] = []
 
     def passes(self, datagram: bytes) -> bool:
         """Whether a datagram goes to the server: also one that the server refuses in any case, for which it keeps nothing."""
@@ -110,7 +110,7 @@ class StartLimit:
         return None
 
     def lets(self, session: int, kind: int, name: int) -> bool:
-        """Whether a start passes that this end doesn't know; one that is new is noted then."""
+        """Whether a client passes that this end doesn't know; one that is new is noted then."""
         there = self.noted(session)
         if any((one.kind, one.name) == (kind, name) for one in there):
             return True
@@ -126,15 +126,15 @@ class StartLimit:
             most, kept = LIMITS[kind]
             if count >= most - kept:
                 return False
-            self.note(note, Start(session, kind, name, self.clock(), count), not there and session != UNKNOWN)
+            self.note(note, RemoteClient(session, kind, name, self.clock(), count), not there and session != UNKNOWN)
         return True
 
-    def has_room(self, there: list[Start], kind: int) -> bool:
+    def has_room(self, there: list[RemoteClient], kind: int) -> bool:
         """Whether a new one of a kind may pass now."""
         return room_at([one.moment for one in there if one.kind == kind], self.clock()) >= 1
 
-    def count(self, there: list[Start], kind: int, told: dict[int, int] | None) -> int:
-        """How many starts of a kind the server knows, with one that was let through just now."""
+    def count(self, there: list[RemoteClient], kind: int, told: dict[int, int] | None) -> int:
+        """How many clients of a kind the server knows, with one that was let through just now."""
         ours = [one for one in there if one.kind == kind]
         known = told[kind] if told else len(ours)
         return max([known, *(one.count + 1 for one in ours[-1:] if self.clock() < one.moment + SETTLES)])
@@ -143,15 +143,15 @@ class StartLimit:
 
     def path(self) -> str:
         """The file's path."""
-        return os.path.join(self.folder, STARTS)
+        return os.path.join(self.folder, REMOTE_CLIENTS)
 
-    def noted(self, session: int) -> list[Start]:
+    def noted(self, session: int) -> list[RemoteClient]:
         """The starts of a session that were let through, in their order."""
         lines: list[str] = []
         if self.folder:
             with contextlib.suppress(OSError), open(self.path(), encoding="ascii", errors="replace") as file:
                 lines = file.read(MOST_NOTE).split("\n")[:-1]
-        found = [start for start in map(start_in, lines) if start and start.session == session]
+        found = [client for client in map(remote_client_in, lines) if client and client.session == session]
         return found + [one for one in self.unnoted if one.session == session]
 
     @contextlib.contextmanager
@@ -168,16 +168,16 @@ class StartLimit:
             if note is not None:
                 os.close(note)
 
-    def note(self, note: int | None, start: Start, is_first: bool) -> None:
-        """Notes a start: the first of a server in place of what one before it left."""
+    def note(self, note: int | None, client: RemoteClient, is_first: bool) -> None:
+        """Notes a client: the first of a server in place of what one before it left."""
         try:
             if note is None:
                 raise OSError
             if is_first:
                 os.ftruncate(note, 0)
             # The line before may be cut, where the disk was full.
-            line = f"\n{start}\n".encode()
+            line = f"\n{client}\n".encode()
             if os.write(note, line) != len(line):
                 raise OSError
         except OSError:
-            self.unnoted.append(start)
+            self.unnoted.append(client)

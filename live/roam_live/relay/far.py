@@ -15,15 +15,15 @@ from roam_live.common.process import opened_process
 from roam_live.common.unix_socket import connected_now
 from roam_live.protocol.datagram_stream import Carrier, is_datagram
 from roam_live.relay.aead_packets import PORTS, udp_end
-from roam_live.relay.client_limits import StartLimit
+from roam_live.relay.client_limits import ClientLimit
 from roam_live.relay.common import FORGOTTEN_AFTER, PEER_LIMIT, SIGNALS, Ended, Options, end_for, loopback_socket, received
 from roam_live.relay.far_windows import WINDOW_SHIFT, FarWindows
-from roam_live.relay.forwarding import CARRIES, SHELLS
+from roam_live.relay.forwarding import FORWARDS, HOST
 from roam_live.relay.frames import ENDED, KILLED, LEAVES, WANTS, WINDOWS, RelayStream, Waiting
 from roam_live.relay.path_setup import close_standard, forget_note, is_wanted, made_path, name_in, part_from_command, take_over
 from roam_live.relay.transport_switch import Ways, finish
 from roam_live.session.attached import noted_front_end
-from roam_live.session.host_watchdog import ShellsWatch
+from roam_live.session.host_watchdog import HostWatchdog
 from roam_live.session.lookup import window_in
 
 TYPE_CHECKING = False
@@ -47,13 +47,13 @@ class Far:
             self.follow_server(asked.server)
         # Nobody else may be there to see the shells' end.
         self.place = window_in(asked.dir, asked.server) if asked.server and asked.dir else None
-        self.shells = ShellsWatch(self.place, self.loop) if self.place else None
+        self.watchdog = HostWatchdog(self.place, self.loop) if self.place else None
         self.windows = FarWindows(self.place, self.loop, self.tell_windows)
         self.waiting = Waiting()
         self.sockets: dict[int, socket.socket | Carrier] = {}
         self.moments: dict[int, float] = {}
-        # What lets new starts through, by the folders of the servers.
-        self.limits: dict[str, StartLimit] = {}
+        # What lets new clients through, by the folders of the servers.
+        self.limits: dict[str, ClientLimit] = {}
         # What holds the command while this goes on in another process; the near end's name, and the note by which the next far end of it
         # ends this one.
         self.held: int | None = None
@@ -67,8 +67,8 @@ class Far:
             self.stream.session = "-"
         self.ways = Ways(self.loop)
         self.ways.take_stream(self.stream, self.opened_socket)
-        # An earlier far end doesn't carry connections, and says nothing of it.
-        self.stream.tell(0, CARRIES)
+        # An earlier far end doesn't forward connections, and says nothing of it.
+        self.stream.tell(0, FORWARDS)
         self.loop.add(1, None, self.flush, has_more=lambda: self.stream.going)
         self.loop.add(0, self.hear)
         self.is_counted = False
@@ -76,7 +76,7 @@ class Far:
         self.count_itself(True)
 
     def send(self, peer: int, datagram: bytes) -> None:
-        """Sends a client's datagram to the server, where that is to know its start."""
+        """Sends a client's datagram to the server, where that is to know its client."""
         if not self.limit(peer >> WINDOW_SHIFT).passes(datagram):
             return
         try:
@@ -103,11 +103,11 @@ class Far:
         """The folder of a window's server; nothing where it has none."""
         return self.windows.folder(number) or self.asked.dir or ""
 
-    def limit(self, number: int) -> StartLimit:
-        """What lets new starts of a window through."""
+    def limit(self, number: int) -> ClientLimit:
+        """What lets new clients of a window through."""
         folder = self.folder(number)
         if folder not in self.limits:
-            self.limits[folder] = StartLimit(folder, time.monotonic)
+            self.limits[folder] = ClientLimit(folder, time.monotonic)
         return self.limits[folder]
 
     def drop(self, peer: int) -> None:
@@ -124,7 +124,7 @@ class Far:
             self.drop(peer)
 
     def opened_socket(self, name: str) -> socket.socket:
-        """A connection to a socket of the session's folder, of those that are carried; OSError where it can't be had."""
+        """A connection to a socket of the session's folder, of those that are forwarded; OSError where it can't be had."""
         if not self.asked.dir:
             raise FileNotFoundError(name)
         return connected_now(self.windows.path(name) if self.place else os.path.join(self.asked.dir, name))
@@ -176,7 +176,7 @@ class Far:
         if path and self.way() is path:
             path.tell(0, text)
             finish(path, ALONE)
-        if self.has_command() and not (path and path.is_sound() and path.is_said()):
+        if self.has_command() and not (path and path.is_validated() and path.is_said()):
             self.stream.tell(0, text)
             while self.stream.going and is_taken(1, ALONE) and self.stream.flush():
                 pass
@@ -299,7 +299,7 @@ class Far:
         path = self.ways.path
         is_called = self.has_command() or path is not None and not path.is_asleep()
         if self.is_counted and not is_called and path and path.streams:
-            path.streams.end_named(SHELLS)
+            path.streams.end_named(HOST)
         self.count_itself(is_called)
 
     # ---- the server

@@ -1,4 +1,4 @@
-"""The windows of a session at the far end of a relay: which there are, as the keeper tells it, for a near end that asked; and their
+"""The windows of a session at the far end of a relay: which there are, as the host tells it, for a near end that asked; and their
 folders."""
 from __future__ import annotations
 
@@ -11,7 +11,7 @@ from collections.abc import Callable, Sequence
 from roam_live.common.errors import Fault
 from roam_live.common.event_loop import Loop
 from roam_live.common.unix_socket import connected_now
-from roam_live.protocol.panes_client import Following
+from roam_live.protocol.panes_client import Subscription
 from roam_live.protocol.presence import number_in
 from roam_live.protocol.server_address import is_id
 from roam_live.protocol.window_lines import GONE, MOST_WINDOWS, WINDOW, WINDOWS
@@ -25,7 +25,7 @@ if TYPE_CHECKING:
 WINDOW_SHIFT = 8
 MOST_IN_WINDOW = (1 << WINDOW_SHIFT) - 1
 
-# What leads the name of a socket that is carried, of another window than the relay's own.
+# What leads the name of a socket that is forwarded, of another window than the relay's own.
 LED = re.compile(r"w/([1-9]\d?)/(?=.)", re.ASCII)
 
 # All windows, each by its number and its session's id, that of the relay's own first.
@@ -58,10 +58,10 @@ class FarWindows:
         # Whether the near end takes windows, and what it was told.
         self.is_used = False
         self.told = b""
-        # Those that the keeper names, once it has named all: the server of one that is gone may not have ended yet.
+        # Those that the host names, once it has named all: the server of one that is gone may not have ended yet.
         self.named: set[int] = set()
         self.is_whole = False
-        self.following: Following | None = None
+        self.following: Subscription | None = None
         # Those that ran when that was asked last.
         self.ran: Sequence[FolderSession] = ()
 
@@ -78,7 +78,7 @@ class FarWindows:
         self.told = b""
         self.is_used = True
         if not self.following:
-            self.following = Following(self.connected, self.loop, self.hear, self.lose)
+            self.following = Subscription(self.connected, self.loop, self.hear, self.lose)
             self.following.again = "follow windows"
             self.following.want(WINDOWS)
             self.following.connect()
@@ -97,9 +97,9 @@ class FarWindows:
         return self.place.number if self.place else 0
 
     def connected(self) -> socket.socket:
-        """A connection to the keeper, at the socket of any window."""
+        """A connection to the host, at the socket of any window."""
         for window in self.running():
-            return connected_now(window.folder / "shells")
+            return connected_now(window.folder / "host")
         raise ConnectionRefusedError("no window is there")
 
     def hear(self, lines: list[str]) -> None:
@@ -116,7 +116,7 @@ class FarWindows:
             self.tell()
 
     def lose(self) -> None:
-        """Waits until the keeper names all windows anew."""
+        """Waits until the host names all windows anew."""
         self.named.clear()
         self.is_whole = False
 
@@ -135,7 +135,7 @@ class FarWindows:
         return str(self.place.common / leads_of(number)) if number and self.is_used else str(self.place.folder)
 
     def path(self, name: str) -> str:
-        """The path of a socket by the name that it is carried under."""
+        """The path of a socket by the name that it is forwarded under."""
         led = LED.match(name)
         if led and not self.is_used:
             return ""

@@ -3,7 +3,7 @@ other.
 
 Each has a number, which the near end chooses, and ends as soon as either end of it does; what was read before that is still written. An
 end sends no more of one than a limit beyond what the reader at the other end has taken, of which that tells. Each way between two relays
-carries connections of its own. Over a command they are frames of peer 0.
+forwards connections of its own. Over a command they are frames of peer 0.
 """
 from __future__ import annotations
 
@@ -25,11 +25,11 @@ if TYPE_CHECKING:
 # What leads the name of a socket of another window than the relay's own.
 LED = re.compile(r"^w/[1-9]\d?/", re.ASCII)
 
-# The sockets to which connections are carried, that by which a terminal is known to be there, and how many connections at most.
-SHELLS = "shells"
-NAMES = ("panes", "bells", SHELLS)
+# The sockets to which connections are forwarded, that by which a terminal is known to be there, and how many connections at most.
+HOST = "host"
+NAMES = ("panes", "bells", HOST)
 LONGEST_NAME = 32
-MOST_CARRIED = 64
+MOST_FORWARDED = 64
 
 # So many that are ending are kept beside those, until the other end, or the reader here, has all of them.
 MOST_ENDING = 64
@@ -42,9 +42,9 @@ READ_AHEAD = 1 << 14
 # Numbers are 1 to this, one after the other.
 MOST_NUMBER = 65535
 
-# Frames of peer 0 over a command, which an earlier end knows as nothing: that an end carries connections at all, which a far end says
+# Frames of peer 0 over a command, which an earlier end knows as nothing: that an end forwards connections at all, which a far end says
 # before all else; that one is opened, with its name; bytes; its end; and how many bytes its reader has taken.
-CARRIES, OPEN, BYTES, END, TAKEN = b"c\2", b"o", b"d", b"q", b"t"
+FORWARDS, OPEN, BYTES, END, TAKEN = b"c\2", b"o", b"d", b"q", b"t"
 NUMBER = struct.Struct(">cH")
 TAKEN_COUNT = struct.Struct(">cHQ")
 MOST_BYTES = 4096
@@ -54,8 +54,9 @@ class BadStream(Fault):
     """What the other end said of a connection that can't be."""
 
 
-class Carried:
-    """One end of a connection that is carried: its socket here, what was read there and goes, and what came and is to be written there."""
+class ForwardedConnection:
+    """One end of a connection that is forwarded: its socket here, what was read there and goes, and what came and is to be written
+    there."""
 
     def __init__(self, number: int) -> None:
         self.number = number
@@ -90,7 +91,7 @@ class Carried:
             self.coming += text
 
 
-One = TypeVar("One", bound=Carried)
+One = TypeVar("One", bound=ForwardedConnection)
 
 
 class Streams(Generic[One]):
@@ -108,8 +109,8 @@ class Streams(Generic[One]):
     # ---- those that begin here
 
     def has_room(self) -> bool:
-        """Whether one more may be carried."""
-        return sum(not (one.has_ended or one.is_over) for one in self.all.values()) < MOST_CARRIED
+        """Whether one more may be forwarded."""
+        return sum(not (one.has_ended or one.is_over) for one in self.all.values()) < MOST_FORWARDED
 
     def begin(self, name: str, peer: socket.socket, said: bytes = b"") -> bool:
         """Carries a connection that came here, with what was read of it; whether there is room."""
@@ -146,11 +147,11 @@ class Streams(Generic[One]):
 
     def hear(self, one: One) -> None:
         """Takes what came at a socket here."""
-        piece = read(one.peer.fileno()) if one.peer else None
-        if piece == b"":
+        chunk = read(one.peer.fileno()) if one.peer else None
+        if chunk == b"":
             self.end(one)
         else:
-            one.going += piece or b""
+            one.going += chunk or b""
 
     def write(self, one: One) -> None:
         """Writes what a socket here takes; where what it is at the other end has ended this is closed then."""
@@ -231,27 +232,27 @@ class Streams(Generic[One]):
         one.allowed = max(one.allowed, count + CREDIT)
 
 
-class PipeStreams(Streams[Carried]):
+class PipeStreams(Streams[ForwardedConnection]):
     """The connections over a command, as frames, each handed to a call with whether its bytes are counted."""
 
     def __init__(self, loop: Loop, tells: Callable[[bytes, bool], object], opens: Opens | None = None) -> None:
         super().__init__(loop, opens)
         self.tells = tells
 
-    def made(self, number: int) -> Carried:
+    def made(self, number: int) -> ForwardedConnection:
         """A connection of a number."""
-        return Carried(number)
+        return ForwardedConnection(number)
 
-    def name(self, one: Carried, name: str) -> None:
+    def name(self, one: ForwardedConnection, name: str) -> None:
         """Tells the other end that a connection is opened."""
         self.tells(NUMBER.pack(OPEN, one.number) + name.encode(), False)
 
-    def end(self, one: Carried) -> None:
+    def end(self, one: ForwardedConnection) -> None:
         """Takes note that a socket here has ended; the other end is told behind what was read."""
         super().end(one)
         self.tell_end(one)
 
-    def tell_end(self, one: Carried) -> None:
+    def tell_end(self, one: ForwardedConnection) -> None:
         """Tells the end of a connection, once all of it went."""
         if one.has_ended and not one.going and self.all.get(one.number) is one:
             self.tells(NUMBER.pack(END, one.number), False)
@@ -310,7 +311,7 @@ class PipeStreams(Streams[Carried]):
             self.end(one)
 
     @staticmethod
-    def take_bytes(one: Carried, text: bytes) -> None:
+    def take_bytes(one: ForwardedConnection, text: bytes) -> None:
         """Takes bytes of a connection; more than may be here is no fault of a reader."""
         if one.came + len(text) > one.taken + CREDIT:
             raise BadStream("the other end sent more of a connection than may be on its way")

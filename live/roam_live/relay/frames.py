@@ -21,7 +21,7 @@ from roam_live.common.errors import Fault
 from roam_live.common.io import read, write
 from roam_live.protocol.datagram_stream import LETTERS, LONGEST, SHORTEST, is_datagram
 from roam_live.relay.batches import LARGE, LONGEST_TEXT, has_lzma, joined, pack_large, parted, saying, unpack_large
-from roam_live.relay.forwarding import BYTES, CARRIES, PipeStreams
+from roam_live.relay.forwarding import BYTES, FORWARDS, PipeStreams
 
 # Version 1 didn't compress.
 VERSION = 2
@@ -36,9 +36,9 @@ MOST_TOLD = 4097
 # An end by which the server was killed; an earlier end of a relay knows it as nothing.
 KILLED = ENDED + b"k"
 
-# Those of a sealed path beside the stream, which an earlier end knows as nothing: the near end wants one, and tells its name; the far end
-# tells its port, the key and its address. By the path alone: the near end leaves.
-WANTS, SEALED, LEAVES = b"w", b"s", b"l"
+# Those of an encrypted path beside the stream, which an earlier end knows as nothing: the near end wants one, and tells its name; the far
+# end tells its port, the key and its address. By the path alone: the near end leaves.
+WANTS, ENCRYPTED, LEAVES = b"w", b"s", b"l"
 
 # What the ends tell each other of windows, which an earlier one knows as nothing: the near end that it takes them, and the far one all that
 # there are.
@@ -253,7 +253,7 @@ class RelayStream:
         self.awaited_until = 0.0
         # The connections that it carries; and whether the other end has said, before all else, that it does: None before it said anything.
         self.streams: PipeStreams | None = None
-        self.carries: bool | None = None
+        self.forwards: bool | None = None
 
     def is_silent(self, seconds: float) -> bool:
         """Whether for so long nothing has come, or nothing of what was sent has arrived: a stream may be stuck in one direction alone."""
@@ -312,8 +312,8 @@ class RelayStream:
         """Whether more may be on its way."""
         return self.session is not None and len(self.going) < TOLD_AFTER and self.sent - self.acknowledged < WINDOW
 
-    def tell_carried(self, text: bytes, is_counted: bool) -> None:
-        """Sends a frame of a connection that is carried."""
+    def tell_forwarded(self, text: bytes, is_counted: bool) -> None:
+        """Sends a frame of a connection that is forwarded."""
         if is_counted:
             self._tell_counted(0, text)
         else:
@@ -356,21 +356,21 @@ class RelayStream:
     def received(self) -> Iterator[tuple[int, bytes]] | None:
         """The frames that came, one after another, each a peer and what it carries; None where the other end is gone. What came unpacks to
         a thousand times as much, so a frame is made when it is asked for; a fault comes where its frame would."""
-        piece = read(self.source)
-        if piece == b"":
+        chunk = read(self.source)
+        if chunk == b"":
             return None
-        if piece:
+        if chunk:
             self.heard = time.monotonic()
-        return self._unpacked((piece or b"") if self.session else self._greeted(piece or b""))
+        return self._unpacked((chunk or b"") if self.session else self._greeted(chunk or b""))
 
-    def _unpacked(self, piece: bytes) -> Iterator[tuple[int, bytes]]:
-        """The frames that are whole with a piece of what is compressed."""
-        while piece:
+    def _unpacked(self, chunk: bytes) -> Iterator[tuple[int, bytes]]:
+        """The frames that are whole with a chunk of what is compressed."""
+        while chunk:
             try:
-                self.coming += self.unpacker.decompress(piece, UNPACKED)
+                self.coming += self.unpacker.decompress(chunk, UNPACKED)
             except zlib.error as fault:
                 raise BadWords("what the other end says can't be read") from fault
-            piece = self.unpacker.unconsumed_tail
+            chunk = self.unpacker.unconsumed_tail
             yield from self._frames()
             if self.unpacker.eof:
                 raise BadWords("what the other end says has ended, and the other end hasn't")
@@ -383,9 +383,9 @@ class RelayStream:
             self.acknowledged, self.moved = count, time.monotonic()
             self.said = {peer: said for peer, said in self.said.items() if said[1] > count}
 
-    def _greeted(self, piece: bytes) -> bytes:
+    def _greeted(self, chunk: bytes) -> bytes:
         """What stands behind the greeting, once it has come; what a shell said before it is dropped."""
-        self.coming += piece
+        self.coming += chunk
         found = GREETING.search(self.coming)
         if not found:
             if len(self.coming) > NOISE_LIMIT:
@@ -407,7 +407,7 @@ class RelayStream:
                 break
             text = bytes(self.coming[begin + HEADER.size : end])
             begin = end
-            self.carries = text == CARRIES if self.carries is None else self.carries
+            self.forwards = text == FORWARDS if self.forwards is None else self.forwards
             if peer:
                 self.had += length
                 yield peer, text

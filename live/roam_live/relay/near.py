@@ -22,7 +22,7 @@ from roam_live.protocol.datagram_stream import Carrier, is_datagram
 from roam_live.relay.common import FORGOTTEN_AFTER, PEER_LIMIT, Ended, Options, end_for, loopback_socket, received
 from roam_live.relay.far_windows import MOST_IN_WINDOW, WINDOW_SHIFT, windows_in
 from roam_live.relay.forwarding import BadStream
-from roam_live.relay.frames import ENDED, KILLED, LEAVES, SEALED, WINDOWS, BadWords, RelayStream, Waiting
+from roam_live.relay.frames import ENCRYPTED, ENDED, KILLED, LEAVES, WINDOWS, BadWords, RelayStream, Waiting
 from roam_live.relay.near_sockets import NearSockets
 from roam_live.relay.near_windows import NearWindows
 from roam_live.relay.path_setup import Finder, NearPath, is_wanted, kept_name, near_path, wish
@@ -58,7 +58,7 @@ WINDOWS_EVERY = 0.1
 TOLD_WINDOWS = "windows told"
 
 # After the other end said what can't be the next command is spawned no sooner than after so many seconds, twice as many each time up to the
-# most; so many times end the relay; and all are forgotten once it was sound for so long.
+# most; so many times end the relay; and all are forgotten once it was validated for so long.
 BROKEN_PAUSE, MOST_PAUSE = 2.0, 60.0
 MOST_BROKEN = 10
 FORGIVEN = 600.0
@@ -127,12 +127,12 @@ class BrokenWords:
 
     def __init__(self) -> None:
         self.count = 0
-        self.sound_since: float | None = None
+        self.validated_since: float | None = None
 
     def add(self, now: float) -> float:
         """Counts one more, and tells when the next command may be spawned."""
         self.count += 1
-        self.sound_since = None
+        self.validated_since = None
         pause: float = min(BROKEN_PAUSE * 2 ** (self.count - 1), MOST_PAUSE)
         return now + pause
 
@@ -140,10 +140,10 @@ class BrokenWords:
         """Whether the relay ends."""
         return self.count >= MOST_BROKEN
 
-    def note(self, is_sound: bool, now: float) -> None:
+    def note(self, is_validated: bool, now: float) -> None:
         """Takes note of whether something carries what goes: after so long all are forgotten."""
-        self.sound_since = (self.sound_since if self.sound_since is not None else now) if is_sound else None
-        if self.sound_since is not None and now >= self.sound_since + FORGIVEN:
+        self.validated_since = (self.validated_since if self.validated_since is not None else now) if is_validated else None
+        if self.validated_since is not None and now >= self.validated_since + FORGIVEN:
             self.count = 0
 
 
@@ -175,10 +175,10 @@ class RunningCommand:
     def pass_errors(self) -> None:
         """Says what the command said on its standard error, as far as that isn't too much: at the terminal at first, and in the log later,
         as this tool does."""
-        piece = read(self.errors) if self.errors else None
-        if piece == b"":
+        chunk = read(self.errors) if self.errors else None
+        if chunk == b"":
             self.errors = None
-        text = self.said.fed(piece or b"")
+        text = self.said.fed(chunk or b"")
         if text:
             make_room_in_logs(len(text.encode()))
             with contextlib.suppress(OSError):
@@ -241,8 +241,8 @@ class Near:
         self.ways = Ways(self.loop)
         self.finder = Finder(asked.host)
         self.link: RunningCommand | None = None
-        # Whether the far end carries connections; None where that isn't known yet.
-        self.carries: bool | None = None
+        # Whether the far end forwards connections; None where that isn't known yet.
+        self.forwards: bool | None = None
         self.has_told_lack = False
         self.tries: list[RunningCommand] = []
         self.ending: list[RunningCommand] = []
@@ -267,7 +267,7 @@ class Near:
 
     def is_silent(self) -> bool:
         """Whether there is neither a path nor a command that is known to carry anything."""
-        return not self.ways.is_sound() and not self.has_live_link()
+        return not self.ways.is_validated() and not self.has_live_link()
 
     def way(self) -> Path | RelayStream | None:
         """What carries what waits."""
@@ -281,8 +281,8 @@ class Near:
         self.broken.note(not self.is_silent(), now)
         if not self.is_silent():
             self.drop_tries()
-            was_sound = self.ways.was_sound() or self.link is not None and self.link.since + SOUND < now
-            self.try_count = 0 if was_sound else self.try_count
+            was_validated = self.ways.was_validated() or self.link is not None and self.link.since + SOUND < now
+            self.try_count = 0 if was_validated else self.try_count
             return
         # The first one may be waiting for a person's answer.
         if self.has_answered:
@@ -367,7 +367,7 @@ class Near:
         self.tries.remove(link)
         for old in [*self.tries, *([self.link] if self.link else [])]:
             self.drop(old)
-        self.link, self.session, self.carries = link, session, None
+        self.link, self.session, self.forwards = link, session, None
         self.ways.take_stream(link.stream)
         self.ask_for_path()
         if self.has_answered:
@@ -392,8 +392,8 @@ class Near:
                 self.answered(link, link.stream.session)
             for peer, text in frames:
                 self.take(peer, text)
-            if link is self.link and link.stream.carries is not self.carries:
-                self.note_carrying(link.stream.carries)
+            if link is self.link and link.stream.forwards is not self.forwards:
+                self.note_forwarding(link.stream.forwards)
         except (BadWords, BadStream) as fault:
             self.refuse(link, fault)
 
@@ -406,7 +406,7 @@ class Near:
         elif text in (ENDED, KILLED):
             self.is_over, self.ended = True, "killed" if text == KILLED else ""
             raise Ended(0)
-        elif text[:1] == SEALED:
+        elif text[:1] == ENCRYPTED:
             self.take_path(near_path(text))
         elif text[:1] == WINDOWS:
             self.hear_windows(text)
@@ -415,14 +415,14 @@ class Near:
 
     # ---- connections to the other machine's sockets
 
-    def note_carrying(self, carries: bool | None) -> None:
-        """Takes note of whether the far end carries connections: the sockets that stand for those there are here while it does."""
-        self.carries = carries
-        if self.sockets and carries:
+    def note_forwarding(self, forwards: bool | None) -> None:
+        """Takes note of whether the far end forwards connections: the sockets that stand for those there are here while it does."""
+        self.forwards = forwards
+        if self.sockets and forwards:
             self.sockets.open()
             if self.link:
                 self.link.stream.tell(0, WINDOWS)
-        elif self.sockets and carries is not None:
+        elif self.sockets and forwards is not None:
             self.sockets.close()
             if not self.has_told_lack:
                 self.has_told_lack = True
@@ -462,8 +462,8 @@ class Near:
         self.peers.drop_window(number)
 
     def carrying(self) -> Streams[Any] | None:
-        """What carries connections now; None where nothing does."""
-        return self.ways.carrier.streams if self.carries and self.ways.carrier else None
+        """What forwards connections now; None where nothing does."""
+        return self.ways.carrier.streams if self.forwards and self.ways.carrier else None
 
     # ---- the path beside the command
 

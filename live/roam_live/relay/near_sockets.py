@@ -1,4 +1,4 @@
-"""The sockets of a near folder that stand for those of the session at the other machine: each connection to `bells` and `shells` is carried
+"""The sockets of a near folder that stand for those of the session at the other machine: each connection to `bells` and `host` is forwarded
 there, and `panes` is followed there once and told here to all who follow it."""
 from __future__ import annotations
 
@@ -10,9 +10,9 @@ from roam_live.common.errors import Fault, reason, say
 from roam_live.common.event_loop import Loop
 from roam_live.common.io import read, write
 from roam_live.common.listener import Listener
-from roam_live.protocol.panes import ASIDE, CLIP, CLIPS, ToldPanes, aside_of
-from roam_live.protocol.panes_client import Following
-from roam_live.relay.forwarding import SHELLS
+from roam_live.protocol.panes import CLIP, CLIPBOARD, METADATA, PanesState, metadata_key
+from roam_live.protocol.panes_client import Subscription
+from roam_live.relay.forwarding import HOST
 
 TYPE_CHECKING = False
 if TYPE_CHECKING:
@@ -20,31 +20,31 @@ if TYPE_CHECKING:
 
     from roam_live.relay.forwarding import Streams
 
-    # What carries connections now; None where nothing does.
-    Carries = Callable[[], "Streams[Any] | None"]
+    # What forwards connections now; None where nothing does.
+    Forwards = Callable[[], "Streams[Any] | None"]
 
 # Who follows the panes here, so many at most, and so many bytes at most wait for one.
-MOST_FOLLOWERS = 64
+MOST_SUBSCRIBERS = 64
 MOST_WAITING = 1 << 16
 
 PANES = "panes"
-CARRIED = ("bells", SHELLS)
+FORWARDED = ("bells", HOST)
 
 # What is asked for there once, for all who ask for it here.
-ASKED_HERE = (ASIDE, CLIPS)
+ASKED_HERE = (METADATA, CLIPBOARD)
 
 
-class CarriedSocket:
-    """A socket of the near folder: who connects is carried to that of its name at the other machine. Who comes while nothing carries waits;
-    for whom there is no room is let go."""
+class ForwardedSocket:
+    """A socket of the near folder: who connects is forwarded to that of its name at the other machine. Who comes while nothing carries
+    waits; for whom there is no room is let go."""
 
-    def __init__(self, folder: str, name: str, loop: Loop, carries: Carries, leads: str = "") -> None:
-        self.name, self.carries = leads + name, carries
-        self.listener = Listener(loop, os.path.join(folder, name), self.take, lambda: carries() is not None, lambda fault: None)
+    def __init__(self, folder: str, name: str, loop: Loop, forwards: Forwards, leads: str = "") -> None:
+        self.name, self.forwards = leads + name, forwards
+        self.listener = Listener(loop, os.path.join(folder, name), self.take, lambda: forwards() is not None, lambda fault: None)
 
     def take(self, peer: socket.socket) -> None:
         """Has one who came carried."""
-        streams = self.carries()
+        streams = self.forwards()
         if not streams or not streams.begin(self.name, peer):
             peer.close()
 
@@ -88,18 +88,18 @@ class PanesPeer:
 class SharedPanes:
     """The socket `panes` of the near folder: the panes of the other machine, which are followed there once."""
 
-    def __init__(self, folder: str, loop: Loop, carries: Carries, leads: str = "") -> None:
-        self.loop, self.carries, self.name = loop, carries, leads + PANES
-        self.told = ToldPanes()
+    def __init__(self, folder: str, loop: Loop, forwards: Forwards, leads: str = "") -> None:
+        self.loop, self.forwards, self.name = loop, forwards, leads + PANES
+        self.told = PanesState()
         self.peers: list[PanesPeer] = []
-        self.following = Following(self.opened, loop, self.hear, self.lose)
+        self.following = Subscription(self.opened, loop, self.hear, self.lose)
         self.following.again += f" {leads}" if leads else ""
         self.listener = Listener(loop, os.path.join(folder, PANES), self.take, lambda: self.following.peer is not None, lambda fault: None)
         self.following.connect()
 
     def opened(self) -> socket.socket:
         """A connection to the other machine's panes; OSError where nothing carries one now."""
-        streams = self.carries()
+        streams = self.forwards()
         if not streams:
             raise ConnectionRefusedError("nothing carries it")
         ours, theirs = socket.socketpair()
@@ -123,19 +123,20 @@ class SharedPanes:
     def hear(self, lines: list[str]) -> None:
         """Tells what was told there; what can't be isn't passed on."""
         news = [line for line in lines if self.told.take(line)]
-        places, asides = [line for line in news if not aside_of(line)], {aside_of(line): line for line in news if aside_of(line)}
+        places, metadata = [line for line in news if not metadata_key(line)], {metadata_key(line): line for line in news
+                                                                               if metadata_key(line)}
         for peer in list(self.peers):
             if not peer.knows:
                 self.tell_all(peer)
                 continue
-            peer.news.update({key: line for key, line in asides.items() if (CLIPS if key == CLIP else ASIDE) in peer.words})
+            peer.news.update({key: line for key, line in metadata.items() if (CLIPBOARD if key == CLIP else METADATA) in peer.words})
             self.tell(peer, places)
         # It isn't told to who comes later.
         self.told.clip = None
 
     def lose(self) -> None:
         """Lets all go who follow: where the panes are isn't known now, and who comes again is told what is so then."""
-        self.told = ToldPanes()
+        self.told = PanesState()
         for peer in list(self.peers):
             self.drop(peer)
 
@@ -143,7 +144,7 @@ class SharedPanes:
 
     def take(self, end: socket.socket) -> None:
         """Takes one who came; above the most it is let go."""
-        if len(self.peers) >= MOST_FOLLOWERS:
+        if len(self.peers) >= MOST_SUBSCRIBERS:
             end.close()
             return
         peer = PanesPeer(end)
@@ -158,8 +159,8 @@ class SharedPanes:
         lines = self.told.lines()
         if lines:
             peer.knows = True
-            if ASIDE in peer.words:
-                peer.news.update(self.told.lines_beside())
+            if METADATA in peer.words:
+                peer.news.update(self.told.metadata_lines())
             self.tell(peer, lines)
 
     def tell(self, peer: PanesPeer, lines: list[str]) -> None:
@@ -181,14 +182,14 @@ class SharedPanes:
     def asked(self, peer: PanesPeer) -> None:
         """Takes what one says. Where it asks the server for something else than is told here it has a connection of its own there from then
         on, since it is answered alone."""
-        piece = read(peer.end.fileno())
-        if piece is None:
+        chunk = read(peer.end.fileno())
+        if chunk is None:
             return
-        streams = self.carries()
-        if not piece or not streams:
+        streams = self.forwards()
+        if not chunk or not streams:
             self.drop(peer)
             return
-        peer.said += piece
+        peer.said += chunk
         lines = peer.said_lines()
         if lines is not None:
             for word in lines:
@@ -204,8 +205,8 @@ class SharedPanes:
         if is_new:
             peer.words.append(word)
         self.following.want(word)
-        if is_new and peer.knows and word == ASIDE:
-            peer.news.update(self.told.lines_beside())
+        if is_new and peer.knows and word == METADATA:
+            peer.news.update(self.told.metadata_lines())
             peer.put_news()
 
     def part(self, peer: PanesPeer) -> None:
@@ -227,15 +228,15 @@ class SharedPanes:
 
 
 class NearSockets:
-    """All of them, while the other end carries connections."""
+    """All of them, while the other end forwards connections."""
 
-    def __init__(self, folder: str, loop: Loop, carries: Carries, leads: str = "") -> None:
-        self.folder, self.loop, self.carries = folder, loop, carries
+    def __init__(self, folder: str, loop: Loop, forwards: Forwards, leads: str = "") -> None:
+        self.folder, self.loop, self.forwards = folder, loop, forwards
         # What leads their names at the other machine, where they are those of another window than the relay's own.
         self.leads = leads
         self.panes: SharedPanes | None = None
-        self.others: list[CarriedSocket] = []
-        # What carried connections when that was seen last.
+        self.others: list[ForwardedSocket] = []
+        # What forwarded connections when that was seen last.
         self.carrier: Streams[Any] | None = None
 
     def open(self) -> None:
@@ -243,15 +244,15 @@ class NearSockets:
         if self.panes:
             return
         try:
-            self.panes = SharedPanes(self.folder, self.loop, self.carries, self.leads)
-            for name in CARRIED:
-                self.others.append(CarriedSocket(self.folder, name, self.loop, self.carries, self.leads))
+            self.panes = SharedPanes(self.folder, self.loop, self.forwards, self.leads)
+            for name in FORWARDED:
+                self.others.append(ForwardedSocket(self.folder, name, self.loop, self.forwards, self.leads))
         except (Fault, OSError) as fault:
             say(f"no panes and no bells are told: {reason(fault)}")
 
     def wake(self) -> None:
-        """Goes on where something else carries connections than before."""
-        before, self.carrier = self.carrier, self.carries()
+        """Goes on where something else forwards connections than before."""
+        before, self.carrier = self.carrier, self.forwards()
         if self.panes and self.carrier and self.carrier is not before:
             self.panes.wake()
 

@@ -17,7 +17,7 @@ from roam_live.session.window_state import numbers_in, window_folder, windows_fo
 
 TYPE_CHECKING = False
 if TYPE_CHECKING:
-    from roam_live.relay.near_sockets import Carries
+    from roam_live.relay.near_sockets import Forwards
 
 # So many windows are made at once, and then so many a second: each has a folder and four sockets, and the other machine may name others
 # without end.
@@ -31,19 +31,19 @@ MOMENT = "windows made"
 class NearWindow:
     """A window: the id of its session, and the sockets in its folder."""
 
-    def __init__(self, folder: str, name: str, loop: Loop, carries: Carries, listens: Callable[[str], Listener], number: int) -> None:
+    def __init__(self, folder: str, name: str, loop: Loop, forwards: Forwards, listens: Callable[[str], Listener], number: int) -> None:
         self.folder, self.name = folder, name
         for path in (os.path.dirname(folder), folder):
             with contextlib.suppress(FileExistsError):
                 os.mkdir(path, 0o700)
         self.listener = listens(folder)
-        self.sockets = NearSockets(folder, loop, carries, leads_of(number))
+        self.sockets = NearSockets(folder, loop, forwards, leads_of(number))
         self.sockets.open()
         # Who finds it finds the rest.
         replace_text(os.path.join(folder, "session"), f"{name}\n")
 
     def close(self) -> None:
-        """Removes it: its start ends with its stream."""
+        """Removes it: its client ends with its stream."""
         with contextlib.suppress(OSError):
             os.unlink(os.path.join(self.folder, "session"))
         self.listener.close()
@@ -52,12 +52,12 @@ class NearWindow:
 
 
 class NearWindows:
-    """All of them, as the far end tells them. A call makes the socket of a window's clients, one is for what carries connections, and one
+    """All of them, as the far end tells them. A call makes the socket of a window's clients, one is for what forwards connections, and one
     for a window that is gone."""
 
-    def __init__(self, folder: str, loop: Loop, carries: Carries, listens: Callable[[str, int], Listener],
+    def __init__(self, folder: str, loop: Loop, forwards: Forwards, listens: Callable[[str, int], Listener],
                  parts: Callable[[int], object]) -> None:
-        self.folder, self.loop, self.carries, self.listens, self.parts = folder, loop, carries, listens, parts
+        self.folder, self.loop, self.forwards, self.listens, self.parts = folder, loop, forwards, listens, parts
         self.windows: dict[int, NearWindow] = {}
         self.told: dict[int, str] = {}
         # How many may be made, and since when.
@@ -90,7 +90,7 @@ class NearWindows:
     def make(self, number: int, name: str) -> None:
         """Makes a window; where it can't be had that is told."""
         try:
-            self.windows[number] = NearWindow(window_folder(self.folder, number), name, self.loop, self.carries,
+            self.windows[number] = NearWindow(window_folder(self.folder, number), name, self.loop, self.forwards,
                                               lambda folder: self.listens(folder, number), number)
         except (Fault, OSError) as fault:
             say(f"window {number} can't be had here: {reason(fault)}")
@@ -101,7 +101,7 @@ class NearWindows:
         self.parts(number)
 
     def wake(self) -> None:
-        """Goes on where something else carries connections than before."""
+        """Goes on where something else forwards connections than before."""
         for window in self.windows.values():
             window.sockets.wake()
 

@@ -1,5 +1,5 @@
-"""Asking for a sealed path beside the command of a relay: the near end asks, and tells its name; the far end makes a key and a port, tells
-them over the command alone, and goes on in a process that outlives it; the near end looks where that may be.
+"""Asking for an encrypted path beside the command of a relay: the near end asks, and tells its name; the far end makes a key and a port,
+tells them over the command alone, and goes on in a process that outlives it; the near end looks where that may be.
 """
 from __future__ import annotations
 
@@ -20,9 +20,9 @@ from roam_live.common.errors import reason, say
 from roam_live.common.files import replace_text
 from roam_live.common.process import begun, is_running
 from roam_live.config.environment import wants_udp
-from roam_live.relay.aead_packets import KEY_LENGTH, PORTS, Seal, cipher, places_of, random_key, udp_end
+from roam_live.relay.aead_packets import KEY_LENGTH, PORTS, AeadPackets, cipher, places_of, random_key, udp_end
 from roam_live.relay.batches import has_lzma
-from roam_live.relay.frames import SEALED, WANTS
+from roam_live.relay.frames import ENCRYPTED, WANTS
 from roam_live.relay.udp_path import Path
 
 # What is wanted has this version, and a name of so many bytes.
@@ -30,7 +30,7 @@ VERSION = 1
 NAME_LENGTH = 8
 
 # What the far end tells: the version, the port and the key; behind them the address to which the command came.
-SEALED_HEAD = struct.Struct(f">cBH{KEY_LENGTH}s")
+AEAD_HEAD = struct.Struct(f">cBH{KEY_LENGTH}s")
 
 # The call by which a process says whether its memory may be written down.
 PR_SET_DUMPABLE = 4
@@ -45,7 +45,7 @@ MOST_PLACES = 16
 
 
 def is_wanted() -> bool:
-    """Whether a sealed path is wanted, and can be had here."""
+    """Whether an encrypted path is wanted, and can be had here."""
     return wants_udp() and has_lzma() and cipher() is not None
 
 
@@ -78,10 +78,10 @@ def limit_core() -> None:
         resource.setrlimit(resource.RLIMIT_CORE, (0, resource.getrlimit(resource.RLIMIT_CORE)[1]))
 
 
-def seal_of(key: bytes, is_near: bool) -> Seal | None:
+def aead_of(key: bytes, is_near: bool) -> AeadPackets | None:
     """What seals under a key; None where the library has gone."""
     kind = cipher()
-    return Seal(kind(key), is_near) if kind else None
+    return AeadPackets(kind(key), is_near) if kind else None
 
 
 # ---- the near end asks
@@ -120,13 +120,13 @@ def made_path(end: socket.socket) -> tuple[Path, bytes] | None:
     makes a key is never copied."""
     hide_memory()
     key = random_key()
-    seal = seal_of(key, False)
-    if not seal:
+    aead = aead_of(key, False)
+    if not aead:
         end.close()
         return None
     words = os.environ.get("SSH_CONNECTION", "").split()
     address = words[2].encode("ascii", "replace") if len(words) == 4 else b""
-    return Path(seal, end), SEALED_HEAD.pack(SEALED, VERSION, end.getsockname()[1], key) + address
+    return Path(aead, end), AEAD_HEAD.pack(ENCRYPTED, VERSION, end.getsockname()[1], key) + address
 
 
 def take_over(folder: str, name: str) -> pathlib.Path | None:
@@ -230,8 +230,8 @@ def close_standard() -> None:
 class NearPath(Path):
     """The near end's path: the port of the other end, and the address to which the command came there."""
 
-    def __init__(self, seal: Seal, end: socket.socket, port: int, address: str) -> None:
-        super().__init__(seal, end)
+    def __init__(self, aead: AeadPackets, end: socket.socket, port: int, address: str) -> None:
+        super().__init__(aead, end)
         self.port, self.address = port, address
 
 
@@ -246,14 +246,14 @@ def address_in(text: bytes) -> str:
 
 def near_path(text: bytes) -> NearPath | None:
     """The path that the far end tells of; None where this roam hasn't what it has, or it can't be."""
-    if len(text) < SEALED_HEAD.size or not is_wanted():
+    if len(text) < AEAD_HEAD.size or not is_wanted():
         return None
-    _, version, port, key = SEALED_HEAD.unpack_from(text)
+    _, version, port, key = AEAD_HEAD.unpack_from(text)
     if version != VERSION or port not in PORTS:
         return None
     hide_memory()
-    seal, end = seal_of(key, True), udp_end()
-    return NearPath(seal, end, port, address_in(text[SEALED_HEAD.size :])) if seal and end else None
+    aead, end = aead_of(key, True), udp_end()
+    return NearPath(aead, end, port, address_in(text[AEAD_HEAD.size :])) if aead and end else None
 
 
 class Finder:
@@ -270,7 +270,7 @@ class Finder:
         """Begins a search where one is due."""
         now = time.monotonic()
         pause = ASKS_AGAIN if path is self.path else ASKS_FOR_ANOTHER
-        if path.is_sound() or now < self.asked_at + pause or self.search and self.search.is_alive():
+        if path.is_validated() or now < self.asked_at + pause or self.search and self.search.is_alive():
             return
         self.path, self.asked_at = path, now
         self.search = threading.Thread(target=self.find, args=(path,), daemon=True)

@@ -1,4 +1,4 @@
-"""The ways between the two ends of a relay: the stream over a command, and a sealed path, each where it is there."""
+"""The ways between the two ends of a relay: the stream over a command, and an encrypted path, each where it is there."""
 from __future__ import annotations
 
 import math
@@ -15,8 +15,8 @@ TYPE_CHECKING = False
 if TYPE_CHECKING:
     from roam_live.relay.forwarding import Opens
 
-# A way that was there for so many seconds is sound: then nothing goes over the command any more beside a path, and what breaks a command is
-# no fault of its own.
+# A way that was there for so many seconds is validated: then nothing goes over the command any more beside a path, and what breaks a
+# command is no fault of its own.
 SOUND = 5.0
 
 # What waits for the way that carries nothing now.
@@ -32,7 +32,7 @@ class Ways:
         self.stream: RelayStream | None = None
         # What carries what waits, as it was seen last, and connections: these end where another does from then on.
         self.carrier: Path | RelayStream | None = None
-        # Whether nothing goes over the stream, since the path is sound.
+        # Whether nothing goes over the stream, since the path is validated.
         self.rests = False
 
     # ---- the path comes and goes
@@ -56,7 +56,7 @@ class Ways:
     def take_stream(self, stream: RelayStream, opens: Opens | None = None) -> None:
         """Takes a stream, with a call where a connection is opened by it."""
         self.stream = stream
-        stream.streams = PipeStreams(self.loop, stream.tell_carried, opens)
+        stream.streams = PipeStreams(self.loop, stream.tell_forwarded, opens)
 
     def drop_stream(self) -> None:
         """Lets the stream go, with the connections that it carries."""
@@ -72,22 +72,22 @@ class Ways:
 
     # ---- which of them carries what waits
 
-    def is_sound(self) -> bool:
+    def is_validated(self) -> bool:
         """Whether the path carries all."""
-        return self.path is not None and self.path.is_sound()
+        return self.path is not None and self.path.is_validated()
 
-    def was_sound(self) -> bool:
+    def was_validated(self) -> bool:
         """Whether it does, and has for some time."""
-        return self.path is not None and self.path.is_sound() and self.path.sound_since + SOUND <= time.monotonic()
+        return self.path is not None and self.path.is_validated() and self.path.validated_since + SOUND <= time.monotonic()
 
     def chosen(self, is_stream_there: bool) -> Path | RelayStream | None:
-        """What carries what waits: the path where it is sound, or nothing else is there; and else the stream."""
-        return self.path if self.path and (self.path.is_sound() or not is_stream_there) else self.stream
+        """What carries what waits: the path where it is validated, or nothing else is there; and else the stream."""
+        return self.path if self.path and (self.path.is_validated() or not is_stream_there) else self.stream
 
     def rest(self) -> None:
-        """Has nothing go over the stream while the path has been sound for some time, and has it heard anew once it isn't. The command
+        """Has nothing go over the stream while the path has been validated for some time, and has it heard anew once it isn't. The command
         stays, for what else was asked of it, as a port that it forwards."""
-        rests = self.stream is not None and self.was_sound()
+        rests = self.stream is not None and self.was_validated()
         if self.rests and not rests and self.stream:
             self.stream.resume()
         self.rests = rests
@@ -114,8 +114,8 @@ class Ways:
         found = [self.stream.due_at()] if self.stream and not self.is_quiet() else []
         if self.path:
             found.append(self.path.due_at())
-            found += [self.path.silent_at()] if self.path.is_sound() else []
-            found += [self.path.sound_since + SOUND] if self.path.is_sound() and self.stream and not self.rests else []
+            found += [self.path.silent_at()] if self.path.is_validated() else []
+            found += [self.path.validated_since + SOUND] if self.path.is_validated() and self.stream and not self.rests else []
         return [moment for moment in found if moment < math.inf]
 
 

@@ -1,4 +1,4 @@
-"""A path between the two ends of a relay: sealed packets over UDP, from wherever either end is now.
+"""A path between the two ends of a relay: encrypted packets over UDP, from wherever either end is now.
 
 A packet's text begins with what of the other end came: the newest counter, how long ago, and which before it. So each end knows which of
 its packets have arrived, how long that takes, how many are lost and how much goes through at a time. What was lost goes again where it is
@@ -13,11 +13,11 @@ import time
 from collections import deque, namedtuple
 from collections.abc import Callable, Iterable, Iterator, Sequence
 
-from roam_live.relay.aead_packets import LONGEST_PACKET, LONGEST_TEXT, Seal, Window, came_to, send, udp_end
-from roam_live.relay.batches import LARGE, NOW, ONCE_KIND, PIECE, PIECE_KIND, SOON, WHOLE, WHOLE_KIND, Bundles, Piece
+from roam_live.relay.aead_packets import LONGEST_PACKET, LONGEST_TEXT, AeadPackets, Window, came_to, send, udp_end
+from roam_live.relay.batches import CHUNK, CHUNK_KIND, LARGE, NOW, ONCE_KIND, SOON, WHOLE, WHOLE_KIND, Batches, Chunk
 from roam_live.relay.forwarding import TAKEN_COUNT
 from roam_live.relay.frames import ENDED, LEAVES, WINDOWS, BadWords, Waiting, demand_length, demand_told
-from roam_live.relay.path_forwarding import STREAM, STREAM_KIND, TAKEN_KIND, PathStreams, StreamPiece
+from roam_live.relay.path_forwarding import STREAM, STREAM_KIND, TAKEN_KIND, PathStreams, StreamChunk
 
 TYPE_CHECKING = False
 if TYPE_CHECKING:
@@ -26,8 +26,8 @@ if TYPE_CHECKING:
     from roam_live.common.event_loop import Loop
     from roam_live.relay.aead_packets import Beside, Place
 
-    # What goes in a packet: a piece of a bundle, or of a connection.
-    AnyPiece = Union[Piece, StreamPiece]
+    # What goes in a packet: a chunk of a batch, or of a connection.
+    AnyChunk = Union[Chunk, StreamChunk]
 
 # The newest counter that came, its lowest 32 bits; the milliseconds since then; and how many bytes of a mask follow.
 HEAD = struct.Struct(">IHB")
@@ -35,7 +35,7 @@ LONGEST_MASK = 32
 LONGEST_HELD = 65535
 
 # How the frames of a packet are laid out, by their kinds.
-LAYOUTS = {PIECE_KIND: PIECE, ONCE_KIND: PIECE, WHOLE_KIND: WHOLE, STREAM_KIND: STREAM, TAKEN_KIND: TAKEN_COUNT}
+LAYOUTS = {CHUNK_KIND: CHUNK, ONCE_KIND: CHUNK, WHOLE_KIND: WHOLE, STREAM_KIND: STREAM, TAKEN_KIND: TAKEN_COUNT}
 
 # What asks for an answer: a small one, or one of the largest size.
 ASKS, ASKS_LARGE = b"a", b"l"
@@ -43,10 +43,10 @@ ASKS, ASKS_LARGE = b"a", b"l"
 # What an end tells of itself.
 TOLD = (ENDED, LEAVES, WINDOWS)
 
-# Every so manieth packet begins with connections, where bundles take all of the others.
+# Every so manieth packet begins with connections, where batches take all of the others.
 TURN_OF_STREAMS = 4
 
-# What came is told within so many seconds, in what goes anyway or alone, and what came of a large bundle sooner, or once so many packets
+# What came is told within so many seconds, in what goes anyway or alone, and what came of a large batch sooner, or once so many packets
 # came; and for so long it is told again. A client's answer comes after 100 ms.
 HELD, HELD_LARGE = 0.12, 0.025
 MOST_UNTOLD = 32
@@ -79,7 +79,7 @@ BELIEVED = 10.0
 GROWS, FLAT = 1.25, 3
 RISING, STEADY = 2.0, 1.25
 
-# Where more than this part is lost, small pieces go twice, so many seconds apart: what is typed is small.
+# Where more than this part is lost, small chunks go twice, so many seconds apart: what is typed is small.
 LOSSY = 0.01
 SMALL = 320
 APART = 0.020
@@ -98,12 +98,12 @@ TURN = 0.05
 MOST_GONE = 512
 
 
-class SentPacket(namedtuple("SentPacket", "moment size pieces arrived held")):
-    """A packet that is on its way: when it went, its bytes, its pieces, how much had arrived then, and how long it may be held."""
+class SentPacket(namedtuple("SentPacket", "moment size chunks arrived held")):
+    """A packet that is on its way: when it went, its bytes, its chunks, how much had arrived then, and how long it may be held."""
 
     moment: float
     size: int
-    pieces: tuple[AnyPiece, ...]
+    chunks: tuple[AnyChunk, ...]
     arrived: int
     held: float
 
@@ -329,7 +329,7 @@ def frames_in(text: bytes, begin: int) -> Iterator[tuple[bytes, tuple[int, ...],
             return
         numbers = layout.unpack_from(text, begin)[1:]
         begin += layout.size
-        length = numbers[-1] if layout in (PIECE, STREAM) else 0
+        length = numbers[-1] if layout in (CHUNK, STREAM) else 0
         if begin + length > len(text):
             return
         yield kind, numbers, text[begin : begin + length]
@@ -339,17 +339,17 @@ def frames_in(text: bytes, begin: int) -> Iterator[tuple[bytes, tuple[int, ...],
 class Path:
     """One end of a path."""
 
-    def __init__(self, seal: Seal, end: socket.socket, places: Iterable[Place] = ()) -> None:
-        self.seal, self.end = seal, end
+    def __init__(self, aead: AeadPackets, end: socket.socket, places: Iterable[Place] = ()) -> None:
+        self.aead, self.end = aead, end
         # What calls where something came.
         self.joined: tuple[Loop, Callable[[], object]] | None = None
-        self.arrivals, self.bundles, self.pace, self.trips, self.states = HeardPackets(), Bundles(), PathPace(), Trips(), States()
+        self.arrivals, self.batches, self.pace, self.trips, self.states = HeardPackets(), Batches(), PathPace(), Trips(), States()
         # Where the other end may be, where it is, and the address of this end to which it sent.
         self.places = list(places)
         self.place: Place | None = None
         self.source: Sequence[Beside] = ()
         now = time.monotonic()
-        self.heard_at = self.sound_since = now
+        self.heard_at = self.validated_since = now
         self.answered_at: float | None = None
         self.spoke_at = self.called_at = self.hopped_at = now
         # Since when an answer is owed to this end; how often it has called; whether it calls again at once; whether it has no other way.
@@ -362,9 +362,9 @@ class Path:
         self.gone: dict[int, SentPacket] = {}
         self.arrived = self.size = 0
         # What goes: what was lost, what is new, what goes once more, and what waits for something newer.
-        self.repairs: deque[Piece] = deque()
-        self.fresh: deque[Piece] = deque()
-        self.twice: deque[tuple[float, Piece]] = deque()
+        self.repairs: deque[Chunk] = deque()
+        self.fresh: deque[Chunk] = deque()
+        self.twice: deque[tuple[float, Chunk]] = deque()
         self.soon: dict[int, tuple[float, list[bytes]]] = {}
         # The connections that it carries, and how many packets went since they were first in one.
         self.streams: PathStreams | None = None
@@ -387,7 +387,7 @@ class Path:
 
     # ---- what is known of it
 
-    def is_sound(self) -> bool:
+    def is_validated(self) -> bool:
         """Whether what this end sends arrives, and what the other end sends too."""
         return self.is_wide and time.monotonic() <= self.silent_at()
 
@@ -399,23 +399,23 @@ class Path:
 
     def is_spent(self) -> bool:
         """Whether it has no numbers left, so that another has to take its place."""
-        return self.seal.is_spent() or self.bundles.is_spent()
+        return self.aead.is_spent() or self.batches.is_spent()
 
     def is_asleep(self) -> bool:
         """Whether the other end has said nothing for so long that this one has nobody to speak to."""
-        return not self.seal.is_near and time.monotonic() > self.heard_at + ASLEEP
+        return not self.aead.is_near and time.monotonic() > self.heard_at + ASLEEP
 
     def is_said(self) -> bool:
         """Whether the other end has all that it was told."""
-        return self.states.is_sent and self.bundles.is_said(0)
+        return self.states.is_sent and self.batches.is_said(0)
 
     def has_more(self) -> bool:
         """Whether more is to go than went."""
-        return bool(self.fresh or self.repairs or self.is_sound() and self.streams and self.streams.waits())
+        return bool(self.fresh or self.repairs or self.is_validated() and self.streams and self.streams.waits())
 
     def may_carry(self) -> bool:
         """Whether it may carry what waits: all, or, where it is silent, one packet at a time that looks whether it still is."""
-        return bool(self.place or self.seal.is_near) and (self.is_sound() or not self.sent)
+        return bool(self.place or self.aead.is_near) and (self.is_validated() or not self.sent)
 
     def late_at(self, counter: int, sent: SentPacket) -> float:
         """When a packet is taken for lost."""
@@ -438,14 +438,14 @@ class Path:
 
     def call_at(self) -> float:
         """When the other end is called."""
-        if self.is_asleep() or not self.seal.is_near and not self.place:
+        if self.is_asleep() or not self.aead.is_near and not self.place:
             return math.inf
         if self.is_due:
             return -math.inf
-        if self.is_sound() and self.answered_at is not None:
+        if self.is_validated() and self.answered_at is not None:
             return min(max(self.spoke_at, self.called_at) + HEARTBEAT, max(self.answered_at, self.called_at) + UNANSWERED)
         most = CALLS_ALONE if self.is_alone else CALLS_BESIDE
-        return self.called_at + (min(most, FIRST_CALL * float(2**self.calls)) if self.seal.is_near else HEARTBEAT)
+        return self.called_at + (min(most, FIRST_CALL * float(2**self.calls)) if self.aead.is_near else HEARTBEAT)
 
     # ---- what goes
 
@@ -474,95 +474,95 @@ class Path:
         peer, texts = self.taken(waiting, now)
         if not texts:
             return False
-        haste = self.bundles.haste(peer, texts)
+        haste = self.batches.haste(peer, texts)
         if haste == SOON and peer not in self.soon:
             self.soon[peer] = now + MOMENT, texts
             return True
         self.soon.pop(peer, None)
-        pieces, is_new = self.bundles.begin(peer, texts, haste != NOW)
+        chunks, is_new = self.batches.begin(peer, texts, haste != NOW)
         if is_new:
-            self.fresh += pieces
-        elif not any(set(pieces) & set(sent.pieces) for sent in self.sent.values() if now < sent.moment + self.trips.round()):
+            self.fresh += chunks
+        elif not any(set(chunks) & set(sent.chunks) for sent in self.sent.values() if now < sent.moment + self.trips.round()):
             # What is said again is on its way: it goes again once it should have been told of.
-            self.repairs += pieces
+            self.repairs += chunks
         return True
 
     def taken(self, waiting: Waiting, now: float) -> tuple[int, list[bytes]]:
         """What goes next, and to whom; what is large only where nothing else is to go."""
-        if not self.states.is_sent and self.bundles.may_begin(0):
+        if not self.states.is_sent and self.batches.may_begin(0):
             self.states.is_sent = True
             return 0, list(self.states.going.values())
         is_free = not self.fresh and not self.repairs
-        found = waiting.take_whole(lambda peer, size: (is_free or size <= LARGE) and self.bundles.may_begin(peer, size))
+        found = waiting.take_whole(lambda peer, size: (is_free or size <= LARGE) and self.batches.may_begin(peer, size))
         due = next((peer for peer, (moment, _) in self.soon.items() if moment <= now), None)
         return found if found[1] or due is None else (due, self.soon[due][1])
 
     def flush(self, now: float) -> None:
-        """Sends pieces, as many as may go: those that were lost first."""
+        """Sends chunks, as many as may go: those that were lost first."""
         while self.may_carry() and self.size + LONGEST_PACKET <= self.pace.window() and self.pace.lets(LONGEST_PACKET, now):
-            pieces = self.next_pieces(now)
-            if not pieces:
+            chunks = self.next_chunks(now)
+            if not chunks:
                 return
-            self.send_packet(now, pieces)
+            self.send_packet(now, chunks)
 
-    def next_pieces(self, now: float) -> list[AnyPiece]:
-        """The pieces of the next packet: those that were lost, those of bundles, and those of connections where there is room, or it is
+    def next_chunks(self, now: float) -> list[AnyChunk]:
+        """The chunks of the next packet: those that were lost, those of batches, and those of connections where there is room, or it is
         their turn."""
-        pieces: list[AnyPiece] = []
+        chunks: list[AnyChunk] = []
         room = LONGEST_TEXT - HEAD.size - LONGEST_MASK
         self.since_streams += 1
         if self.since_streams >= TURN_OF_STREAMS:
-            room = self.add_streams(pieces, room)
+            room = self.add_streams(chunks, room)
         for queue in (self.repairs, self.fresh):
-            while queue and self.bundles.length(queue[0]) <= room:
-                piece = queue.popleft()
-                length = self.bundles.length(piece)
-                if not length or piece in pieces:
+            while queue and self.batches.length(queue[0]) <= room:
+                chunk = queue.popleft()
+                length = self.batches.length(chunk)
+                if not length or chunk in chunks:
                     continue
-                pieces.append(piece)
+                chunks.append(chunk)
                 room -= length
-                self.twice += [(now + APART, piece)] if queue is self.fresh and self.goes_twice(piece) else []
-        self.add_streams(pieces, room)
-        return pieces
+                self.twice += [(now + APART, chunk)] if queue is self.fresh and self.goes_twice(chunk) else []
+        self.add_streams(chunks, room)
+        return chunks
 
-    def add_streams(self, pieces: list[AnyPiece], room: int) -> int:
+    def add_streams(self, chunks: list[AnyChunk], room: int) -> int:
         """Adds what of connections has room in a packet, and tells what is left of that. They don't look whether a silent path is so
         still: they would each moment, as long as it is."""
-        while self.streams and self.is_sound():
-            piece = self.streams.next_piece(room)
-            if not piece:
+        while self.streams and self.is_validated():
+            chunk = self.streams.next_chunk(room)
+            if not chunk:
                 break
-            pieces.append(piece)
-            room -= self.streams.length(piece)
+            chunks.append(chunk)
+            room -= self.streams.length(chunk)
             self.since_streams = 0
         return room
 
-    def frame(self, piece: AnyPiece) -> bytes:
-        """A piece that is wanted, as it stands in a packet."""
-        if isinstance(piece, Piece):
-            return self.bundles.frame(piece)
-        return self.streams.frame(piece) if self.streams else b""
+    def frame(self, chunk: AnyChunk) -> bytes:
+        """A chunk that is wanted, as it stands in a packet."""
+        if isinstance(chunk, Chunk):
+            return self.batches.frame(chunk)
+        return self.streams.frame(chunk) if self.streams else b""
 
-    def note_piece(self, piece: AnyPiece, has_arrived: bool) -> None:
-        """Notes that a piece has arrived, or is taken for lost, so that it goes again where it is still wanted."""
-        if isinstance(piece, Piece):
+    def note_chunk(self, chunk: AnyChunk, has_arrived: bool) -> None:
+        """Notes that a chunk has arrived, or is taken for lost, so that it goes again where it is still wanted."""
+        if isinstance(chunk, Chunk):
             if has_arrived:
-                self.bundles.arrived(piece)
-            elif self.bundles.bundle(piece):
-                self.repairs.append(piece)
+                self.batches.arrived(chunk)
+            elif self.batches.batch(chunk):
+                self.repairs.append(chunk)
         elif self.streams:
-            (self.streams.arrived if has_arrived else self.streams.lost)(piece)
+            (self.streams.arrived if has_arrived else self.streams.lost)(chunk)
 
-    def goes_twice(self, piece: Piece) -> bool:
-        """Whether a piece goes once more in a moment, whatever is told of it."""
-        bundle = self.bundles.bundle(piece)
-        return bool(bundle and not bundle.is_once and len(bundle.pieces[piece.index]) <= SMALL and self.trips.lost > LOSSY)
+    def goes_twice(self, chunk: Chunk) -> bool:
+        """Whether a chunk goes once more in a moment, whatever is told of it."""
+        batch = self.batches.batch(chunk)
+        return bool(batch and not batch.is_once and len(batch.chunks[chunk.index]) <= SMALL and self.trips.lost > LOSSY)
 
     def call(self, now: float) -> None:
         """Asks the other end for an answer, and then for one of the largest size, since it has to get through."""
         self.called_at, self.is_due = now, False
-        self.calls = 0 if self.is_sound() else min(self.calls + 1, MOST_CALLS)
-        if self.seal.is_near and now > max(self.heard_at, self.hopped_at) + HOPS:
+        self.calls = 0 if self.is_validated() else min(self.calls + 1, MOST_CALLS)
+        if self.aead.is_near and now > max(self.heard_at, self.hopped_at) + HOPS:
             self.hop(now)
         is_wide = self.is_wide or self.answered_at is None
         self.has_asked_wide = self.has_asked_wide or not is_wide
@@ -578,32 +578,32 @@ class Path:
             if self.joined:
                 self.join(*self.joined)
 
-    def send_packet(self, now: float, pieces: Sequence[AnyPiece] = (), asks: bytes = b"") -> None:
+    def send_packet(self, now: float, chunks: Sequence[AnyChunk] = (), asks: bytes = b"") -> None:
         """Sends a packet. What goes anyway asks for the answer that would have to be asked for soon."""
-        if self.seal.is_spent():
+        if self.aead.is_spent():
             return
-        bundles = [self.bundles.bundle(piece) if isinstance(piece, Piece) else None for piece in pieces]
-        if bundles and all(bundle and bundle.is_once for bundle in bundles) and now > (self.answered_at or now) + HEARTBEAT:
+        batches = [self.batches.batch(chunk) if isinstance(chunk, Chunk) else None for chunk in chunks]
+        if batches and all(batch and batch.is_once for batch in batches) and now > (self.answered_at or now) + HEARTBEAT:
             asks = asks or ASKS
-        packet = self.seal.sealed(self.text(now, pieces, asks))
+        packet = self.aead.encrypted(self.text(now, chunks, asks))
         own = [self.place] if self.place else []
-        for place in own if own and self.is_sound() else dict.fromkeys([*own, *self.places]):
+        for place in own if own and self.is_validated() else dict.fromkeys([*own, *self.places]):
             send(self.end, packet, place, self.source)
-        held = HELD_LARGE if any(isinstance(piece, Piece) and piece.index for piece in pieces) else HELD
-        kept = tuple(piece for piece in pieces if not isinstance(piece, Piece) or self.bundles.went(piece))
+        held = HELD_LARGE if any(isinstance(chunk, Chunk) and chunk.index for chunk in chunks) else HELD
+        kept = tuple(chunk for chunk in chunks if not isinstance(chunk, Chunk) or self.batches.went(chunk))
         self.pace.went(len(packet))
         if kept or asks:
-            self.sent[self.seal.counter] = SentPacket(now, len(packet), kept, self.pace.arrived, held)
+            self.sent[self.aead.counter] = SentPacket(now, len(packet), kept, self.pace.arrived, held)
             self.size += len(packet)
             self.asked_at = now if self.asked_at is None else self.asked_at
         self.spoke_at = now
         self.arrivals.were_told(now)
 
-    def text(self, now: float, pieces: Sequence[AnyPiece], asks: bytes) -> bytes:
-        """What a packet carries: what came, pieces, which bundles came whole, as many as there is room for, and what asks for an answer."""
-        text = self.arrivals.head(now) + b"".join(map(self.frame, pieces))
+    def text(self, now: float, chunks: Sequence[AnyChunk], asks: bytes) -> bytes:
+        """What a packet carries: what came, chunks, which batches came whole, as many as there is room for, and what asks for an answer."""
+        text = self.arrivals.head(now) + b"".join(map(self.frame, chunks))
         room = LONGEST_TEXT - len(text) - len(asks)
-        text += b"".join(map(self.bundles.whole, self.arrivals.peers(now, room // WHOLE.size))) + asks
+        text += b"".join(map(self.batches.whole, self.arrivals.peers(now, room // WHOLE.size))) + asks
         return text.ljust(LONGEST_TEXT, b"\0") if asks == ASKS_LARGE else text
 
     def give_up_late(self, now: float) -> None:
@@ -618,13 +618,13 @@ class Path:
         for counter in counters:
             sent = self.gone[counter] = self.sent.pop(counter)
             self.size -= sent.size
-            is_sound = self.is_sound()
-            if counter < self.arrived or is_sound:
+            is_validated = self.is_validated()
+            if counter < self.arrived or is_validated:
                 self.trips.note_lost()
-            for piece in sent.pieces:
-                self.note_piece(piece, False)
+            for chunk in sent.chunks:
+                self.note_chunk(chunk, False)
             # An answer that was asked for is asked for again.
-            self.is_due = self.is_due or not sent.pieces and is_sound
+            self.is_due = self.is_due or not sent.chunks and is_validated
         while len(self.gone) > MOST_GONE:
             del self.gone[next(iter(self.gone))]
 
@@ -648,35 +648,35 @@ class Path:
 
     def take(self, packet: bytes, place: Place, told: Iterable[Beside] = ()) -> Iterator[tuple[int, bytes]]:
         """The frames of a packet, where it is authentic and new."""
-        counter = self.seal.counter_of(packet)
-        text = self.seal.opened(packet) if counter and self.arrivals.window.is_new(counter) else None
+        counter = self.aead.counter_of(packet)
+        text = self.aead.decrypted(packet) if counter and self.arrivals.window.is_new(counter) else None
         if text is None or len(text) < HEAD.size:
             return
         now = time.monotonic()
         self.heard_at = now
         self.is_wide = self.is_wide or len(packet) == LONGEST_PACKET
         # The first that comes is answered by asking for the largest size.
-        self.is_due = self.is_due or self.seal.is_near and not self.is_wide and not self.has_asked_wide
-        was_sound = self.is_sound()
-        if not was_sound:
+        self.is_due = self.is_due or self.aead.is_near and not self.is_wide and not self.has_asked_wide
+        was_validated = self.is_validated()
+        if not was_validated:
             # What waited for an answer goes at once, now that somebody is there.
             self.give_up(list(self.sent))
         if counter > self.arrivals.window.newest:
             # The far end answers from where it was asked; the near end goes from wherever it is now.
-            self.place, self.source, self.arrivals.newest_at = place, () if self.seal.is_near else came_to(told), now
+            self.place, self.source, self.arrivals.newest_at = place, () if self.aead.is_near else came_to(told), now
         self.arrivals.window.note(counter)
         newest, held, length = HEAD.unpack_from(text)
         begin = HEAD.size + length
         self.note_arrived(newest, held / 1000, text[HEAD.size : begin], now)
-        yield from self.frames(text, begin, counter, now, was_sound)
+        yield from self.frames(text, begin, counter, now, was_validated)
 
     def note_arrived(self, low: int, held: float, mask: bytes, now: float) -> None:
         """Takes what the other end tells of what arrived there: the newest counter, by its lowest bits, and which before it."""
-        newest = self.seal.counter - (self.seal.counter - low & 0xFFFFFFFF)
+        newest = self.aead.counter - (self.aead.counter - low & 0xFFFFFFFF)
         if newest <= 0:
             return
         if newest > self.arrived:
-            self.sound_since = self.sound_since if self.is_sound() else now
+            self.validated_since = self.validated_since if self.is_validated() else now
             self.arrived, self.answered_at, self.asked_at, self.trips.tries = newest, now, None, 0
         bits = int.from_bytes(mask[:LONGEST_MASK], "little") << 1 | 1
         is_full = self.has_more()
@@ -686,40 +686,40 @@ class Path:
             self.size -= 0 if was_given_up else sent.size
             self.trips.note_arrived(was_given_up)
             self.pace.note(sent, now, is_full)
-            for piece in sent.pieces:
-                self.note_piece(piece, True)
+            for chunk in sent.chunks:
+                self.note_chunk(chunk, True)
             if counter == newest:
                 self.trips.note(max(0.001, now - sent.moment - held))
                 self.pace.note_round(self.trips.mean or ROUND)
 
-    def frames(self, text: bytes, begin: int, counter: int, now: float, was_sound: bool) -> Iterator[tuple[int, bytes]]:
+    def frames(self, text: bytes, begin: int, counter: int, now: float, was_validated: bool) -> Iterator[tuple[int, bytes]]:
         """What stands behind the head of a packet, and notes when that has to be told: at once where the path wasn't sound."""
         wants, held, asks = False, HELD, b""
-        for kind, numbers, piece in frames_in(text, begin):
-            if kind in (PIECE_KIND, ONCE_KIND):
-                wants = wants or kind == PIECE_KIND
+        for kind, numbers, chunk in frames_in(text, begin):
+            if kind in (CHUNK_KIND, ONCE_KIND):
+                wants = wants or kind == CHUNK_KIND
                 held = HELD_LARGE if numbers[3] > 1 else held
-                self.arrivals.note_peer(numbers[0], now, kind == PIECE_KIND)
-                yield from self.take_piece(numbers, piece)
+                self.arrivals.note_peer(numbers[0], now, kind == CHUNK_KIND)
+                yield from self.take_chunk(numbers, chunk)
             elif kind == WHOLE_KIND:
-                is_lost = self.bundles.note_whole(numbers[0], numbers[1])
+                is_lost = self.batches.note_whole(numbers[0], numbers[1])
                 self.states.is_sent = self.states.is_sent and not (is_lost and numbers[0] == 0)
             elif kind in (STREAM_KIND, TAKEN_KIND):
                 wants = True
                 if self.streams:
-                    self.streams.take(kind, numbers[0], numbers[1], piece)
+                    self.streams.take(kind, numbers[0], numbers[1], chunk)
             elif kind in (ASKS, ASKS_LARGE):
                 wants, held, asks = True, 0.0, kind
         if wants:
-            self.arrivals.want(counter, now, held if was_sound else 0.0)
-        if asks == ASKS_LARGE and not self.seal.is_near:
+            self.arrivals.want(counter, now, held if was_validated else 0.0)
+        if asks == ASKS_LARGE and not self.aead.is_near:
             # This asks back, while it isn't known to arrive.
             self.send_packet(now, asks=ASKS_LARGE)
 
-    def take_piece(self, numbers: tuple[int, ...], piece: bytes) -> Iterator[tuple[int, bytes]]:
-        """What a piece brings; of peer 0 what of it is new."""
+    def take_chunk(self, numbers: tuple[int, ...], chunk: bytes) -> Iterator[tuple[int, bytes]]:
+        """What a chunk brings; of peer 0 what of it is new."""
         peer, number, index, count, _ = numbers
-        for text in self.bundles.take(peer, number, index, count, piece):
+        for text in self.batches.take(peer, number, index, count, chunk):
             new = text if peer else self.states.news(text)
             if new is not None:
                 yield peer, new

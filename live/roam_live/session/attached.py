@@ -10,7 +10,7 @@ from roam_live.common.files import is_own_folder, replace_text
 from roam_live.common.process import begun, is_running
 
 
-def noted_front_end(folder: str | os.PathLike[str] | None, kind: str = "edits") -> pathlib.Path | None:
+def noted_front_end(folder: str | os.PathLike[str] | None, kind: str = "read-write") -> pathlib.Path | None:
     """The file by which `live/mux ls` counts this process as a front end; None where no folder is named, and where none can be written."""
     if not folder:
         return None
@@ -42,18 +42,18 @@ def count_front_ends(folder: str | os.PathLike[str]) -> int:
     return len(notes) - len(gone)
 
 
-def noted_editors(folder: str | os.PathLike[str] | None) -> set[int]:
+def noted_read_write(folder: str | os.PathLike[str] | None) -> set[int]:
     """The processes of the front ends that type, as they are noted in a session's folder."""
     found: set[int] = set()
     with contextlib.suppress(OSError):
         notes = pathlib.Path(folder, "attached").glob("[0-9]*") if folder else ()
-        found.update(int(note.name) for note in notes if is_attached(note) and kind_of(note) == "edits")
+        found.update(int(note.name) for note in notes if is_attached(note) and kind_of(note) == "read-write")
     return found
 
 
 def has_others(folder: str | os.PathLike[str] | None) -> bool:
     """Whether another front end that types is noted in a session's folder."""
-    return bool(noted_editors(folder) - {os.getpid()})
+    return bool(noted_read_write(folder) - {os.getpid()})
 
 
 def kind_of(note: pathlib.Path) -> str:

@@ -27,8 +27,8 @@ NAMES = ("DISPLAY", "WAYLAND_DISPLAY", "SSH_CONNECTION")
 LONGEST_VALUE = 112
 NONE = "none"
 
-# The word by which a value is brought to the keeper of the shells, and that by which it is asked what new panes have, and tells it.
-BRINGS, BROUGHT = "brings", "brought"
+# The word by which a value is brought to the pty host, and that by which it is asked what new panes have, and tells it.
+ENVIRONMENT = "environment"
 
 # What names the agent of ssh, and the name of the link to it in a session's folder.
 AGENT, LINK = "SSH_AUTH_SOCK", "agent"
@@ -69,13 +69,13 @@ def value_lines(word: str, values: dict[str, str]) -> list[str]:
     return [f"{word} {name} {word_of(value)}" for name, value in values.items()]
 
 
-class Brought:
+class PaneEnvironment:
     """The values that new panes have: those that were brought last, and what this process's environment has of those that never were."""
 
     def __init__(self) -> None:
         self.values = own_values()
 
-    def take(self, line: str, leads: str = BRINGS) -> bool:
+    def take(self, line: str, leads: str = ENVIRONMENT) -> bool:
         """Takes the value that a line tells behind a word, and tells whether it is such a line."""
         word, _, rest = line.partition(" ")
         name, _, told = rest.partition(" ")
@@ -87,7 +87,7 @@ class Brought:
 
     def lines(self) -> list[str]:
         """The lines that tell them to who asks."""
-        return value_lines(BROUGHT, self.values)
+        return value_lines(ENVIRONMENT, self.values)
 
     def set_values(self) -> dict[str, str]:
         """Those that are set."""
@@ -166,19 +166,19 @@ def is_relayed(folder: str | os.PathLike[str]) -> bool:
     return any(os.path.basename(word) in RELAYS for word in words[:2])
 
 
-def brings_to(session: AnySession, watches: bool) -> list[str]:
+def environment_lines(session: AnySession, is_read_only: bool) -> list[str]:
     """Renews the link of a session, and gives the lines by which this terminal brings its values; nothing by one that only watches, or to
     a session of another machine, to which the far end brings what it has there."""
-    if watches or session.folder is None or session.common is None or session.served != "server" or is_relayed(session.folder):
+    if is_read_only or session.folder is None or session.common is None or session.served != "server" or is_relayed(session.folder):
         return []
     renew_agent(session.common)
-    return value_lines(BRINGS, own_values())
+    return value_lines(ENVIRONMENT, own_values())
 
 
-def bring(session: FolderSession) -> None:
-    """Brings what this process has to a session, whose keeper reads it once it can; one that isn't there yet is spawned with that."""
-    lines = brings_to(session, False)
-    with contextlib.suppress(OSError), connected_now(session.folder / "shells") as peer:
+def send_environment(session: FolderSession) -> None:
+    """Brings what this process has to a session, whose host reads it once it can; one that isn't there yet is spawned with that."""
+    lines = environment_lines(session, False)
+    with contextlib.suppress(OSError), connected_now(session.folder / "host") as peer:
         peer.send(joined(lines))
 
 
@@ -188,26 +188,26 @@ def joined(lines: Iterable[str]) -> bytes:
 
 
 def asked_values(session: FolderSession) -> dict[str, str]:
-    """The values that new panes of a session have, by its keeper; Fault tells why they aren't known."""
+    """The values that new panes of a session have, by its host; Fault tells why they aren't known."""
     try:
-        with connected_in(session.folder / "shells", ASKED) as peer:
-            peer.send(joined([BROUGHT]))
-            told = brought_by(peer, time.monotonic() + ASKED)
+        with connected_in(session.folder / "host", ASKED) as peer:
+            peer.send(joined([ENVIRONMENT]))
+            told = read_environment(peer, time.monotonic() + ASKED)
     except OSError as fault:
-        raise Fault(f"session {session.name}: nothing keeps its shells: {reason(fault)}") from fault
+        raise Fault(f"session {session.name}: its pty host is not running: {reason(fault)}") from fault
     if told is None:
-        raise Fault(f"session {session.name}: what keeps its shells doesn't tell what they have, as an earlier roam's")
+        raise Fault(f"session {session.name}: the pty host doesn't tell what they have, as an earlier roam's")
     return told.values
 
 
-def brought_by(peer: socket.socket, end: float) -> Brought | None:
-    """What a keeper that was asked tells until a moment; None where that isn't all."""
-    told, left, lines = Brought(), set(NAMES), Lines()
+def read_environment(peer: socket.socket, end: float) -> PaneEnvironment | None:
+    """What a host that was asked tells until a moment; None where that isn't all."""
+    told, left, lines = PaneEnvironment(), set(NAMES), Lines()
     while left and comes(peer, max(0.0, end - time.monotonic())):
-        piece = read(peer.fileno())
-        if piece == b"":
+        chunk = read(peer.fileno())
+        if chunk == b"":
             break
-        left -= {line.split(" ")[1] for line in lines.fed(piece or b"") if told.take(line, BROUGHT)}
+        left -= {line.split(" ")[1] for line in lines.fed(chunk or b"") if told.take(line, ENVIRONMENT)}
     return None if left else told
 
 

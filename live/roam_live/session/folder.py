@@ -11,12 +11,12 @@ from roam_live.common.errors import Fault
 from roam_live.common.files import is_locked, is_own_folder, replace_text
 from roam_live.common.process import TOOLS, age_of, begun, end_words, is_stopped, note_end, program
 from roam_live.common.unix_socket import is_listened
-from roam_live.protocol.panes import ASKED, MOST_STARTS, asked_places
+from roam_live.protocol.panes import ASKED, MOST_CLIENTS, asked_places
 from roam_live.session.attached import count_front_ends
 from roam_live.session.environment import LINK
 from roam_live.session.names import LONGEST_PATH, base, check_name
 from roam_live.session.processes import START_WAIT, Processes, end_left
-from roam_live.session.window_state import STARTS, WINDOWS
+from roam_live.session.window_state import REMOTE_CLIENTS, WINDOWS
 
 TYPE_CHECKING = False
 if TYPE_CHECKING:
@@ -24,11 +24,11 @@ if TYPE_CHECKING:
 
     from roam_live.protocol.panes import Places
 
-# What a session's note is like. An earlier roam had one without this number: its session has no start for terminals. One of 2 knows no
-# guesses.
+# What a session's note is like. An earlier roam had one without this number: its session has no client for terminals. One of 2 knows no
+# predictions.
 VERSION = 3
 
-# So many seconds it is waited for being told whether there is room for a start, before it is spawned: a person waits for that.
+# So many seconds it is waited for being told whether there is room for a client, before it is spawned: a person waits for that.
 ROOM_ASKED = 0.25
 
 # So many seconds the log of a session that has ended stays; and the files of which a process that was killed while it wrote one leaves
@@ -36,10 +36,10 @@ ROOM_ASKED = 0.25
 LOG_KEPT = 86400.0
 WRITTEN = ("ended", "state.json", "session", "attached")
 
-# From so many starts on `mux ls` tells how many a server knows.
-MANY_STARTS = 32
+# From so many clients on `mux ls` tells how many a server knows.
+MANY_CLIENTS = 32
 
-SOCKETS = ("clients", "panes", "terminals", "bells", "shells", *(f"p{pane}" for pane in range(1, 10)))
+SOCKETS = ("clients", "panes", "terminals", "bells", "host", *(f"p{pane}" for pane in range(1, 10)))
 
 
 class FolderSession(Processes):
@@ -51,7 +51,7 @@ class FolderSession(Processes):
 
     # What its note is like, and the socket at which the process of each role listens.
     version = VERSION
-    sockets = {"server": "clients", "shells": "bells", "terminals": "terminals"}
+    sockets = {"server": "clients", "host": "bells", "client": "terminals"}
 
     def __init__(self, folder: str | os.PathLike[str], name: str | None = None, server: int | None = None) -> None:
         super().__init__(folder, server)
@@ -114,21 +114,21 @@ class FolderSession(Processes):
 
     def busy(self) -> dict[int, str] | None:
         """The panes in which another program than a shell runs, and its name: in none where what is noted to have kept the shells has
-        ended, or was never begun, as where a start was killed half-way. None where that isn't known: shells that were spawned by hand are
+        ended, or was never begun, as where a client was killed half-way. None where that isn't known: shells that were spawned by hand are
         noted nowhere, and found by their socket alone."""
         from roam_live.session.foreground import busy_panes
 
         if self.state is None:
             with contextlib.suppress(Fault):
                 self.find()
-        shells = self.process("shells")
+        host = self.process("host")
         noted = self.state if self.state and not self.is_found else {}
-        if shells is None and (self.served in noted or "shells" in noted):
+        if host is None and (self.served in noted or "host" in noted):
             return {}
-        if shells is None:
+        if host is None:
             with contextlib.suppress(Fault):
-                shells = self.listener(self.sockets["shells"])
-        return None if shells is None else busy_panes(shells)
+                host = self.listener(self.sockets["host"])
+        return None if host is None else busy_panes(host)
 
     def busy_programs(self) -> dict[tuple[int, int], str] | None:
         """The same by windows and panes; 0 is the one of a session that has no others."""
@@ -175,7 +175,7 @@ class FolderSession(Processes):
             if role != self.served:
                 with contextlib.suppress(Fault):
                     found[role] = self.listener(self.sockets[role])
-        command = command_of(found.get("shells"), self.folder)
+        command = command_of(found.get("host"), self.folder)
         self.state = {"version": self.version, "command": command, **{role: [one, begun(one)] for role, one in found.items() if one}}
         self.is_found = True
         return self.runs()
@@ -203,69 +203,69 @@ class FolderSession(Processes):
         self.state = {"version": VERSION, "command": list(command)}
         before = self.logged()
         with self.whole():
-            self.spawned("server", [program(), "serve", "--as-meant", "--dir", str(self.folder)])
+            self.spawned("server", [program(), "serve", "--normalize", "--dir", str(self.folder)])
             self.wait_for("server", before, lambda: (self.folder / "session").exists() and self.is_served())
-            self.spawn_shells()
+            self.spawn_host()
 
     def demand_ready(self) -> None:
-        """Sees that what keeps its shells is there, where it was spawned just now."""
+        """Sees that the pty host is there, where it was spawned just now."""
 
-    def spawn_shells(self, more: Iterable[str] = ()) -> None:
+    def spawn_host(self, more: Iterable[str] = ()) -> None:
         """Spawns what keeps a shell in each pane."""
         state = self.state or {}
         words = [str(TOOLS / "pane_shells"), "--close", "--server", str(state["server"][0]), *more]
-        self.spawned("shells", [*words, str(self.folder), *state.get("command", ())])
+        self.spawned("host", [*words, str(self.folder), *state.get("command", ())])
 
-    def demand_shells(self) -> None:
-        """Sees that what keeps its shells runs."""
-        if not self.runs("shells"):
-            self.spawn_shells(["--again"])
+    def demand_host(self) -> None:
+        """Sees that the pty host runs."""
+        if not self.runs("host"):
+            self.spawn_host(["--again"])
 
-    def spawn_terminals(self) -> None:
-        """Spawns the client start of this machine's terminals."""
+    def spawn_client(self) -> None:
+        """Spawns the client process of this machine's terminals."""
         self.terminals.unlink(missing_ok=True)
         self.state = self.state or {"version": self.version}
-        self.spawned("terminals", [program(), "attach", "--dir", str(self.folder), "--terminals", str(self.terminals)])
+        self.spawned("client", [program(), "attach", "--dir", str(self.folder), "--terminals", str(self.terminals)])
 
     def demand_room(self) -> None:
-        """Refuses where the server knows as many starts as it ever does."""
+        """Refuses where the server knows as many clients as it ever does."""
         places = self.places(ROOM_ASKED)
         if places and places.is_full():
-            raise Fault(f"session {self.name} has had the {MOST_STARTS} client starts of its life, and hears no other; what runs in it "
+            raise Fault(f"session {self.name} has had the {MOST_CLIENTS} clients of its life, and hears no other; what runs in it "
                         f"goes on, and `mux kill {self.name}` ends it")
 
-    def demand_terminals(self, earlier: int | None = None) -> None:
-        """Sees that the start of this machine's terminals runs, and is ready: another than that of an earlier roam, where one is named."""
+    def demand_client(self, earlier: int | None = None) -> None:
+        """Sees that the client of this machine's terminals runs, and is ready: another than that of an earlier roam, where one is named."""
         before = self.logged()
-        if not self.has_terminals(earlier):
+        if not self.has_client(earlier):
             self.demand_room()
-            self.spawn_terminals()
-            self.wait_for("terminals", before, lambda: is_listened(self.terminals))
+            self.spawn_client()
+            self.wait_for("client", before, lambda: is_listened(self.terminals))
 
-    def has_terminals(self, earlier: int | None = None) -> bool:
-        """Whether a client start for this machine's terminals is there, as is noted or as its socket tells: another than that of an earlier
-        roam, which goes on with the terminals that it has."""
+    def has_client(self, earlier: int | None = None) -> bool:
+        """Whether a client process for this machine's terminals is there, as is noted or as its socket tells: another than that of an
+        earlier roam, which goes on with the terminals that it has."""
         if earlier is not None:
             with contextlib.suppress(Fault):
-                return self.listener(self.sockets["terminals"]) not in (None, earlier)
+                return self.listener(self.sockets["client"]) not in (None, earlier)
         if is_listened(self.terminals):
             return True
-        start = self.process("terminals")
+        client = self.process("client")
         # One that runs for long and has no socket left goes on with the terminals that it has, and is found by no other.
-        return start is not None and (os.path.lexists(self.terminals) or age_of(start) < START_WAIT)
+        return client is not None and (os.path.lexists(self.terminals) or age_of(client) < START_WAIT)
 
     def revive(self, earlier: int | None = None) -> None:
-        """Starts the start of the terminals anew, where it has ended, or is that of an earlier roam, and nobody else does."""
+        """Starts the client of the terminals anew, where it has ended, or is that of an earlier roam, and nobody else does."""
         with contextlib.suppress(BlockingIOError), self.locked(may_wait=False):
-            if not self.has_terminals(earlier):
-                self.spawn_terminals()
+            if not self.has_client(earlier):
+                self.spawn_client()
 
-    def revive_shells(self) -> bool:
+    def revive_host(self) -> bool:
         """Spawns the shells anew where what kept them has ended; tells whether they run."""
         with contextlib.suppress(BlockingIOError), self.locked(may_wait=False):
             if self.find():
-                self.demand_shells()
-        return self.runs("shells")
+                self.demand_host()
+        return self.runs("host")
 
     # ---- its end
 
@@ -278,7 +278,7 @@ class FolderSession(Processes):
         count_front_ends(self.folder)
         relays = self.folder / "relays"
         # An earlier roam left `rects`.
-        notes = [self.folder / name for name in (*SOCKETS, LINK, STARTS, "rects", "session", "session.new", "state.json")]
+        notes = [self.folder / name for name in (*SOCKETS, LINK, REMOTE_CLIENTS, "rects", "session", "session.new", "state.json")]
         for path in [*(relays.iterdir() if relays.is_dir() else ()), *notes]:
             path.unlink(missing_ok=True)
         if self.served == "relay":
@@ -295,10 +295,10 @@ class FolderSession(Processes):
     def end_all(self) -> None:
         """Ends the session's processes; the shells hang up their programs once the server is gone."""
         self.note_end()
-        filters = self.filters()
-        for role in (self.served, "shells", "terminals"):
+        scrollback_processes = self.scrollback_processes()
+        for role in (self.served, "host", "client"):
             self.end(role)
-        end_left(filters)
+        end_left(scrollback_processes)
 
     def kill(self) -> None:
         """Ends what is left of the session, and removes it; its lock is held."""
@@ -355,14 +355,14 @@ class FolderSession(Processes):
         places = self.places()
         size = "{} by {}".format(*places.size()) if places else "-"
         panes = len(places.rects) if places else None
-        return f"{listed(self.name, size, panes, count_front_ends(self.common))}{many_starts([places])}{self.lacking()}"
+        return f"{listed(self.name, size, panes, count_front_ends(self.common))}{many_clients([places])}{self.lacking()}"
 
     def lacking(self) -> str:
-        """What `mux ls` says of what keeps the shells, where that doesn't run."""
-        shells = self.process("shells")
-        if shells is None:
-            return ", nothing keeps its shells"
-        return ", what keeps its shells is stopped" if is_stopped(shells) else ""
+        """What `mux ls` says of the pty host, where that doesn't run."""
+        host = self.process("host")
+        if host is None:
+            return ", its pty host is not running"
+        return ", the pty host is stopped" if is_stopped(host) else ""
 
 
 def listed(name: str, size: str, panes: int | None, terminals: int) -> str:
@@ -371,19 +371,19 @@ def listed(name: str, size: str, panes: int | None, terminals: int) -> str:
     return f"{name:12} {size:12} {has:8} {terminals} terminal{'' if terminals == 1 else 's'}"
 
 
-def many_starts(found: Iterable[Places | None]) -> str:
-    """What `mux ls` says of how many starts a server has had, where they are many; from some on no new one of another machine is taken."""
-    places = max((one for one in found if one), key=lambda one: one.starts, default=None)
-    if not places or places.starts <= MANY_STARTS:
+def many_clients(found: Iterable[Places | None]) -> str:
+    """What `mux ls` says of how many clients a server has had, where they are many; from some on no new one of another machine is taken."""
+    places = max((one for one in found if one), key=lambda one: one.clients, default=None)
+    if not places or places.clients <= MANY_CLIENTS:
         return ""
     warning = ", new ones of this machine alone are taken" if places.warning() else ""
-    return f", {places.starts} of {MOST_STARTS} starts{', no other is taken' if places.is_full() else warning}"
+    return f", {places.clients} of {MOST_CLIENTS} clients{', no other is taken' if places.is_full() else warning}"
 
 
-def command_of(shells: int | None, folder: pathlib.Path) -> list[str]:
+def command_of(host: int | None, folder: pathlib.Path) -> list[str]:
     """The command that a process keeps in each pane of a folder's session; none where it is the shell, or isn't known."""
     try:
-        words = pathlib.Path(f"/proc/{shells}/cmdline").read_bytes().split(b"\0")[:-1]
+        words = pathlib.Path(f"/proc/{host}/cmdline").read_bytes().split(b"\0")[:-1]
         return [os.fsdecode(word) for word in words[words.index(os.fsencode(folder)) + 1 :]]
     except (OSError, ValueError):
         return []

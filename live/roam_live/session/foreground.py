@@ -22,17 +22,17 @@ STATE, GROUP, SESSION, FOREGROUND = 0, 2, 3, 5
 MOST_NAMED = 3
 
 
-def busy_panes(shells: int, folder: str = "") -> dict[int, str] | None:
+def busy_panes(host: int, folder: str = "") -> dict[int, str] | None:
     """The panes in which another program than a shell has the terminal, and its name, by the process that keeps the shells: of one
     window, where its folder is named. None where the system doesn't tell, or tells of such a program and not in which pane it is."""
-    busy = busy_programs(shells)
+    busy = busy_programs(host)
     return None if busy is None else {pane: name for (where, pane), name in busy.items() if folder in ("", where)}
 
 
-def busy_programs(shells: int) -> dict[tuple[str, int], str] | None:
+def busy_programs(host: int) -> dict[tuple[str, int], str] | None:
     """The same of all windows, by their folders and the panes there."""
     try:
-        own = pathlib.Path(f"/proc/{shells}/task/{shells}/children").read_text(encoding="utf-8").split()
+        own = pathlib.Path(f"/proc/{host}/task/{host}/children").read_text(encoding="utf-8").split()
     except OSError:
         return None
     jobs = jobs_of(int(process) for process in own)

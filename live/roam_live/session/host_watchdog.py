@@ -1,4 +1,4 @@
-"""Sees the end of what keeps a session's shells, and has it spawned anew; and tells whoever types where it is stopped."""
+"""Sees the end of the pty host, and has it spawned anew; and tells whoever types where it is stopped."""
 from __future__ import annotations
 
 import os
@@ -11,9 +11,9 @@ from roam_live.common.process import is_stopped, opened_process
 
 TYPE_CHECKING = False
 if TYPE_CHECKING:
-    from roam_live.protocol.session_interface import Kept
+    from roam_live.protocol.session_interface import HostedSession
 
-# So many seconds after its end what kept the shells is spawned anew: by the first it is known whether that is the session's end. One that
+# So many seconds after its end the pty host is spawned anew: by the first it is known whether that is the session's end. One that
 # lasted so long had no fault at its start.
 PAUSES = (0.3, 1, 2, 4, 8, 15)
 SOUND = 5.0
@@ -21,14 +21,14 @@ SOUND = 5.0
 # So many seconds after something was typed it is looked whether it is stopped, and again while it is: whoever types is to know why nothing
 # comes of that.
 LOOKS = 4.0
-LOOKED = "shells are stopped"
-STOPPED = "what keeps the shells is stopped; what is typed waits for it"
+LOOKED = "host is stopped"
+STOPPED = "the pty host is stopped; what is typed waits for it"
 
 
-class ShellsWatch:
-    """What keeps the shells of a session, where that is known: a call for each line that a person is to know."""
+class HostWatchdog:
+    """The pty host of a session, where that is known: a call for each line that a person is to know."""
 
-    def __init__(self, session: Kept, loop: Loop, tells: Callable[[str], object] = lambda line: None) -> None:
+    def __init__(self, session: HostedSession, loop: Loop, tells: Callable[[str], object] = lambda line: None) -> None:
         self.session, self.loop, self.tells = session, loop, tells
         self.file: int | None = None
         # How often in a row it ended soon, or couldn't be spawned, and since when it runs.
@@ -38,7 +38,7 @@ class ShellsWatch:
 
     def follow(self) -> None:
         """Follows the process that runs now."""
-        process = self.session.process("shells")
+        process = self.session.process("host")
         if process:
             self.file = opened_process(process)
             self.loop.add(self.file, self.ended)
@@ -48,12 +48,12 @@ class ShellsWatch:
         """Has it tried after a pause, which grows with each fault, and tells that pause."""
         pause = PAUSES[min(self.faults, len(PAUSES) - 1)]
         self.faults += 1
-        self.loop.later("shells", pause, self.revive)
+        self.loop.later("host", pause, self.revive)
         return pause
 
     def stop(self) -> None:
         """Spawns nothing any more, and looks at nothing."""
-        self.loop.drop("shells")
+        self.loop.drop("host")
         self.loop.drop(LOOKED)
 
     def typed(self) -> None:
@@ -63,7 +63,7 @@ class ShellsWatch:
 
     def look(self) -> None:
         """Tells that it is stopped, where that is so, for as long as it is."""
-        process = self.session.process("shells")
+        process = self.session.process("host")
         if process and is_stopped(process):
             self.tells(STOPPED)
             self.loop.later(LOOKED, LOOKS, self.look)
@@ -71,7 +71,7 @@ class ShellsWatch:
     def revive(self) -> None:
         """Has the shells spawned anew."""
         try:
-            if self.session.revive_shells():
+            if self.session.revive_host():
                 self.follow()
                 self.tells("the shells had ended: new ones are there, and what was typed meanwhile is dropped")
                 return
@@ -80,7 +80,7 @@ class ShellsWatch:
             self.tells(f"the shells have ended: {why}; tried again in {self.wait()} s")
             return
         # Another spawns them just now, or the session has ended.
-        self.loop.later("shells", PAUSES[1], self.revive)
+        self.loop.later("host", PAUSES[1], self.revive)
 
     def ended(self) -> None:
         """Takes note of an end, and tells of one that came soon after the start."""
@@ -92,4 +92,4 @@ class ShellsWatch:
             self.faults = 0
         pause = self.wait()
         if self.faults > 1:
-            self.tells(f"what keeps the shells ended again; it is spawned anew in {pause} s")
+            self.tells(f"the pty host ended again; it is spawned anew in {pause} s")

@@ -10,12 +10,12 @@ from roam_live.common.errors import Fault
 from roam_live.protocol.server_address import Home
 
 
-# So many seconds the start has for its end.
+# So many seconds the client has for its end.
 END_WAIT = 1.0
 
 
 class PortSession:
-    """A session whose server has a UDP port: a terminal has a start of its own there, and a folder that is told has the rest."""
+    """A session whose server has a UDP port: a terminal has a client of its own there, and a folder that is told has the rest."""
 
     served = "server"
     number = 0
@@ -25,7 +25,7 @@ class PortSession:
         self.folder = self.common = pathlib.Path(folder) if folder else None
         self.own = tempfile.mkdtemp(prefix="roam-terminals-")
         self.terminals = pathlib.Path(self.own, "terminals")
-        self.start: subprocess.Popen[bytes] | None = None
+        self.client: subprocess.Popen[bytes] | None = None
         self.name = str(home)
 
     def __str__(self) -> str:
@@ -45,46 +45,46 @@ class PortSession:
         """Nothing is noted of it."""
 
     def process(self, role: str) -> int | None:
-        """No process but the start is known."""
-        return self.start.pid if role == "terminals" and self.start and self.start.poll() is None else None
+        """No process but the client is known."""
+        return self.client.pid if role == "client" and self.client and self.client.poll() is None else None
 
     def runs(self, role: str | None = None) -> bool:
         """Whether the process of a role runs."""
         return self.process(role or self.served) is not None
 
     def is_served(self) -> bool:
-        """Whether somebody has the port. Where nobody has, the start isn't needed any more: it can't know by itself."""
+        """Whether somebody has the port. Where nobody has, the client isn't needed any more: it can't know by itself."""
         is_there = self.home.is_served()
-        if not is_there and self.start and self.runs("terminals"):
-            self.start.terminate()
+        if not is_there and self.client and self.runs("client"):
+            self.client.terminate()
         return is_there
 
     def busy(self) -> dict[int, str] | None:
         """What runs in its panes isn't known here."""
         return None
 
-    def revive_shells(self) -> bool:
-        """What keeps its shells isn't known here, and nothing is spawned."""
+    def revive_host(self) -> bool:
+        """The pty host isn't known here, and nothing is spawned."""
         return False
 
     def revive(self, earlier: int | None = None) -> None:
-        """Starts the start, where it doesn't run."""
-        if not self.runs("terminals"):
+        """Starts the client, where it doesn't run."""
+        if not self.runs("client"):
             self.terminals.unlink(missing_ok=True)
             words = self.home.attach_words(["--terminals", str(self.terminals)])
-            self.start = subprocess.Popen(words, stdin=subprocess.DEVNULL, stdout=subprocess.DEVNULL, stderr=subprocess.DEVNULL)
+            self.client = subprocess.Popen(words, stdin=subprocess.DEVNULL, stdout=subprocess.DEVNULL, stderr=subprocess.DEVNULL)
 
     def ending(self) -> tuple[str, int]:
         """What is said where the session has ended, and the status."""
         return "[the session has ended]", 0
 
     def close(self) -> None:
-        """Ends the start, by force where it doesn't end in time, as where it was stopped."""
-        if self.start:
-            self.start.terminate()
+        """Ends the client, by force where it doesn't end in time, as where it was stopped."""
+        if self.client:
+            self.client.terminate()
             try:
-                self.start.wait(END_WAIT)
+                self.client.wait(END_WAIT)
             except subprocess.TimeoutExpired:
-                self.start.kill()
-                self.start.wait()
+                self.client.kill()
+                self.client.wait()
         shutil.rmtree(self.own, ignore_errors=True)

@@ -23,7 +23,7 @@ if TYPE_CHECKING:
     # What JSON has of a note, of which `is_note` says what may be one.
     State = dict[str, Any]
 
-# How long a process has for what it brings, and how long for its end: longer than a keeper takes, which waits a second and a half for the
+# How long a process has for what it brings, and how long for its end: longer than a host takes, which waits a second and a half for the
 # ends of windows, and then a second for those who write rows down.
 START_WAIT = 10.0
 END_WAIT = 3.0
@@ -35,12 +35,12 @@ LEFT_WAIT = 0.5
 ASK_WAIT = 0.5
 
 # The roles of processes, in words.
-ROLES = {"server": "the server", "relay": "the relay", "shells": "what keeps the shells", "terminals": "the client start"}
+ROLES = {"server": "the server", "relay": "the relay", "host": "the pty host", "client": "the client process"}
 
 # No note has so many characters: one has the command of the panes, which the system bounds.
 MOST_NOTE = 1 << 24
 
-# What a client start says where its server has ended.
+# What a client process says where its server has ended.
 ENDED = b"[the server has ended]"
 
 # So much of what a process said that wasn't there in time is told at most.
@@ -70,8 +70,8 @@ def children_of(process: int) -> list[int]:
         return []
 
 
-def is_filter(process: int) -> bool:
-    """Whether a process is a filter of rows."""
+def is_scrollback_process(process: int) -> bool:
+    """Whether a process is a scrollback process."""
     try:
         words = pathlib.Path(f"/proc/{process}/cmdline").read_bytes().split(b"\0")
     except OSError:
@@ -283,7 +283,7 @@ class Processes:
         return self.log.stat().st_size if self.log.exists() else 0
 
     def tells(self) -> bool:
-        """Whether its log tells more than that client starts ended with their server."""
+        """Whether its log tells more than that client processes ended with their server."""
         with contextlib.suppress(FileNotFoundError), open(self.log, "rb") as log:
             return any(line.strip() not in (b"", ENDED) for line in log)
         return False
@@ -315,10 +315,10 @@ class Processes:
             while self.runs(role) and time.monotonic() < end:
                 time.sleep(0.01)
 
-    def filters(self) -> list[tuple[int, int | None]]:
-        """The filters of rows that what keeps the shells has spawned, and when they began: nothing else notes them."""
-        keeper = self.process("shells")
-        return [(one, begun(one)) for one in children_of(keeper) if is_filter(one)] if keeper else []
+    def scrollback_processes(self) -> list[tuple[int, int | None]]:
+        """The scrollback processes that the pty host has spawned, and when they began: nothing else notes them."""
+        host = self.process("host")
+        return [(one, begun(one)) for one in children_of(host) if is_scrollback_process(one)] if host else []
 
     @contextlib.contextmanager
     def whole(self) -> Iterator[None]:

@@ -9,7 +9,7 @@ import time
 from roam_live.common.errors import Fault
 from roam_live.common.process import TOOLS, end_words, holder_of
 from roam_live.session.attached import count_front_ends
-from roam_live.session.folder import VERSION, FolderSession, listed, many_starts
+from roam_live.session.folder import VERSION, FolderSession, listed, many_clients
 from roam_live.session.window_state import WINDOWS, numbers_in
 
 TYPE_CHECKING = False
@@ -24,7 +24,7 @@ class NearSession(FolderSession):
     """A session of another machine: a relay stands here for its server."""
 
     served = "relay"
-    sockets = {"relay": "clients", "terminals": "terminals"}
+    sockets = {"relay": "clients", "client": "terminals"}
 
     def holder(self) -> int | None:
         """The relay, by the folder that it holds."""
@@ -67,20 +67,20 @@ class NearSession(FolderSession):
         panes = None if None in found else sum(len(one.rects) for one in found if one)
         size = "{} by {}".format(*own.size()) if own else "-"
         named = " ".join(str(window.number) for window in windows)
-        return f"{listed(self.name, size, panes, count_front_ends(self.common))}{many_starts([own])}, {len(windows)} windows: {named}"
+        return f"{listed(self.name, size, panes, count_front_ends(self.common))}{many_clients([own])}, {len(windows)} windows: {named}"
 
     def end_all(self) -> None:
-        """Ends the relay, and the client starts of all windows."""
+        """Ends the relay, and the client processes of all windows."""
         windows = [window for window in self.windows() if window is not self]
         super().end_all()
         for window in windows:
-            window.end("terminals")
+            window.end("client")
 
     def launch(self, command: Iterable[str] = ()) -> None:
         """Refuses: how ssh is called isn't known."""
         raise Fault(f"no relay to {self.name} is running; `mux ssh` launches one")
 
-    def demand_shells(self) -> None:
+    def demand_host(self) -> None:
         """Leaves the shells to the other machine."""
 
     def lacking(self) -> str:
@@ -127,7 +127,7 @@ class NearWindow(FolderSession):
     """A window of another machine's session: the relay of that stands for its server, and has its sockets in a folder of their own."""
 
     served = "relay"
-    sockets = {"relay": "clients", "terminals": "terminals"}
+    sockets = {"relay": "clients", "client": "terminals"}
 
     def __init__(self, session: NearSession, number: int) -> None:
         super().__init__(session.folder / WINDOWS / str(number), f"{session.name}:{number}")
@@ -166,7 +166,7 @@ class NearWindow(FolderSession):
         """What is said where the relay has ended, and the status."""
         return self.session.ending()
 
-    def demand_shells(self) -> None:
+    def demand_host(self) -> None:
         """Leaves the shells to the other machine."""
 
     def launch(self, command: Iterable[str] = ()) -> None:

@@ -12,10 +12,10 @@ from roam_live.common.files import replace_text
 SPARE = "spare"
 
 # What the environment of such a server has, also once it is a window's.
-STANDS_READY = "ROAM_STANDS_READY"
+SPARE_VARIABLE = "ROAM_SPARE"
 
-# In a window's folder: which client starts of other machines its server knows.
-STARTS = "starts"
+# In a window's folder: which client processes of other machines its server knows.
+REMOTE_CLIENTS = "remote_clients"
 
 # What a note of such a session is like.
 WINDOWS_VERSION = 4
@@ -48,11 +48,11 @@ def numbers_in(folder: str) -> list[int]:
         return []
 
 
-def stands_ready(server: int | None) -> bool:
+def is_spare_server(server: int | None) -> bool:
     """Whether a server was spawned to stand ready for a window."""
     with contextlib.suppress(OSError):
         with open(f"/proc/{server}/environ", "rb") as words:
-            return f"{STANDS_READY}=1".encode() in words.read().split(b"\0")
+            return f"{SPARE_VARIABLE}=1".encode() in words.read().split(b"\0")
     return False
 
 

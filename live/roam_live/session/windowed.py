@@ -10,10 +10,10 @@ from roam_live.common.process import TOOLS, begun, end_words, holder_of, program
 from roam_live.common.unix_socket import is_listened
 from roam_live.protocol.window_lines import MOST_WINDOWS, name_in
 from roam_live.session.attached import count_front_ends
-from roam_live.session.folder import FolderSession, command_of, listed, many_starts
+from roam_live.session.folder import FolderSession, command_of, listed, many_clients
 from roam_live.session.names import LONGEST_PATH
 from roam_live.session.processes import end_left
-from roam_live.session.window_state import SPARE, WINDOWS, WINDOWS_VERSION, note_ends, numbers_in, stands_ready
+from roam_live.session.window_state import SPARE, WINDOWS, WINDOWS_VERSION, is_spare_server, note_ends, numbers_in
 
 TYPE_CHECKING = False
 if TYPE_CHECKING:
@@ -27,10 +27,10 @@ END_SOON = 1.0
 
 
 class WindowedSession(FolderSession):
-    """A session with windows: its note has the keeper of its shells, which has the rest."""
+    """A session with windows: its note has the pty host, which has the rest."""
 
-    served = "shells"
-    sockets = {"shells": "shells"}
+    served = "host"
+    sockets = {"host": "host"}
     version = WINDOWS_VERSION
 
     def __init__(self, folder: str | os.PathLike[str]) -> None:
@@ -74,7 +74,7 @@ class WindowedSession(FolderSession):
     # ---- whether it is there
 
     def runs(self, role: str | None = None) -> bool:
-        """Whether the process of a role runs; where none is named, whether a window does, or what keeps them."""
+        """Whether the process of a role runs; where none is named, whether a window does, or the pty host."""
         return super().runs(role) or role is None and any(window.runs() for window in self.all_windows())
 
     def listener(self, name: str) -> int | None:
@@ -91,27 +91,27 @@ class WindowedSession(FolderSession):
             return True
         self.demand_read()
         with contextlib.suppress(Fault):
-            keeper = self.listener(self.sockets[self.served])
-            keeper = self.holder() if keeper is None else keeper
-            if keeper is not None:
-                command = command_of(keeper, self.folder)
-                self.state = {"version": self.version, "command": command, self.served: [keeper, begun(keeper)]}
+            host = self.listener(self.sockets[self.served])
+            host = self.holder() if host is None else host
+            if host is not None:
+                command = command_of(host, self.folder)
+                self.state = {"version": self.version, "command": command, self.served: [host, begun(host)]}
                 self.is_found = True
                 return True
         return bool(self.windows())
 
     def holder(self) -> int | None:
-        """What keeps its windows, by the folder that it holds."""
+        """The pty host, by the folder that it holds."""
         return holder_of(self.folder)
 
     def is_ready(self) -> bool:
-        """Whether a window is there, with what keeps its shells."""
-        return any(is_listened(window.folder / "shells") for window in self.windows())
+        """Whether a window is there, with the pty host."""
+        return any(is_listened(window.folder / "host") for window in self.windows())
 
     # ---- what belongs to it
 
     def launch(self, command: Iterable[str] = ()) -> None:
-        """Launches what keeps its windows, and the server of the first, with a command in place of each shell; all or nothing."""
+        """Launches the pty host, and the server of the first, with a command in place of each shell; all or nothing."""
         self.clean()
         self.forget_front_ends()
         self.state = {"version": self.version, "command": list(command)}
@@ -119,38 +119,38 @@ class WindowedSession(FolderSession):
         window.name = self.name
         with self.whole():
             # It takes longest, and waits for the server of the first window, which is spawned meanwhile.
-            self.spawn_shells(["--first"])
+            self.spawn_host(["--first"])
             window.spawn_server()
 
     def demand_ready(self) -> None:
-        """Waits until what keeps its windows has one."""
+        """Waits until the pty host has one."""
         # A command that ends at once may have ended it already.
-        self.wait_for("shells", self.logged(), lambda: self.is_ready() or self.own["shells"].poll() == 0)
+        self.wait_for("host", self.logged(), lambda: self.is_ready() or self.own["host"].poll() == 0)
 
-    def spawn_shells(self, more: Iterable[str] = ()) -> None:
-        """Spawns what keeps its windows."""
+    def spawn_host(self, more: Iterable[str] = ()) -> None:
+        """Spawns the pty host."""
         self.state = self.state or {"version": self.version, "command": []}
         words = [str(TOOLS / "pane_shells"), "--windows", *more, str(self.folder), *self.state.get("command", ())]
-        self.spawned("shells", words)
+        self.spawned("host", words)
 
-    def demand_shells(self) -> None:
-        """Sees that what keeps its windows runs, and one of them is there."""
-        if not self.runs("shells"):
+    def demand_host(self) -> None:
+        """Sees that the pty host runs, and one of them is there."""
+        if not self.runs("host"):
             before = self.logged()
-            self.spawn_shells()
-            self.wait_for("shells", before, self.is_ready)
+            self.spawn_host()
+            self.wait_for("host", before, self.is_ready)
 
-    def demand_terminals(self, earlier: int | None = None) -> None:
-        """Sees that the start of the window runs where somebody was last, while there is one."""
+    def demand_client(self, earlier: int | None = None) -> None:
+        """Sees that the client of the window runs where somebody was last, while there is one."""
         if self.windows():
-            self.window().demand_terminals(earlier)
+            self.window().demand_client(earlier)
 
-    def revive_shells(self) -> bool:
-        """Spawns what keeps its windows anew where it has ended, and takes them over; tells whether it runs."""
+    def revive_host(self) -> bool:
+        """Spawns the pty host anew where it has ended, and takes them over; tells whether it runs."""
         with contextlib.suppress(BlockingIOError), self.locked(may_wait=False):
-            if not self.runs("shells") and self.find():
-                self.spawn_shells()
-        return self.runs("shells")
+            if not self.runs("host") and self.find():
+                self.spawn_host()
+        return self.runs("host")
 
     def busy(self) -> dict[int, str] | None:
         """What runs in the panes of its windows is told by these."""
@@ -160,8 +160,8 @@ class WindowedSession(FolderSession):
         """The windows and panes in which another program than a shell runs, and its name; None where that isn't known."""
         from roam_live.session.foreground import busy_programs
 
-        keeper = self.process("shells")
-        busy = busy_programs(keeper) if keeper else {}
+        host = self.process("host")
+        busy = busy_programs(host) if host else {}
         numbers = {str(window.folder): window.number for window in self.all_windows()}
         return None if busy is None else {(numbers.get(folder, 0), pane): name for (folder, pane), name in busy.items()}
 
@@ -178,7 +178,7 @@ class WindowedSession(FolderSession):
                 raise
 
     def await_end(self) -> None:
-        """Waits for what keeps its windows, which ends soon once there are none."""
+        """Waits for the pty host, which ends soon once there are none."""
         end = time.monotonic() + END_SOON
         while self.runs(self.served) and not self.windows() and time.monotonic() < end:
             time.sleep(0.01)
@@ -188,13 +188,13 @@ class WindowedSession(FolderSession):
         note_ends(str(self.folder), [end_words(*window.met) for window in self.all_windows() if window.runs() and window.met])
 
     def end_all(self) -> None:
-        """Ends the keeper, which ends the windows, and those that it left."""
+        """Ends the host, which ends the windows, and those that it left."""
         self.note_end()
-        filters = self.filters()
+        scrollback_processes = self.scrollback_processes()
         self.end(self.served)
         for window in self.all_windows():
             window.end_all()
-        end_left(filters)
+        end_left(scrollback_processes)
 
     def clean(self) -> None:
         """Removes what a session that doesn't run any more left, but for its log and the note of its end."""
@@ -216,16 +216,16 @@ class WindowedSession(FolderSession):
         panes = None if None in places.values() or not places else sum(len(one.rects) for one in places.values() if one)
         named = " ".join(f"{window.number}:{window.title()}" if window.title() else f"{window.number}" for window in windows)
         more = f", {len(windows)} windows: {named}" if len(windows) > 1 else ""
-        starts = many_starts(places.values())
-        return f"{listed(self.name, size, panes, count_front_ends(self.folder))}{starts}{more}{self.lacking()}"
+        clients = many_clients(places.values())
+        return f"{listed(self.name, size, panes, count_front_ends(self.folder))}{clients}{more}{self.lacking()}"
 
 
 class Window(FolderSession):
-    """A window of a session: its server and its start, as they are noted in its folder. Its lock, its log, and what keeps its shells are
+    """A window of a session: its server and its client, as they are noted in its folder. Its lock, its log, and the pty host are
     the session's."""
 
     version = WINDOWS_VERSION
-    sockets = {"server": "clients", "terminals": "terminals"}
+    sockets = {"server": "clients", "client": "terminals"}
 
     def __init__(self, session: WindowedSession, number: int, server: int | None = None) -> None:
         super().__init__(session.folder_of_windows / str(number), f"{session.name}:{number}", server)
@@ -251,7 +251,7 @@ class Window(FolderSession):
         self.state = {"version": self.version}
         before = self.logged()
         try:
-            self.spawned("server", [program(), "serve", "--as-meant", "--dir", str(self.folder)])
+            self.spawned("server", [program(), "serve", "--normalize", "--dir", str(self.folder)])
             self.wait_for("server", before, lambda: (self.folder / "session").exists() and self.is_served())
         except BaseException:
             self.end_all()
@@ -261,8 +261,8 @@ class Window(FolderSession):
         """Whether its server only stands ready, and it is no window: the mark in its folder may be lost, as to a cleaner of old files."""
         if (self.folder / SPARE).exists():
             return True
-        is_joined = any(os.path.lexists(self.folder / name) for name in ("shells", "terminals"))
-        return not is_joined and stands_ready(self.process("server"))
+        is_joined = any(os.path.lexists(self.folder / name) for name in ("host", "terminals"))
+        return not is_joined and is_spare_server(self.process("server"))
 
     def title(self) -> str:
         """What it is called; nothing where it has no name."""
@@ -275,7 +275,7 @@ class Window(FolderSession):
 
     def process(self, role: str) -> int | None:
         """The process of a role; None where none runs."""
-        if role == "shells":
+        if role == "host":
             self.session.read()
             return self.session.process(role)
         return super().process(role)
@@ -284,8 +284,8 @@ class Window(FolderSession):
         """The panes in which another program than a shell runs, and its name."""
         from roam_live.session.foreground import busy_panes
 
-        keeper = self.process("shells")
-        return busy_panes(keeper, str(self.folder)) if keeper else {}
+        host = self.process("host")
+        return busy_panes(host, str(self.folder)) if host else {}
 
     def ending(self) -> tuple[str, int]:
         """What is said where its server has ended, and the status."""
@@ -305,26 +305,26 @@ class Window(FolderSession):
         return self.session.taken_lock(may_wait)
 
     def launch(self, command: Iterable[str] = ()) -> None:
-        """Refuses: what keeps the session's windows opens them."""
+        """Refuses: the pty host opens them."""
         raise Fault(f"session {self.session.name}: what keeps its windows opens them")
 
-    def demand_terminals(self, earlier: int | None = None) -> None:
-        """Sees that the start of this machine's terminals runs, and is ready; what was found by its sockets is noted again."""
+    def demand_client(self, earlier: int | None = None) -> None:
+        """Sees that the client of this machine's terminals runs, and is ready; what was found by its sockets is noted again."""
         self.note_found()
-        super().demand_terminals(earlier)
+        super().demand_client(earlier)
 
-    def demand_shells(self) -> None:
-        """Sees that what keeps the session's windows runs."""
+    def demand_host(self) -> None:
+        """Sees that the pty host runs."""
         self.session.read()
-        self.session.demand_shells()
+        self.session.demand_host()
 
-    def revive_shells(self) -> bool:
-        """Spawns what keeps the session's windows anew, where it has ended; tells whether it runs."""
-        return self.session.revive_shells()
+    def revive_host(self) -> bool:
+        """Spawns the pty host anew, where it has ended; tells whether it runs."""
+        return self.session.revive_host()
 
     def end_all(self) -> None:
         """Ends its processes."""
-        for role in ("server", "terminals"):
+        for role in ("server", "client"):
             self.end(role)
 
     def clean(self) -> None:

@@ -27,7 +27,7 @@ def readlink(outer, wanted):
 
 
 @scene
-def brought(folder):
+def forwards_environment(folder):
     """A later attach's agent serves an older shell; new panes have its values, and `mux env` tells them to a shell; who watches brings
     nothing."""
     ends, (one, two) = agents(folder)
@@ -59,7 +59,7 @@ def brought(folder):
 
 
 @scene
-def brought_far(folder):
+def forwards_environment_far(folder):
     """`mux ssh` brings what sshd set at the other machine, each time that ssh is spawned."""
     ends, (one, two) = agents(folder)
     far, sets, stand_in = folder / "far", folder / "sets", folder / "ssh"
@@ -85,7 +85,7 @@ def brought_far(folder):
     near.mkdir(mode=0o700)
     carries = f"XDG_RUNTIME_DIR={far} DISPLAY=:83 exec {TOOLS / 'mux'} far other"
     relay = subprocess.Popen(tool("relay", "--dir", str(near), "-", "sh", "-c", carries), stdout=subprocess.DEVNULL)
-    comes(lambda: (near / "shells").is_socket())
+    comes(lambda: (near / "host").is_socket())
     outer = Outer(tool("attach", str(near)), environment={**own, "SSH_AUTH_SOCK": two})
     check("a front end at a relay of one's own shows it", outer.shows("$ "), outer.rows)
     outer.type(b"echo he''re\r")

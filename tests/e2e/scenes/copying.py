@@ -1,4 +1,4 @@
-"""Copy mode: one terminal's own view of a pane's kept rows, while all else goes on."""
+"""Copy mode: one terminal's own view of a pane's scrollback rows, while all else goes on."""
 import base64
 import os
 import subprocess
@@ -75,7 +75,7 @@ def copy_private(folder):
 
 @scene
 def copy_all(folder):
-    """All kept rows are there: the first, the last, what is searched for, and what is copied of them, which is pasted."""
+    """All scrollback rows are there: the first, the last, what is searched for, and what is copied of them, which is pasted."""
     outer = begins(VI, "seq 20000")
     outer.type(b"\x02[gjj")
     is_first = comes(lambda: outer.rows()[0].strip().isdigit() and int(outer.rows()[0]) < 15000)
@@ -156,13 +156,13 @@ def copy_mouse(folder):
 
 
 @scene
-def copy_keeper(folder):
-    """The keeper is stopped, and goes: the view that all share scrolls in place of copy mode, and one that is open is closed."""
+def copy_host(folder):
+    """The host is stopped, and goes: the view that all share scrolls in place of copy mode, and one that is open is closed."""
     outer = begins()
-    keeper = noted(SESSION)["shells"][0]
+    host = noted(SESSION)["host"][0]
     outer.type(b"\x02[g")
     outer.stands(0, 0, "1 ")
-    os.kill(keeper, 19)
+    os.kill(host, 19)
     outer.type(b"1500j")
     check("where rows are awaited that is told", comes(lambda: "waiting for rows" in outer.rows()[-1]), outer.rows)
     outer.type(b"\x03")
@@ -170,11 +170,11 @@ def copy_keeper(folder):
     outer.type(b"\x02[k")
     check("where nobody lends rows the view that all share scrolls", outer.status("1 rows back"), outer.rows)
     outer.type(b"q")
-    os.kill(keeper, 18)
+    os.kill(host, 18)
     time.sleep(0.5)
     outer.type(b"\x02[g")
     check("and once he does it opens", outer.stands(0, 0, "1 "), outer.rows)
-    os.kill(keeper, 9)
+    os.kill(host, 9)
     outer.type(b"1500j")
     check("where he is gone it is closed with a line", comes(lambda: "copy mode" not in outer.rows()[-1]), outer.rows)
 

@@ -142,13 +142,13 @@ def moved(folder):
 
 @scene
 def stopped_killed(folder):
-    """`mux kill` ends a session all of whose processes are stopped, its filter of rows too, and leaves no folder."""
+    """`mux kill` ends a session all of whose processes are stopped, its scrollback process too, and leaves no folder."""
     outer = Outer(tool("mux", "other"))
     outer.shows("$ ")
     outer.type(b"\x02d")
     outer.ends()
-    found = {role: one[0] for role, one in noted("other").items() if role in ("server", "terminals", "shells")}
-    found["filter"] = next(process for process in children(found["shells"]) if process not in commands(found["shells"]))
+    found = {role: one[0] for role, one in noted("other").items() if role in ("server", "client", "host")}
+    found["filter"] = next(process for process in children(found["host"]) if process not in commands(found["host"]))
     for process in found.values():
         os.kill(process, signal.SIGSTOP)
     run = subprocess.run(tool("mux", "kill", "-f", "other"), stderr=subprocess.PIPE, check=False)
@@ -203,7 +203,7 @@ def idle(folder):
         outer.type(b"\x02" + way.encode() + (b"\x02q1" if pane in (4, 7) else b""))
         outer.shows(f"{pane}")
     check("nine panes are there", comes(lambda: listed()[4:6] == ["9", "panes"]), (listed(), outer.rows()))
-    own = [noted("other")[role][0] for role in ("server", "shells", "terminals")] + [outer.process.pid]
+    own = [noted("other")[role][0] for role in ("server", "host", "client")] + [outer.process.pid]
     processes = set().union(*map(family, own))
     before, woken = processor_time(processes), wakeups(processes)
     time.sleep(IDLE)
@@ -240,8 +240,8 @@ def refused(folder):
     """What the system refuses costs a pane its shell, or the list of panes some time, and the other panes nothing."""
     outer = Outer(tool("mux", "other"))
     outer.shows("$ ")
-    shells = noted("other")["shells"][0]
-    with limited(shells, resource.RLIMIT_NOFILE, 3):
+    host = noted("other")["host"][0]
+    with limited(host, resource.RLIMIT_NOFILE, 3):
         outer.type(b"\x02%")
         outer.status(" 1 [2]")
         outer.type(b"\x02q1echo st''ays\r")
@@ -249,21 +249,21 @@ def refused(folder):
     check("a pane that came then has its shell later", comes(lambda: outer.rows()[0][40:].startswith("$ ")), outer.rows)
     outer.type(b"\x02q2")
     outer.status(" 1 [2]")
-    not_started(outer, shells)
-    with limited(shells, resource.RLIMIT_FSIZE, 0):
+    not_started(outer, host)
+    with limited(host, resource.RLIMIT_FSIZE, 0):
         outer.type(b"\x02%")
         outer.status(" 1  2  3 [4]")
-        comes(lambda: len(commands(shells)) == 4)
+        comes(lambda: len(commands(host)) == 4)
         outer.type(b"echo fu''ll\r")
         check("where no file can be written the panes go on", outer.shows("full"), outer.rows)
     check("and where they are is written later", comes(lambda: listed()[4:6] == ["4", "panes"]), listed)
     subprocess.run(tool("mux", "kill", "other"), check=True)
 
 
-def not_started(outer, shells):
+def not_started(outer, host):
     """A pane whose shell can't be spawned says so; it can be closed, and tries again at a key."""
     for keys in (b"\x02x", b"x"):
-        with limited(shells, resource.RLIMIT_NOFILE, first_free(shells)):
+        with limited(host, resource.RLIMIT_NOFILE, first_free(host)):
             outer.type(b'\x02"')
             check("a pane whose shell can't be spawned says so", outer.shows("[not run: "), outer.rows)
         outer.type(keys)
@@ -273,7 +273,7 @@ def not_started(outer, shells):
             check("and a key there tries again", comes(lambda: any(row[40:].startswith("$ ") for row in outer.rows()[12:])), outer.rows)
         else:
             check("and can be closed", outer.status(" 1 [2] 1:"), outer.rows)
-    held = [os.readlink(path) for shell in children(shells) for path in pathlib.Path(f"/proc/{shell}/fd").iterdir()]
+    held = [os.readlink(path) for shell in children(host) for path in pathlib.Path(f"/proc/{shell}/fd").iterdir()]
     check("no shell has the other end of a pane's terminal", not any(path.endswith("ptmx") for path in held), held)
 
 
@@ -288,16 +288,16 @@ def bad_shell(folder):
 
 
 @scene
-def shells(folder):
+def host(folder):
     """What kept the shells is spawned again, and no new shell runs what was typed meanwhile."""
     outer = Outer(tool("mux", "other"))
     outer.shows("$ ")
-    shells = noted("other")["shells"][0]
-    os.kill(shells, signal.SIGKILL)
+    host = noted("other")["host"][0]
+    os.kill(host, signal.SIGKILL)
     outer.type(b"echo los''t\r")
-    check("the end of what keeps the shells is told", outer.status("the shells had ended"), outer.rows)
+    check("the end of the pty host is told", outer.status("the shells had ended"), outer.rows)
     outer.type(b"echo al''so\r")
-    check("another is spawned", comes(lambda: noted("other")["shells"][0] != shells) and outer.shows("[a new shell; "), outer.rows)
+    check("another is spawned", comes(lambda: noted("other")["host"][0] != host) and outer.shows("[a new shell; "), outer.rows)
     check("with a shell", outer.shows("$ "), outer.rows)
     outer.type(b"echo th''en\r")
     check("which runs what is typed then", outer.shows("then") and outer.status("[1]"), outer.rows)
@@ -326,7 +326,7 @@ def earlier(folder):
     session = FolderSession.named("other")
     with session.locked():
         session.launch()
-        session.demand_terminals()
+        session.demand_client()
     state = json.loads(session.note.read_text(encoding="utf-8"))
     shown = Outer(tool("mux", "other"))
     shown.shows("$ ")
@@ -335,17 +335,17 @@ def earlier(folder):
     check("as one window that can't have others", told[0] == 1 and "has one window, as an earlier roam's" in told[2], told)
     shown.type(b"\x02d")
     shown.ends()
-    session.note.write_text(json.dumps({role: state[role] for role in ("server", "shells", "command")}), encoding="utf-8")
+    session.note.write_text(json.dumps({role: state[role] for role in ("server", "host", "command")}), encoding="utf-8")
     for word in (["capture"], ["send"]):
         told = said(*word, "other", *(["a"] if word == ["send"] else []))
         check(f"mux {word[0]} tells of a session of an earlier roam", told[0] == 1 and "was begun by an earlier roam" in told[2], told)
     outer = Outer(tool("mux", "other"))
     check("so does mux", outer.shows("was begun by an earlier roam") and outer.ends(), outer.rows)
-    os.kill(state["terminals"][0], signal.SIGTERM)
+    os.kill(state["client"][0], signal.SIGTERM)
     check("mux kill ends it", said("kill", "other") == (0, "", "") and "other" not in listed(), listed())
 
 
-# A client start as one of an earlier roam is: it knows no records, and says so to whoever asks for them. It says when it listens.
+# A client process as one of an earlier roam is: it knows no records, and says so to whoever asks for them. It says when it listens.
 EARLIER_START = """\
 import contextlib, os, socket, sys
 listener = socket.socket(socket.AF_UNIX)
@@ -362,31 +362,31 @@ while True:
 
 @scene
 def earlier_start(folder):
-    """In place of a client start of an earlier roam another is launched, once, by whatever needs one; the earlier one goes on."""
+    """In place of a client process of an earlier roam another is launched, once, by whatever needs one; the earlier one goes on."""
     subprocess.run(tool("mux", "new", "-d", "other"), check=True)
     served = window_of("other")
 
     def comes_earlier():
         """An earlier start at the session's socket, as it is noted."""
-        os.kill(noted("other")["terminals"][0], signal.SIGKILL)
+        os.kill(noted("other")["client"][0], signal.SIGKILL)
         was = (served / "terminals").stat().st_ino
         process = subprocess.Popen([sys.executable, "-c", EARLIER_START, str(served / "terminals")])
         comes(lambda: (served / "terminals").stat().st_ino != was)
-        state = {**json.loads((served / "state.json").read_text(encoding="utf-8")), "terminals": [process.pid, begun(process.pid)]}
+        state = {**json.loads((served / "state.json").read_text(encoding="utf-8")), "client": [process.pid, begun(process.pid)]}
         (served / "state.json").write_text(json.dumps(state), encoding="utf-8")
         return process
 
     for does in (["send", "other", "e"], ["capture", "other"]):
         process = comes_earlier()
         told = said(*does)
-        check(f"mux {does[0]} launches another", told[0] == 0 and noted("other")["terminals"][0] != process.pid, told)
+        check(f"mux {does[0]} launches another", told[0] == 0 and noted("other")["client"][0] != process.pid, told)
         check("once", said(*does)[0] == 0 and process.poll() is None, process.returncode)
         process.kill()
         process.wait()
     process = comes_earlier()
     outer = Outer(tool("mux", "other"))
     check("so does a front end", outer.shows("$ e") and outer.status("[1]") and not outer.shows("raw", 0.1), outer.rows)
-    check("and the earlier one goes on", process.poll() is None and noted("other")["terminals"][0] != process.pid, noted("other"))
+    check("and the earlier one goes on", process.poll() is None and noted("other")["client"][0] != process.pid, noted("other"))
     outer.type(b"\x15echo ty''ped\r")
     check("keys come", outer.shows("typed"), outer.rows)
     process.kill()
@@ -470,7 +470,7 @@ def processes_of(path):
 
 @scene
 def killed_starts(folder):
-    """A start that is killed at any moment: what it began is found, and ended."""
+    """A client that is killed at any moment: what it began is found, and ended."""
     served = str(folder_of("other"))
     left = []
     for number in range(KILLED_STARTS):

@@ -49,8 +49,8 @@ def relay(folder):
     relay_ends(front_ends, process, near, far)
 
 
-def brought(words, session, names):
-    """A far end to which a near end brings client starts of these names, each with the first datagram of one."""
+def far_with_clients(words, session, names):
+    """A far end to which a near end brings client processes of these names, each with the first datagram of one."""
     head = struct.Struct(">2sBBQQQQHHHQQH")
     packer = zlib.compressobj()
     frames = [HEADER.pack(head.size, name) + head.pack(b"RM", 2, 2, session, name, 1, 1, 0, 1, 18, 0, 1, 0) for name in names]
@@ -61,29 +61,29 @@ def brought(words, session, names):
 
 
 @scene
-def far_starts(folder):
-    """Two connections that bring forty new client starts each have two of them known by the server, and another after ten seconds; one
+def far_clients(folder):
+    """Two connections that bring forty new client processes each have two of them known by the server, and another after ten seconds; one
     that it knows comes again over another connection."""
     subprocess.run(tool("mux", "new", "-d", "other"), check=True)
     served = window_of("other")
     session = int((served / "session").read_text(encoding="utf-8"), 16)
     words = tool("relay", "--far", "--server", str(noted("other")["server"][0]), "--dir", str(served), "-")
 
-    def starts():
-        """How many starts the server knows."""
-        return asked_places(served / "panes", 5).starts
+    def clients():
+        """How many clients the server knows."""
+        return asked_places(served / "panes", 5).clients
 
-    before = starts()
+    before = clients()
     begun_at = time.monotonic()
-    fars = [brought(words, session, range(first, first + 40)) for first in (1, 101)]
-    check("two new starts pass at once", comes(lambda: starts() == before + 2), starts())
-    fars.append(brought(words, session, [1]))
+    fars = [far_with_clients(words, session, range(first, first + 40)) for first in (1, 101)]
+    check("two new clients pass at once", comes(lambda: clients() == before + 2), clients())
+    fars.append(far_with_clients(words, session, [1]))
     while time.monotonic() < begun_at + 11:
-        if starts() > before + 2:
+        if clients() > before + 2:
             check("and no third before ten seconds", time.monotonic() > begun_at + 9, time.monotonic() - begun_at)
         time.sleep(0.5)
-    fars.append(brought(words, session, range(201, 241)))
-    check("one more then", comes(lambda: starts() == before + 3), starts())
+    fars.append(far_with_clients(words, session, range(201, 241)))
+    check("one more then", comes(lambda: clients() == before + 3), clients())
     for far in fars:
         far.kill()
         far.wait()
@@ -124,7 +124,7 @@ def by_hand(folder):
     words = [PROGRAM, "serve", "--dir", str(own), "--session", "5e55", "--port"]
     first = subprocess.Popen([*words, "0"], stderr=subprocess.PIPE)
     port = first.stderr.readline().split()[-1].decode()
-    shells = subprocess.Popen(tool("pane_shells", str(own)))
+    host = subprocess.Popen(tool("pane_shells", str(own)))
     outer = Outer(tool("attach", "--dir", str(own), port, "5e55"))
     check("attach shows what pane_shells runs", outer.shows("$ "), outer.rows)
     outer.type("clear; printf '\\033[1;31mr\u00e9d\\033[0m'\r".encode())
@@ -137,7 +137,7 @@ def by_hand(folder):
     check("without --close an ended shell stays, and is told", outer.shows("[ended]"), outer.rows)
     first.kill()
     first.wait()
-    check("the shells end with the server", comes(lambda: shells.poll() == 0), shells.returncode)
+    check("the shells end with the server", comes(lambda: host.poll() == 0), host.returncode)
     check("a server that is gone is told in a line", outer.shows(f"no server is at port {port}"), outer.rows)
     second = subprocess.Popen([*words, port], stderr=subprocess.PIPE)
     check("one that comes there is shown", outer.status("[1]", 30), outer.rows)
@@ -233,7 +233,7 @@ def far(folder):
     check("C-b d leaves it", outer.ends() and outer.is_restored(), outer.rows)
     again, beside = Outer(words), Outer(words)
     check("mux ssh comes back to it", again.shows("far") and beside.shows("far"), again.rows)
-    os.kill(json.loads((far / "roam/other/state.json").read_text(encoding="utf-8"))["shells"][0], signal.SIGKILL)
+    os.kill(json.loads((far / "roam/other/state.json").read_text(encoding="utf-8"))["host"][0], signal.SIGKILL)
     check("shells that have ended there are started anew", again.shows("[a new shell; ") and again.shows("$ "), again.rows)
     lines = asked.read_text(encoding="utf-8").splitlines()
     is_told = len(lines) == 2 and lines[0] == "-G -p 2222 there" and lines[1].startswith("-p 2222 there ")
@@ -261,7 +261,7 @@ def carried(folder):
     outer.type(b'\x02%\x02"')
     check("a session there is split", outer.status(" 1  2 [3]"), outer.rows)
     here = next(pathlib.Path(os.environ["XDG_RUNTIME_DIR"], "roam").glob("ssh:*"))
-    sockets = [(here / name).is_socket() for name in ("panes", "bells", "shells")]
+    sockets = [(here / name).is_socket() for name in ("panes", "bells", "host")]
     check("sockets here stand for those there, and no file tells places", all(sockets) and not (here / "rects").exists(), sockets)
     for number in (1, 2):
         check(f"{number}: ls here counts the panes there", comes(lambda: listed()[4:6] == ["3", "panes"]), listed)

@@ -9,7 +9,7 @@ from scenes.programs import Tmux, differences, htop_options, mc_home
 from tried import SESSION, Outer, check, comes, scene, terminals_of, tool
 from roam_live.common import spawn
 from roam_live.input.mouse_reports import SGR, MouseReport, sent, tracking_of
-from roam_live.protocol.panes import ASIDE, ToldPanes
+from roam_live.protocol.panes import METADATA, PanesState
 from roam_live.protocol.screen_cells import ShownCells
 
 # The rows and columns of the right pane, and the column before it.
@@ -22,9 +22,9 @@ class Modes:
     def __init__(self, folder):
         self.peer = socket.socket(socket.AF_UNIX)
         self.peer.connect(str(folder / "panes"))
-        self.peer.sendall(f"{ASIDE}\n".encode())
+        self.peer.sendall(f"{METADATA}\n".encode())
         self.peer.setblocking(False)
-        self.told, self.rest = ToldPanes(), b""
+        self.told, self.rest = PanesState(), b""
 
     def of(self, pane):
         """Those of a pane's now."""

@@ -12,7 +12,7 @@ from tried import KEEPS_NONE, SESSION, Outer, check, comes, is_part, listed, not
 from roam_live.common import tty
 from roam_live.frontend.app import SIZES
 from roam_live.frontend.commands import NEW
-from roam_live.protocol.client_link import StartLink
+from roam_live.protocol.client_link import ClientLink
 from roam_live.session.foreground import busy_panes
 
 PASTED = 100_000
@@ -80,9 +80,9 @@ def leaving(folder):
     again = Outer(tool("mux", SESSION))
     check("mux attaches again, and shows the same", comes(lambda: again.rows() == before), lambda: (again.rows(), before))
     before_it = again.written.count(tty.CLEARED)
-    os.kill(noted(SESSION)["terminals"][0], signal.SIGKILL)
-    check("a killed client start is followed by another", comes(lambda: again.written.count(tty.CLEARED) > before_it), again.rows)
-    check("which is told", again.status("the client start has ended; what was typed last may be lost"), again.rows)
+    os.kill(noted(SESSION)["client"][0], signal.SIGKILL)
+    check("a killed client process is followed by another", comes(lambda: again.written.count(tty.CLEARED) > before_it), again.rows)
+    check("which is told", again.status("the client process has ended; what was typed last may be lost"), again.rows)
     check("which shows the same", comes(lambda: again.rows() == before), again.rows)
     again.type(b"echo aft''er\r")
     check("and types", again.shows("after"), again.rows)
@@ -92,26 +92,26 @@ def leaving(folder):
 
 
 @scene
-def keeper(folder):
-    """What keeps the shells is stopped, or has ended: the server tells of its panes all the same, and `mux ls` says so."""
+def host(folder):
+    """The pty host is stopped, or has ended: the server tells of its panes all the same, and `mux ls` says so."""
     outer = three_panes()
-    keeper = noted(SESSION)["shells"][0]
-    os.kill(keeper, signal.SIGSTOP)
+    host = noted(SESSION)["host"][0]
+    os.kill(host, signal.SIGSTOP)
     outer.type(b"\x02%")
-    check("a pane is split off while what keeps the shells is stopped", outer.status(" 1 [4] 2  3 "), outer.rows)
+    check("a pane is split off while the pty host is stopped", outer.status(" 1 [4] 2  3 "), outer.rows)
     outer.type(b"\x02\x1b[D")
     check("an arrow goes by where it is", outer.status("[1] 4  2  3 "), outer.rows)
     line = " ".join(listed())
-    wanted = "4 panes 1 terminal, what keeps its shells is stopped"
+    wanted = "4 panes 1 terminal, the pty host is stopped"
     check("ls counts the server's panes, and says so", line.endswith(wanted), line)
-    os.kill(keeper, signal.SIGCONT)
+    os.kill(host, signal.SIGCONT)
     outer.type(b"\x02q4echo aw''ake\r")
     check("continued it has a shell there", outer.shows("awake"), outer.rows)
     check("and ls says nothing more", comes(lambda: " ".join(listed()).endswith("4 panes 1 terminal")), listed)
     outer.type(b"\x02d")
     outer.ends()
-    os.kill(keeper, signal.SIGKILL)
-    wanted = "4 panes 0 terminals, nothing keeps its shells"
+    os.kill(host, signal.SIGKILL)
+    wanted = "4 panes 0 terminals, its pty host is not running"
     check("where it has ended ls says that nothing keeps them", comes(lambda: " ".join(listed()).endswith(wanted)), listed)
     again = Outer(tool("mux", SESSION))
     check("who attaches has another", again.shows("[a new shell; ") and " ".join(listed()).endswith("4 panes 1 terminal"), listed)
@@ -254,7 +254,7 @@ def closed(folder):
     outer.status(" 1 [4]")
     outer.type(f"echo $$ > {folder}/closed; echo no''ted; yes > /dev/null\r".encode())
     outer.shows("noted")
-    comes(lambda: busy_panes(noted(SESSION)["shells"][0]) == {4: "yes"})
+    comes(lambda: busy_panes(noted(SESSION)["host"][0]) == {4: "yes"})
     shell = (folder / "closed").read_text(encoding="utf-8").strip()
     outer.type(b"\x02x")
     check("C-b x asks where something else than a shell runs", outer.status("close yes in pane 4? y closes it"), outer.rows)
@@ -351,7 +351,7 @@ def names(folder):
     outer.status(" 1 [2]")
     for name, told in ODD_NAMES:
         outer.type(f"clear; python3 {path} {name.hex()}\r".encode())
-        comes(lambda told=told: busy_panes(noted("other")["shells"][0]).get(2) == told)
+        comes(lambda told=told: busy_panes(noted("other")["host"][0]).get(2) == told)
         before = len(outer.written)
         outer.type(b"\x02x")
         check(f"a program that calls itself {name!r} is told of", outer.status(f"close {told} in pane 2? y closes it"), outer.rows)
@@ -360,7 +360,7 @@ def names(folder):
         wanted = f"mux: session other runs {told} in pane 2; `mux kill -f other` ends it\n"
         check("neither by mux kill", said("kill", "other") == (1, "", wanted), said("kill", "other"))
         outer.type(b"\x03")
-        comes(lambda: not busy_panes(noted("other")["shells"][0]))
+        comes(lambda: not busy_panes(noted("other")["host"][0]))
     outer.type(b"clear; printf '\\033[7mroam: no answer for 12 s\\033[0mthe rest|\\n'\r")
     words = "roam: no answer for 12 sthe rest|"
     check("what a pane shows of a silence comes as it is", outer.shows(words) and not outer.shows("leaves", 0.3), outer.rows)
@@ -408,7 +408,7 @@ def full(folder):
     """Sixteen terminals are taken: another is told so, and comes in once one has left."""
     outer = Outer(tool("mux", "other"))
     outer.shows("$ ")
-    links = [StartLink(terminals_of("other"), False) for _ in range(15)]
+    links = [ClientLink(terminals_of("other"), False) for _ in range(15)]
     for link in links:
         link.connect()
     check("fifteen more are taken", all(link.begins(5) for link in links), listed())

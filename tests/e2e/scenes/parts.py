@@ -22,7 +22,7 @@ FITS = "C-b r fits"
 # A Hangul syllable as its parts, and in one.
 PARTS, SYLLABLE = "\u1112\u1161\u11ab", "\ud55c"
 
-ALWAYS = {"ROAM_GUESS": "always"}
+ALWAYS = {"ROAM_PREDICT": "always"}
 
 # What asks for a password, once its pane is blank, and one whose keys stand in nothing else that is painted, controls neither.
 ASKS = b"stty -echo; clear; read secret; stty echo; echo do''ne $(printf %s \"$secret\" | wc -c)\r"
@@ -88,10 +88,10 @@ def are_right(outers, seconds=15.0):
 @scene
 def two_sizes(folder):
     """Terminals of 24 by 80, 50 by 200 and 12 by 40 on one session each show what they should, while a program paints and keys come."""
-    guesses = {"ROAM_GUESS": "always"}
-    first = Outer(tool("mux", "other"), (24, 80), guesses)
+    predictions = {"ROAM_PREDICT": "always"}
+    first = Outer(tool("mux", "other"), (24, 80), predictions)
     first.shows("$ ")
-    second = Outer(tool("mux", "attach", "other"), (50, 200), guesses)
+    second = Outer(tool("mux", "attach", "other"), (50, 200), predictions)
     second.shows("$ ")
     check("the second shows all of a smaller session", are_right([first, second]), (first.rows(), second.rows()))
     first.type(b"\x02%")
@@ -108,7 +108,7 @@ def two_sizes(folder):
     row = first.rows()[0].partition("\u2502")[0]
     found = ["".join(filter(kind, row.partition("echo ")[2].strip())) for kind in (str.isalpha, str.isdigit)]
     check("all of them came, each terminal's in their order", found == ["typedhere", "123456789"], row)
-    small = Outer(tool("mux", "attach", "other"), (12, 40), guesses)
+    small = Outer(tool("mux", "attach", "other"), (12, 40), predictions)
     check("a small one shows a part", small.shows("echo ") and are_right([first, second, small]), small.rows)
     small.type(b"\x02q2" + PAINTS.encode() + b"\r")
     for letter in b"more":
@@ -154,7 +154,7 @@ def asked_small(folder):
     outer.shows("$ ")
     outer.type(b"\x02%")
     outer.status(" 1 [2]")
-    small = Outer(tool("mux", "attach", "other"), (12, 40), {"ROAM_GUESS": "always"})
+    small = Outer(tool("mux", "attach", "other"), (12, 40), {"ROAM_PREDICT": "always"})
     small.shows("$ ")
     small.type(b"echo ab\r")
     small.shows("ab")
@@ -173,8 +173,8 @@ def asked_small(folder):
     subprocess.run(tool("mux", "kill", "-f", "other"), check=True)
 
 
-def is_trusted(small, large, keeper):
-    """Whether a terminal comes to show a key in the first pane before it is echoed, since keys are there. What keeps the shells is stopped
+def is_trusted(small, large, host):
+    """Whether a terminal comes to show a key in the first pane before it is echoed, since keys are there. The pty host is stopped
     then, so that nothing echoes it; on a busy machine an echo may be too late to be trusted, and the next one is waited for."""
     text = "$ "
     for _ in range(8):
@@ -183,11 +183,11 @@ def is_trusted(small, large, keeper):
             text += letter
             large.shows(text)
         before, others = len(small.written), len(large.written)
-        os.kill(keeper, signal.SIGSTOP)
+        os.kill(host, signal.SIGSTOP)
         small.type(b"Y")
         if comes(lambda: b"Y" in small.written[before:], 3):
             return b"Y" not in large.written[others:]
-        os.kill(keeper, signal.SIGCONT)
+        os.kill(host, signal.SIGCONT)
         text += "Y"
         large.shows(text)
     return False
@@ -199,13 +199,13 @@ def trust_and_ask(small, large, goes):
     comes(lambda: not any(row[50:].strip() for row in large.rows()[:-1]))
     small.type(b"\x02q1\x15")
     comes(lambda: large.rows()[0][:49].strip() == "$")
-    keeper = noted("other")["shells"][0]
-    check("a key is shown in the first pane that nothing echoes: it is trusted", is_trusted(small, large, keeper), small.rows)
+    host = noted("other")["host"][0]
+    check("a key is shown in the first pane that nothing echoes: it is trusted", is_trusted(small, large, host), small.rows)
     goes.type(b"\x02q2")
     if goes is large:
         small.status(" 1 [2]")
     type_each(small, SECRET[:5])
-    os.kill(keeper, signal.SIGCONT)
+    os.kill(host, signal.SIGCONT)
     small.status(" 1 [2]")
     type_each(small, SECRET[5:])
     time.sleep(0.5)
@@ -250,11 +250,11 @@ class Plain:
     def shows(self, pane):
         """Whether it shows what a pane does, which is all of the session but its status row."""
         try:
-            piece = self.end.recv(65536)
+            chunk = self.end.recv(65536)
         except BlockingIOError:
-            piece = b""
-        self.written += piece
-        self.emulated.fed(piece)
+            chunk = b""
+        self.written += chunk
+        self.emulated.fed(chunk)
         mine = self.emulated
         return mine.screen[:-1] == pane.screen and mine.has_cursor == pane.has_cursor and (mine.row, mine.col) == (pane.row, pane.col)
 
@@ -299,7 +299,7 @@ def told_beside(folder):
     check("a plain connection is painted", comes(lambda: plain.shows(pane) and "[1]" in plain.emulated.lines()[-1]), plain)
     alone, _ = painted_beside(plain, pane, end, ())
     beside, words = painted_beside(plain, pane, end, SAYS)
-    check("others were told what they asked for", words >= {"told", "taken", "size", "part", "anew", "paint", "screen"}, words)
+    check("others were told what they asked for", words >= {"events", "taken", "size", "part", "anew", "paint", "screen"}, words)
     check(f"the {len(alone)} bytes of a painting are the same beside them", len(alone) > 500 and alone == beside, (alone, beside))
     os.close(end)
     plain.end.close()
@@ -308,7 +308,7 @@ def told_beside(folder):
 
 @scene
 def cut_wide(folder):
-    """A wide character at either edge of the part that is told is a space in its style, wherever that is while keys are guessed."""
+    """A wide character at either edge of the part that is told is a space in its style, wherever that is while keys are predicted."""
     rows = "\x1b[H\x1b[2J\n\x1b[32m" + 39 * "\u4e2d" + "\n " + 39 * "\u4e2d" + "\x1b[0m\x1b[5;60H"
     outer = prints(folder / "rows", rows, "cat {} -\r")
     comes(lambda: (outer.emulation().row, outer.emulation().col) == (4, 59))
@@ -336,7 +336,7 @@ def whole_by_hand(folder):
     own.mkdir(mode=0o700)
     server = subprocess.Popen([program(), "serve", "--dir", str(own)])
     keeps_none = {**os.environ, **KEEPS_NONE}
-    shells = subprocess.Popen(tool("pane_shells", "--server", str(server.pid), str(own)), env=keeps_none)
+    host = subprocess.Popen(tool("pane_shells", "--server", str(server.pid), str(own)), env=keeps_none)
     comes(lambda: is_listened(own / "clients"))
     outer = Outer(tool("attach", str(own)))
     check("the whole is shown", outer.shows("$ ") and outer.status("[1]"), outer.rows)
@@ -364,5 +364,5 @@ def whole_by_hand(folder):
         one.type(b"\x02d")
         check("it leaves", one.ends() and one.is_restored(), one.rows)
     server.kill()
-    for process in (server, shells):
+    for process in (server, host):
         process.wait(20)

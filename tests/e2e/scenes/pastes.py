@@ -174,32 +174,32 @@ def paste_order(folder):
 
 @scene
 def paste_lost(folder):
-    """Where the keeper of the shells is stopped a paste and what is typed behind it wait; where it is killed nothing is typed, and the
+    """Where the pty host is stopped a paste and what is typed behind it wait; where it is killed nothing is typed, and the
     front end says so; a C-c drops what waits."""
     outer, path = Outer(tool("mux", "other")), folder / "got"
     outer.shows("$ ")
     reads(outer, path)
-    keeper = noted("other")["shells"][0]
-    os.kill(keeper, signal.SIGSTOP)
+    host = noted("other")["host"][0]
+    os.kill(host, signal.SIGSTOP)
     text = b"x" * 5000
     outer.type(b"<" + pasted(text) + b">")
     outer.type(b"\x02?")
-    check("while the keeper is stopped the front end goes on", outer.shows("these keys"), outer.rows)
+    check("while the host is stopped the front end goes on", outer.shows("these keys"), outer.rows)
     outer.type(b"q")
-    os.kill(keeper, signal.SIGCONT)
+    os.kill(host, signal.SIGCONT)
     check("once it is continued all comes, in order", has(path, b"<" + text + b">"), path.read_bytes)
-    os.kill(keeper, signal.SIGSTOP)
+    os.kill(host, signal.SIGSTOP)
     outer.type(pasted(text) + b"a")
     time.sleep(0.5)
     outer.type(b"\x03")
     check("a C-c drops a paste that waits", outer.status("what was pasted and still waited is dropped"), outer.rows)
-    os.kill(keeper, signal.SIGCONT)
+    os.kill(host, signal.SIGCONT)
     check("and comes, without the keys behind the paste", has(path, b"<" + text + b">\x03"), path.read_bytes)
-    os.kill(keeper, signal.SIGSTOP)
+    os.kill(host, signal.SIGSTOP)
     outer.type(pasted("echo ne''ver" + " " * 40 + "\n"))
     time.sleep(0.5)
-    os.kill(keeper, signal.SIGKILL)
-    check("where the keeper is killed the front end says that it is lost", outer.status("what was pasted last is lost"), outer.rows)
+    os.kill(host, signal.SIGKILL)
+    check("where the host is killed the front end says that it is lost", outer.status("what was pasted last is lost"), outer.rows)
     outer.shows("[a new shell; ")
     time.sleep(1)
     outer.type(b"echo af''ter\r")

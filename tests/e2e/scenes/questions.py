@@ -44,10 +44,10 @@ def has_word(folder, word):
 
 
 def is_known(folder):
-    """Whether the keeper of a session's folder knows of a terminal there: until then it is told no colour of it."""
+    """Whether the host of a session's folder knows of a terminal there: until then it is told no colour of it."""
     try:
         with socket.socket(socket.AF_UNIX) as peer:
-            peer.connect(str(folder / "shells"))
+            peer.connect(str(folder / "host"))
             peer.sendall(b"who\n")
             time.sleep(0.2)
             return b"there " in peer.recv(65536)
@@ -78,7 +78,7 @@ def questions(folder):
     found = answers(folder, outer, r"\033]11;?\007\033[?2026$p\033[?2004$p\033[>q")
     wanted = b"\x1b[?2026;2$y\x1b[?2004;2$y" + NAMED + DEVICE
     check("what is known is answered before the answer to DA1, in its order", found.startswith(wanted), found)
-    check("the keeper knows of the terminal", comes(lambda: is_known(terminals_of(SESSION).parent)))
+    check("the host knows of the terminal", comes(lambda: is_known(terminals_of(SESSION).parent)))
     outer.type(b"\x1b]11;rgb:11")
     outer.type(b"11/1111/1111\x1b")
     outer.type(b"\\\x1b]10;rgb:f/f/f\x07")

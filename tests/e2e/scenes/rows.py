@@ -1,11 +1,11 @@
-"""Rows that left the screens of panes, which the keeper of shells keeps by the filter of rows; what is copied, and what is written down."""
+"""Rows scrolled off the screens of panes, which the pty host keeps by the scrollback process; what is copied, and what is written down."""
 import os
 import pathlib
 import signal
 import subprocess
 import time
 
-from tried import SESSION, Outer, check, children, comes, is_filter, noted, said, scene, tool, window_of
+from tried import SESSION, Outer, check, children, comes, is_scrollback_process, noted, said, scene, tool, window_of
 from roam_live.cli.scrollback import RowsAsked
 from roam_live.cli.targets import making_of
 from roam_live.common.errors import Fault
@@ -17,20 +17,20 @@ KEPT = 10_000
 # So many seconds a search over all of them may take.
 SEARCHED = 0.05
 
-# So many bytes the keeper may grow by what it keeps.
+# So many bytes the host may grow by what it keeps.
 GROWTH = 64 << 20
 
 GIGABYTE = 1 << 30
 
 
-def keeper(name=SESSION):
+def host(name=SESSION):
     """The process that keeps a session's shells."""
-    return noted(name)["shells"][0]
+    return noted(name)["host"][0]
 
 
-def filters(name=SESSION):
-    """The filters of rows of a session."""
-    return [process for process in children(keeper(name)) if is_filter(process)]
+def scrollback_processes(name=SESSION):
+    """The scrollback processes of a session."""
+    return [process for process in children(host(name)) if is_scrollback_process(process)]
 
 
 def grown(process):
@@ -42,12 +42,12 @@ def grown(process):
 def count_of(name=SESSION, pane=1):
     """The numbers of the first row that is kept and of that behind the last."""
     asked = RowsAsked(FolderSession(window_of(name)))
-    number, life = making_of(asked.session, pane)
-    return asked.answer(lambda told: asked.link.count(number, life, told)) or (0, 0)
+    number, generation = making_of(asked.session, pane)
+    return asked.answer(lambda told: asked.link.count(number, generation, told)) or (0, 0)
 
 
 def kept(name=SESSION, pane=1):
-    """All rows that are kept of a pane, without what leads them; none while the filter has too much to read to lend any."""
+    """All scrollback rows of a pane, without what leads them; none while the scrollback process has too much to read to lend any."""
     asked = RowsAsked(FolderSession(window_of(name)))
     try:
         snapshot, found = asked.snapshot(pane), []
@@ -64,7 +64,8 @@ def kept(name=SESSION, pane=1):
 def begun():
     """A terminal on a session, with a shell."""
     outer = Outer(tool("mux", SESSION))
-    check("a session keeps rows by one filter", outer.shows("$ ") and comes(lambda: len(filters()) == 1), outer.rows)
+    check("a session keeps rows by one scrollback process", outer.shows("$ ") and comes(lambda: len(scrollback_processes()) == 1),
+          outer.rows)
     return outer
 
 
@@ -117,7 +118,7 @@ def sought(text, numbers):
     snapshot, best = asked.snapshot(1), 60.0
     for _ in range(5):
         begin = time.monotonic()
-        found = asked.answer(lambda told: asked.link.find(1, snapshot.life, snapshot.end + 99, True, text, told))
+        found = asked.answer(lambda told: asked.link.find(1, snapshot.generation, snapshot.end + 99, True, text, told))
         best = min(best, time.monotonic() - begin)
     wanted = snapshot.end - len(numbers) + numbers.index(int(text)) if text.isdigit() else None
     check(f"{text!r} is found where it is", found == wanted or wanted is not None and abs(found - wanted) <= 2, (found, wanted))
@@ -138,23 +139,23 @@ def check_forms(outer):
 
 
 @scene
-def filter_lost(folder):
-    """The filter killed, stopped and continued: shells go on, what is lost is told, and stands among the rows."""
+def process_lost(folder):
+    """The scrollback process killed, stopped and continued: shells go on, what is lost is told, and stands among the rows."""
     outer = begun()
     run(outer, "clear; seq 1 100", "before")
     check("rows are kept", comes(lambda: "50" in kept()), kept)
-    os.kill(filters()[0], signal.SIGKILL)
-    check("a killed filter is told of", outer.shows("rows of history are lost: what filters them ended"), outer.rows)
-    check("another runs", comes(lambda: len(filters()) == 1), filters)
+    os.kill(scrollback_processes()[0], signal.SIGKILL)
+    check("a killed filter is told of", outer.shows("rows of history are lost: the scrollback process ended"), outer.rows)
+    check("another runs", comes(lambda: len(scrollback_processes()) == 1), scrollback_processes)
     run(outer, "seq 201 300", "behind")
     check("what came before is kept, then a row tells of the loss, then what comes",
           comes(lambda: in_order(kept(), "50", "[rows of history are lost here]", "250")), lambda: kept()[-120:])
-    process = filters()[0]
+    process = scrollback_processes()[0]
     os.kill(process, signal.SIGSTOP)
     begin = time.monotonic()
     check("a stopped one doesn't stop a shell", run(outer, "seq 1 300000", "passed", 30), outer.rows)
-    print(f"        seq 1 300000 beside a stopped filter took {time.monotonic() - begin:.1f} s", flush=True)
-    check("which is told", outer.shows("rows of history are lost: what filters them doesn't keep up"), outer.rows)
+    print(f"        seq 1 300000 beside a stopped scrollback process took {time.monotonic() - begin:.1f} s", flush=True)
+    check("which is told", outer.shows("rows of history are lost: the scrollback process doesn't keep up"), outer.rows)
     check("keys are echoed meanwhile", run(outer, "clear", "echoed"), outer.rows)
     status, _, why = said("capture", "-S", "-", SESSION)
     check("no snapshot is had of it", status == 1 and "no rows are kept" in why, why)
@@ -162,7 +163,7 @@ def filter_lost(folder):
     # What is written before it has taken what waited for it is lost too.
     again = lambda: run(outer, "seq 401 500", "continued") and in_order(kept(), "[rows of history are lost here]", "450")
     check("rows are kept again once it is continued", comes(again), lambda: kept()[-120:])
-    check("by the same filter", filters() == [process], filters())
+    check("by the same scrollback process", scrollback_processes() == [process], scrollback_processes())
 
 
 def in_order(rows, *texts):
@@ -176,10 +177,10 @@ def in_order(rows, *texts):
 
 
 @scene
-def filter_fed(folder):
-    """A gigabyte through a pane: the keeper grows by no more than may be, and the last rows are kept."""
+def process_fed(folder):
+    """A gigabyte through a pane: the host grows by no more than may be, and the last rows are kept."""
     outer = begun()
-    before = grown(keeper())
+    before = grown(host())
     begin = time.monotonic()
     line = "y" * 60
     check("a gigabyte is written", run_long(outer, f"clear; yes {line} | head -c {GIGABYTE}; echo; seq 1 100", "written"), outer.rows)
@@ -190,8 +191,8 @@ def filter_fed(folder):
     wide = "python3 -c 'for n in range(40000): print(*(f\"\\33[38;5;{(n + c) % 256}mx\" for c in range(78)), sep=str())'"
     run(outer, f"clear; {wide}; printf '\\033[0m'; seq 1 100", "coloured", 120)
     check("and rows of many styles", comes(lambda: "50" in kept()[-99:]), lambda: kept()[-3:])
-    size = grown(keeper()) - before
-    check(f"the keeper grew by {size >> 20} MB, of 64", size < GROWTH, size)
+    size = grown(host()) - before
+    check(f"the host grew by {size >> 20} MB, of 64", size < GROWTH, size)
 
 
 @scene
@@ -208,7 +209,7 @@ def nine_kept(folder):
     for name in names:
         found = [pane for pane in range(1, 10) if not comes(lambda: in_order(kept(name, pane), f"{pane}100", f"{pane}150"), 20)]
         check(f"each of nine panes of {name} has its rows", not found, found)
-        check("by one filter", len(filters(name)) == 1, filters(name))
+        check("by one scrollback process", len(scrollback_processes(name)) == 1, scrollback_processes(name))
     for name in names[2:]:
         subprocess.run(tool("mux", "kill", "-f", name), check=True)
 
@@ -257,15 +258,15 @@ def buffers(folder):
 
 def check_far(near, long):
     """Rows and buffers by the sockets of a near relay."""
-    check("a relay is there", comes(lambda: (near.folder / "shells").exists() and near.places()), near.folder)
+    check("a relay is there", comes(lambda: (near.folder / "host").exists() and near.places()), near.folder)
     asked = RowsAsked(near)
     check("a long buffer comes over it whole", asked.answer(lambda told: asked.link.buffer(2, told)) == long.encode())
-    number = asked.answer(lambda told: asked.link.add_buffer(b"a\nhere x 1 1 edits\n" * 30_000, told))
-    check("and goes", asked.answer(lambda told: asked.link.buffer(number, told)) == b"a\nhere x 1 1 edits\n" * 30_000, number)
+    number = asked.answer(lambda told: asked.link.add_buffer(b"a\nhere x 1 1 read-write\n" * 30_000, told))
+    check("and goes", asked.answer(lambda told: asked.link.buffer(number, told)) == b"a\nhere x 1 1 read-write\n" * 30_000, number)
     snapshot = asked.snapshot(1)
     rows = asked.rows(snapshot, snapshot.first, snapshot.end)
     check("rows do too", len(rows) == 2000 and b" 1500" in rows, rows[:3])
-    found = asked.answer(lambda told: asked.link.find(1, snapshot.life, 0, False, "4321", told))
+    found = asked.answer(lambda told: asked.link.find(1, snapshot.generation, 0, False, "4321", told))
     check("and what is looked for", found is not None and asked.rows(snapshot, found, found + 1) == [b" 4321"], found)
 
 

@@ -9,15 +9,15 @@ def shared(folder):
     """The short form of what is tried of terminals that come and go."""
     run = subprocess.run(script("try_starts", "20", PROGRAM), stdout=subprocess.PIPE, stderr=subprocess.STDOUT, check=False)
     print(run.stdout.decode("utf-8", "replace"), end="", flush=True)
-    check("all of them share a client start", run.returncode == 0, run.returncode)
+    check("all of them share a client process", run.returncode == 0, run.returncode)
 
 
 @scene
-def guesses(folder):
-    """What is tried of guesses."""
+def predictions(folder):
+    """What is tried of predictions."""
     run = subprocess.run(script("try_predictions", PROGRAM), stdout=subprocess.PIPE, stderr=subprocess.STDOUT, check=False)
     print(run.stdout.decode("utf-8", "replace"), end="", flush=True)
-    check("what keys are guessed to show leaves no trace", run.returncode == 0, run.returncode)
+    check("what keys are predicted to show leaves no trace", run.returncode == 0, run.returncode)
 
 
 @scene

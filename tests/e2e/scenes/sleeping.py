@@ -42,7 +42,7 @@ def slept(folder):
           lambda: said("capture", "asleep")[1])
     type_line("asleep", "(sleep 66; echo la''ter) &")
     time.sleep(FORGOTTEN)
-    processes = [noted("asleep")[role][0] for role in ("server", "terminals", "shells")]
+    processes = [noted("asleep")[role][0] for role in ("server", "client", "host")]
     before = wakeups(processes)
     time.sleep(1.5)
     check("a session without terminals wakes at most for its programs", wakeups(processes) - before <= 3, wakeups(processes) - before)

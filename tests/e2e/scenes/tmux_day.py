@@ -90,7 +90,7 @@ def windows(day):
 
 
 def copied(day):
-    """Acts with what is copied, and rows that left."""
+    """Acts with what is copied, and rows that scrolled off."""
     day.outer.type(b"\x15clear; seq 1 300; echo find''me\r")
     day.outer.shows("findme")
     day.types([26], "PgUp scrolls", [b"\x1b[5~"], "copy mode")

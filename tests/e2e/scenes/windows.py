@@ -74,12 +74,12 @@ def switched(folder, words, count):
         opened(outer, window, path)
     person = Person(list(paths))
     for number in range(count):
-        pieces = [person.types(f"<{number}a>"), person.switch(chance), person.types(f"<{number}b>")]
+        chunks = [person.types(f"<{number}a>"), person.switch(chance), person.types(f"<{number}b>")]
         for _ in range(chance.randrange(3)):
-            pieces += [person.switch(chance), person.types(f"<{number}c>")]
+            chunks += [person.switch(chance), person.types(f"<{number}c>")]
             if chance.random() < 0.2:
-                pieces += [person.pastes(f"[{number}{'p' * chance.choice((9, 60, 3000))}]"), person.types(f"<{number}d>")]
-        outer.type("".join(pieces).encode())
+                chunks += [person.pastes(f"[{number}{'p' * chance.choice((9, 60, 3000))}]"), person.types(f"<{number}d>")]
+        outer.type("".join(chunks).encode())
     for window, path in paths.items():
         wanted = person.typed[window]
         check(f"window {window} has all that was typed there, in order, and nothing else", comes(lambda: typed_in(path) == wanted, 60),
@@ -124,47 +124,47 @@ def two_windows(folder):
 
 @scene
 def window_stopped(folder):
-    """A keeper, or a start, that is stopped stops nobody from typing, from going elsewhere and from leaving; all that was typed comes where
+    """A host, or a client, that is stopped stops nobody from typing, from going elsewhere and from leaving; all that was typed comes where
     it was meant for, once it goes on."""
     outer, paths = two_windows(folder)
-    keeper = noted(SESSION)["shells"][0]
-    os.kill(keeper, signal.SIGSTOP)
+    host = noted(SESSION)["host"][0]
+    os.kill(host, signal.SIGSTOP)
     outer.type(b"tw\x021on\x02ce\r")
     check("who opens a window is told that nobody answers, and what becomes of what was typed for it",
           outer.status("no window is opened yet: what keeps them is silent; keys for it are dropped"), outer.rows)
     outer.type(b"e\x02lo")
     check("he goes from one to another meanwhile", is_at(outer, 2), outer.rows)
-    os.kill(keeper, signal.SIGCONT)
+    os.kill(host, signal.SIGCONT)
     wanted = ["one", "two"]
     check("what he typed comes where he was", comes(lambda: [typed_in(path) for path in paths] == wanted), [*map(typed_in, paths)])
     check("the window is there a moment later", outer.status("window 3 is there now") or outer.shows("3:"), outer.rows)
-    start = window_process(2, "terminals")
-    os.kill(start, signal.SIGSTOP)
+    client = window_process(2, "terminals")
+    os.kill(client, signal.SIGSTOP)
     outer.type(b" t\x021 o\x022wo")
     is_blank = comes(lambda: "1:" in outer.rows()[23] and not outer.rows()[0].strip())
     check("a window that isn't painted shows nothing of the one before", is_blank, outer.rows)
     outer.type(b"\x021ne\x02d")
     check("he leaves", outer.ends() and outer.is_restored(), outer.rows)
-    os.kill(start, signal.SIGCONT)
+    os.kill(client, signal.SIGCONT)
     wanted = ["one one", "two two"]
     check("what was typed is taken then", comes(lambda: [typed_in(path) for path in paths] == wanted), [*map(typed_in, paths)])
 
 
 @scene
 def window_kills(folder):
-    """A window whose server is killed gives way to the one before; a keeper that is killed is followed by another, which has the windows;
+    """A window whose server is killed gives way to the one before; a host that is killed is followed by another, which has the windows;
     the last window's end is the session's."""
     outer, paths = two_windows(folder)
     os.kill(window_process(2, "server"), signal.SIGKILL)
     outer.type(b"")
-    # The keeper tells of that end too, which may come before the line of the front end is written.
+    # The host tells of that end too, which may come before the line of the front end is written.
     is_told = outer.was_told("window 2 is gone", "window 2: its server was killed, or has failed")
     check("the one before is shown", is_told and outer.status("[1] 1:"), lambda: (outer.rows(), bytes(outer.written[-3000:])))
     outer.type(b"here")
     check("and typed in", comes(lambda: typed_in(paths[0]) == "here"), typed_in(paths[0]))
-    keeper = noted(SESSION)["shells"][0]
-    os.kill(keeper, signal.SIGKILL)
-    check("another keeper comes", comes(lambda: noted(SESSION)["shells"][0] != keeper), lambda: noted(SESSION))
+    host = noted(SESSION)["host"][0]
+    os.kill(host, signal.SIGKILL)
+    check("another host comes", comes(lambda: noted(SESSION)["host"][0] != host), lambda: noted(SESSION))
     check("a window has a new shell", outer.shows("a new shell"), outer.rows)
     check("one more is opened", comes(lambda: outer.type(b"\x02c") or outer.status("[1] 1:sh- 2:sh*", 3)), outer.rows)
     begin = len(outer.written)
@@ -248,14 +248,14 @@ def begun_with(folder):
 
 
 @scene
-def keeper_stopped(folder):
-    """Where what keeps the shells is stopped whoever types is told so, and all that was typed comes once it goes on."""
+def host_stopped(folder):
+    """Where the pty host is stopped whoever types is told so, and all that was typed comes once it goes on."""
     outer = Outer(tool("mux", SESSION))
     outer.shows("$ ")
-    keeper = noted(SESSION)["shells"][0]
-    os.kill(keeper, signal.SIGSTOP)
+    host = noted(SESSION)["host"][0]
+    os.kill(host, signal.SIGSTOP)
     outer.type(b"echo la''ter\r")
-    check("it is told within ten seconds", outer.shows("what keeps the shells is stopped", 10), outer.rows)
-    os.kill(keeper, signal.SIGCONT)
+    check("it is told within ten seconds", outer.shows("the pty host is stopped", 10), outer.rows)
+    os.kill(host, signal.SIGCONT)
     check("what was typed comes then", outer.shows("later"), outer.rows)
     subprocess.run(tool("mux", "kill", "-f", SESSION), check=True)

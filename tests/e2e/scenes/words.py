@@ -47,7 +47,7 @@ def words(folder):
     is_typed = said("send", "other", "C-u", "close next", "Enter") == (0, "", "")
     is_shown = is_typed and comes(lambda: "close next" in said("capture", "other")[1], 2)
     check("mux send types what is no key", is_shown, said("capture", "other"))
-    all_starts()
+    all_clients()
     subprocess.run(tool("mux", "kill", "-f", "other"), check=True)
 
 
@@ -67,15 +67,15 @@ def slips():
         check(f"mux help names {wanted}", run.stdout.decode().startswith(f"{wanted} [NAME] | WORD"), run.stdout[:80])
 
 
-def all_starts():
-    """A session that has had all client starts of its life says so; the one that is there goes on."""
+def all_clients():
+    """A session that has had all client processes of its life says so; the one that is there goes on."""
     served = str(window_of("other"))
     for _ in range(64):
         words = [PROGRAM, "attach", "--dir", served, "--turns", "3"]
         subprocess.run(words, stdout=subprocess.DEVNULL, stderr=subprocess.DEVNULL, check=False)
-    check("ls tells how many starts there were, where they are many", comes(lambda: "64 of 64 starts" in " ".join(listed())), listed())
+    check("ls tells how many clients there were, where they are many", comes(lambda: "64 of 64 clients" in " ".join(listed())), listed())
     check("the start that is there goes on", said("send", "other", "a") == (0, "", ""), said("ls"))
-    os.kill(noted("other")["terminals"][0], signal.SIGKILL)
+    os.kill(noted("other")["client"][0], signal.SIGKILL)
     for word in (["capture", "other"], ["send", "other", "a"]):
         told = said(*word)
         check(f"mux {word[0]} tells that the session hears no more starts", told[0] == 1 and "has had the 64" in told[2], told)

@@ -22,7 +22,8 @@ from roam_live.protocol.panes import asked_places
 # The command of a pane that writes rows at its begin, and nothing more; so many there are, at most.
 STILL = "i=0; while [ $i -lt 30 ]; do i=$((i+1)); echo row $i of some that stand in a pane as they were written; done; exec sleep 10000"
 
-# So many panes has a tree by chance; so many trees there are of each size, and where borders are moved, and in `tests/stress/try_zoom` (TREES).
+# So many panes has a tree by chance; so many trees there are of each size, and where borders are moved, and in `tests/stress/try_zoom`
+# (TREES).
 FEWEST, MOST_PANES = 2, 6
 TREES = {"zoom": 3, "borders": 2}
 SEED = 7801
@@ -246,7 +247,7 @@ def zoom_ends(folder):
         outer.shows("Z")
         outer.type(keys)
         check(f"{keys!r} ends it, with the size as before", outer.status(label) and comes(lambda focus=focus: there() == before._replace(
-            focus=focus, starts=there().starts)), there)
+            focus=focus, clients=there().clients)), there)
     outer.type(b"\x02z")
     outer.status("[1] 2  3  Z")
     acts("focus 3")

@@ -1,4 +1,4 @@
-"""What becomes of a text that is copied: a buffer of the keeper's, and the terminal's clipboard."""
+"""What becomes of a text that is copied: a buffer of the host's, and the terminal's clipboard."""
 from __future__ import annotations
 
 from roam_live.config.environment import may_set_clipboard
@@ -6,7 +6,7 @@ from roam_live.config.environment import may_set_clipboard
 TYPE_CHECKING = False
 if TYPE_CHECKING:
     from roam_live.frontend.commands import Commands
-    from roam_live.protocol.scrollback_client import BufferNote, RowsLink
+    from roam_live.protocol.scrollback_client import BufferNote, ScrollbackClient
 
 # A text has so many bytes at most, also where it is put behind another.
 MOST_COPIED = 1 << 20
@@ -37,28 +37,28 @@ class CopiedTexts:
 
     def take(self, text: bytes | None, is_appended: bool = False) -> None:
         """Takes a text, to be put behind the newest buffer or to be one; None stands for one that is too long."""
-        kept = self.commands.shells.kept if self.commands.shells else None
+        scrollback = self.commands.host.scrollback if self.commands.host else None
         if text is None:
             self.tell(TOO_LONG)
-        elif text and is_appended and kept and not self.commands.link.watches:
-            self.append(kept, text)
+        elif text and is_appended and scrollback and not self.commands.link.is_read_only:
+            self.append(scrollback, text)
         elif text:
             self.put(text)
 
-    def append(self, kept: RowsLink, text: bytes) -> None:
+    def append(self, scrollback: ScrollbackClient, text: bytes) -> None:
         """Has a text be put behind the newest buffer."""
 
         def listed(notes: list[BufferNote] | None) -> None:
             if notes:
-                kept.buffer(notes[0].number, lambda before: self.put((before or b"") + text))
+                scrollback.buffer(notes[0].number, lambda before: self.put((before or b"") + text))
             else:
                 self.put(text)
 
-        kept.buffers(listed)
+        scrollback.buffers(listed)
 
     def put(self, text: bytes) -> None:
         """Has a text be a buffer, of who doesn't only watch, and be on the clipboard."""
-        kept, commands = self.commands.shells.kept if self.commands.shells else None, self.commands
+        scrollback, commands = self.commands.host.scrollback if self.commands.host else None, self.commands
         if len(text) > MOST_COPIED:
             self.tell(TOO_LONG)
             return
@@ -66,8 +66,8 @@ class CopiedTexts:
             from base64 import b64encode
 
             commands.display.outer.set_clip(b64encode(text).decode())
-        if kept and not commands.link.watches:
+        if scrollback and not commands.link.is_read_only:
             told = COPIED.format(counted(text), commands.prefix)
-            kept.add_buffer(text, lambda number: self.tell(NOT_KEPT.format(counted(text)) if number is None else told))
+            scrollback.add_buffer(text, lambda number: self.tell(NOT_KEPT.format(counted(text)) if number is None else told))
         else:
             self.tell(COPIED_HERE.format(counted(text)))

@@ -8,7 +8,7 @@ from roam_live.frontend.copymode import motions
 TYPE_CHECKING = False
 if TYPE_CHECKING:
     from roam_live.frontend.copymode.mode import CopyMode
-    from roam_live.frontend.copymode.rows import Spot
+    from roam_live.frontend.copymode.rows import Position
     from roam_live.frontend.copymode.selection import CopiedText
     from roam_live.frontend.copymode.viewport import CopyView
 
@@ -25,20 +25,20 @@ class CopyWish:
 
 
 # Where keys move the cursor to, from a place.
-MOVES: dict[str, Callable[[CopyMode, Spot], Spot]] = {
-    "cursor-left": lambda mode, spot: motions.left(mode.rows, spot),
-    "cursor-right": lambda mode, spot: motions.right(mode.rows, spot, True, mode.block_width()),
-    "start-of-line": lambda mode, spot: motions.line_begin(mode.rows, spot),
-    "end-of-line": lambda mode, spot: motions.line_end(mode.rows, spot, mode.block_width()),
-    "back-to-indentation": lambda mode, spot: motions.indentation(mode.rows, spot),
-    "next-word": lambda mode, spot: motions.next_word(mode.rows, spot, motions.SEPARATORS),
-    "next-space": lambda mode, spot: motions.next_word(mode.rows, spot, ""),
-    "previous-word": lambda mode, spot: motions.previous_word(mode.rows, spot, motions.SEPARATORS),
-    "previous-space": lambda mode, spot: motions.previous_word(mode.rows, spot, ""),
-    "next-word-end": lambda mode, spot: mode.word_end(spot, motions.SEPARATORS),
-    "next-space-end": lambda mode, spot: mode.word_end(spot, ""),
-    "next-matching-bracket": lambda mode, spot: motions.matched_forward(mode.rows, spot, mode.is_vi),
-    "previous-matching-bracket": lambda mode, spot: motions.matched_back(mode.rows, spot),
+MOVES: dict[str, Callable[[CopyMode, Position], Position]] = {
+    "cursor-left": lambda mode, position: motions.left(mode.rows, position),
+    "cursor-right": lambda mode, position: motions.right(mode.rows, position, True, mode.block_width()),
+    "start-of-line": lambda mode, position: motions.line_begin(mode.rows, position),
+    "end-of-line": lambda mode, position: motions.line_end(mode.rows, position, mode.block_width()),
+    "back-to-indentation": lambda mode, position: motions.indentation(mode.rows, position),
+    "next-word": lambda mode, position: motions.next_word(mode.rows, position, motions.SEPARATORS),
+    "next-space": lambda mode, position: motions.next_word(mode.rows, position, ""),
+    "previous-word": lambda mode, position: motions.previous_word(mode.rows, position, motions.SEPARATORS),
+    "previous-space": lambda mode, position: motions.previous_word(mode.rows, position, ""),
+    "next-word-end": lambda mode, position: mode.word_end(position, motions.SEPARATORS),
+    "next-space-end": lambda mode, position: mode.word_end(position, ""),
+    "next-matching-bracket": lambda mode, position: motions.matched_forward(mode.rows, position, mode.is_vi),
+    "previous-matching-bracket": lambda mode, position: motions.matched_back(mode.rows, position),
 }
 
 # How keys move over lines.
@@ -56,8 +56,8 @@ STEPS: dict[str, Callable[[CopyView], object]] = {
     "top-line": lambda view: view.put_at(0),
     "middle-line": lambda view: view.put_at((view.height - 1) // 2),
     "bottom-line": lambda view: view.put_at(view.height - 1),
-    "previous-paragraph": lambda view: view.jump(motions.paragraph_above(view.rows, view.spot)),
-    "next-paragraph": lambda view: view.jump(motions.paragraph_below(view.rows, view.spot)),
+    "previous-paragraph": lambda view: view.jump(motions.paragraph_above(view.rows, view.position)),
+    "next-paragraph": lambda view: view.jump(motions.paragraph_below(view.rows, view.position)),
 }
 
 COMMANDS: dict[str, Callable[[CopyMode], object]] = {

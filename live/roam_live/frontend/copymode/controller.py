@@ -1,4 +1,4 @@
-"""Copy mode at a person's terminal: over a snapshot of a pane's rows that the keeper of shells lends, drawn over the pane's rectangle,
+"""Copy mode at a person's terminal: over a snapshot of a pane's rows that the pty host lends, drawn over the pane's rectangle,
 while the session goes on below. Nobody else sees of it. What is typed waits in order for the rows that it needs."""
 from __future__ import annotations
 
@@ -21,12 +21,12 @@ if TYPE_CHECKING:
     from roam_live.frontend.copymode.keys import KeyPairs
     from roam_live.frontend.copymode.mode import CopyMode
     from roam_live.input.keys import Key
-    from roam_live.protocol.scrollback_client import RowsLink, Snapshot
+    from roam_live.protocol.scrollback_client import ScrollbackClient, Snapshot
 
-# So many seconds a keeper has for lending a snapshot: where it is stopped, or an earlier roam's, the view that all share scrolls.
+# So many seconds a host has for lending a snapshot: where it is stopped, or an earlier roam's, the view that all share scrolls.
 LENDS = 2.0
 
-# So often it is looked whether the keeper is connected meanwhile.
+# So often it is looked whether the host is connected meanwhile.
 CONNECTS = 0.05
 
 # So many keys and reports wait at most.
@@ -58,7 +58,7 @@ class Copying:
         self.commands, self.loop = commands, loop
         self.mode: CopyMode | None = None
         # The pane and its life, of which a snapshot was asked for or is had, and a number for each time that one was.
-        self.pane = self.life = self.opening = 0
+        self.pane = self.generation = self.opening = 0
         self.is_opening = False
         # What is done where no snapshot is lent; it tells whether what was typed meanwhile is for that.
         self.instead: Callable[[], object] = nothing
@@ -77,17 +77,17 @@ class Copying:
         """The rectangle of the terminal on which it is drawn."""
         return self.screen.rect
 
-    def kept(self) -> RowsLink | None:
+    def scrollback(self) -> ScrollbackClient | None:
         """Who lends rows; None where nobody does."""
-        return self.commands.shells.kept if self.commands.shells else None
+        return self.commands.host.scrollback if self.commands.host else None
 
     def is_on(self) -> bool:
         """Whether it is open, or will be once a snapshot is lent."""
         return self.mode is not None or self.is_opening
 
     def is_connecting(self) -> bool:
-        """Whether the keeper isn't connected, and may be soon."""
-        return self.commands.shells is not None and self.commands.shells.is_connecting()
+        """Whether the host isn't connected, and may be soon."""
+        return self.commands.host is not None and self.commands.host.is_connecting()
 
     def is_full(self) -> bool:
         """Whether so much waits that nothing more is to come."""
@@ -99,16 +99,16 @@ class Copying:
         """Opens it in a pane, with what is done first; where no rows are lent something else is done instead, which tells whether what was
         typed meanwhile is for that."""
         self.close()
-        making, kept, rect = self.commands.panes.making(pane).split(), self.kept(), self.screen.visible(pane)
-        if not kept or len(making) != 2 or not rect:
+        making, scrollback, rect = self.commands.panes.making(pane).split(), self.scrollback(), self.screen.visible(pane)
+        if not scrollback or len(making) != 2 or not rect:
             instead()
             return
         from roam_live.frontend.copymode.keys import KeyPairs
 
-        self.pane, self.life, self.screen.rect, self.instead = pane, int(making[1]), rect, instead
+        self.pane, self.generation, self.screen.rect, self.instead = pane, int(making[1]), rect, instead
         self.pairs = KeyPairs()
         self.events.extend(begins)
-        self.ask_snapshot(kept)
+        self.ask_snapshot(scrollback)
 
     def await_focus(self, instead: Callable[[], object], *begins: CopyEvent) -> None:
         """Opens it in the pane in focus once that is told, as where a relay goes another way; where it isn't in time something else is done
@@ -134,24 +134,24 @@ class Copying:
         self.asking.tell_later()
         return opening
 
-    def ask_snapshot(self, kept: RowsLink) -> None:
+    def ask_snapshot(self, scrollback: ScrollbackClient) -> None:
         """Asks for a snapshot."""
-        self.ask_connected(self.begin_opening(), kept)
+        self.ask_connected(self.begin_opening(), scrollback)
 
-    def ask_connected(self, opening: int, kept: RowsLink) -> None:
-        """Asks for it once the keeper is connected, where that may be soon."""
+    def ask_connected(self, opening: int, scrollback: ScrollbackClient) -> None:
+        """Asks for it once the host is connected, where that may be soon."""
         if opening != self.opening or not self.is_opening:
             return
         if self.is_connecting():
-            self.loop.later("copy connects", CONNECTS, lambda: self.ask_connected(opening, kept))
+            self.loop.later("copy connects", CONNECTS, lambda: self.ask_connected(opening, scrollback))
         else:
-            kept.snapshot(self.pane, self.life, lambda snapshot: self.answered(opening, kept, snapshot))
+            scrollback.snapshot(self.pane, self.generation, lambda snapshot: self.answered(opening, scrollback, snapshot))
 
-    def answered(self, opening: int, kept: RowsLink, snapshot: Snapshot | None) -> None:
-        """Takes what the keeper answers. Where the connection was lost instead, as by a relay that goes another way, it is asked again once
+    def answered(self, opening: int, scrollback: ScrollbackClient, snapshot: Snapshot | None) -> None:
+        """Takes what the host answers. Where the connection was lost instead, as by a relay that goes another way, it is asked again once
         there is another."""
         if snapshot is None and self.is_connecting():
-            self.ask_connected(opening, kept)
+            self.ask_connected(opening, scrollback)
         else:
             self.lent(opening, snapshot)
 
@@ -165,9 +165,9 @@ class Copying:
         self.asking.settle()
         from roam_live.frontend.copymode.rows import MOST_SCREEN_ROWS
 
-        kept = self.kept()
-        if kept and snapshot and 0 < len(snapshot.screen) <= MOST_SCREEN_ROWS:
-            self.begin(snapshot, kept)
+        scrollback = self.scrollback()
+        if scrollback and snapshot and 0 < len(snapshot.screen) <= MOST_SCREEN_ROWS:
+            self.begin(snapshot, scrollback)
             return
         if self.mode:
             self.close(GONE)
@@ -177,7 +177,7 @@ class Copying:
         for event in events if instead() else []:
             event.instead()
 
-    def begin(self, snapshot: Snapshot, kept: RowsLink) -> None:
+    def begin(self, snapshot: Snapshot, scrollback: ScrollbackClient) -> None:
         """Shows a snapshot, and does what was typed meanwhile."""
         from roam_live.config.environment import wants_vi
         from roam_live.frontend.copymode.mode import CopyMode
@@ -190,7 +190,7 @@ class Copying:
         rows.stays = snapshot.end - MOST_SCREEN_ROWS
         self.mode = CopyMode(rows, self.rect.rows, wants_vi())
         self.mode.sought, self.mode.is_back = self.sought
-        self.screen.came, kept.on_more = 0, self.more
+        self.screen.came, scrollback.on_more = 0, self.more
         self.asking.end()
         self.events.appendleft(CopyEvent(lambda mode: mode.open()))
         self.screen.lay()
@@ -205,9 +205,9 @@ class Copying:
         """Closes it, where it is open, and drops what waits; tells why, where there is something to tell."""
         if not self.is_on():
             return
-        kept, display = self.kept(), self.commands.display
-        if kept and self.pane:
-            kept.release(self.pane, self.life)
+        scrollback, display = self.scrollback(), self.commands.display
+        if scrollback and self.pane:
+            scrollback.release(self.pane, self.generation)
         was_shown, self.mode = self.mode is not None, None
         self.is_opening = False
         self.opening += 1
@@ -230,7 +230,7 @@ class Copying:
         if not self.pane:
             self.find_focus()
             return
-        if panes.making(self.pane) != f"{self.pane} {self.life}":
+        if panes.making(self.pane) != f"{self.pane} {self.generation}":
             self.close()
             return
         rect = self.screen.visible(self.pane)
@@ -249,9 +249,9 @@ class Copying:
         if moves and moves[-1] != f"focus {self.pane}":
             self.close()
 
-    def more(self, pane: int, life: int, count: int) -> None:
+    def more(self, pane: int, generation: int, count: int) -> None:
         """Takes how many rows came since the snapshot."""
-        if self.mode and (pane, life) == (self.pane, self.life):
+        if self.mode and (pane, generation) == (self.pane, self.generation):
             self.screen.came = count
             self.screen.say()
 
@@ -262,7 +262,7 @@ class Copying:
         typing = self.commands.typing
         if self.is_pasting:
             return self.take_pasted(key)
-        if not self.is_on() or self.commands.paused or self.commands.display.cover:
+        if not self.is_on() or self.commands.paused or self.commands.display.notice:
             return False
         if key.name == "paste":
             return self.take_pasted(key)
@@ -347,13 +347,13 @@ class Copying:
         """Does what a key asked for beside what is shown."""
         from roam_live.frontend.copymode.commands import LEAVE, REFRESH
 
-        kept = self.kept()
+        scrollback = self.scrollback()
         if asked.word == LEAVE:
             self.close()
         elif asked.word != REFRESH:
             self.events.appendleft(CopyEvent(lambda mode: self.copy(asked)))
-        elif kept:
-            self.ask_snapshot(kept)
+        elif scrollback:
+            self.ask_snapshot(scrollback)
 
     def copy(self, asked: CopyWish) -> None:
         """Copies a text, once all its rows are here."""

@@ -51,7 +51,7 @@ MOST_COUNT = 9999
 
 
 def bounded(text: str) -> str:
-    """What of a text may be searched for: the keeper takes no longer one."""
+    """What of a text may be searched for: the host takes no longer one."""
     return text.encode("utf-8", "replace")[:MOST_SOUGHT].decode("utf-8", "ignore")
 
 

@@ -16,7 +16,7 @@ from roam_live.frontend.line_editor import LEAVES, TAKES
 
 TYPE_CHECKING = False
 if TYPE_CHECKING:
-    from roam_live.frontend.copymode.rows import Rows, Spot
+    from roam_live.frontend.copymode.rows import Position, Rows
     from roam_live.frontend.copymode.search import Match
     from roam_live.input.keys import Key
 
@@ -36,12 +36,12 @@ class CopyMode:
         # The last jump to a character, and the kind of one whose character comes next.
         self.jump: tuple[str, str] | None = None
         self.awaits = ""
-        self.mark: Spot | None = None
+        self.mark: Position | None = None
         # What is searched for and which way, and whether that is shown; the match at which it stands, and where a search that follows what
         # is typed began.
         self.sought, self.is_back, self.is_marked = "", False, False
         self.match: Match | None = None
-        self.origin: tuple[Spot, tuple[int, int]] | None = None
+        self.origin: tuple[Position, tuple[int, int]] | None = None
         self.prompt: Prompt | None = None
         # What is told of the last key, and what keys asked for since that was taken.
         self.told = ""
@@ -68,7 +68,7 @@ class CopyMode:
         row = self.rows.last()
         while row > view.top[0] and not self.rows.length(row):
             row -= 1
-        view.spot = row, self.rows.length(row)
+        view.position = row, self.rows.length(row)
         view.want_column()
 
     def resize(self, height: int, cols: int) -> None:
@@ -78,7 +78,7 @@ class CopyMode:
         view.height, rows.cols = height, max(LEAST_COLS, cols)
         lowest = view.lowest_top()
         view.top = lowest if was_lowest else min(lowest, rows.line_of(begin))
-        view.go(view.spot)
+        view.go(view.position)
         view.want_column()
 
     def take(self, key: Key) -> None:
@@ -121,9 +121,9 @@ class CopyMode:
     def repeat(self, does: Callable[[], object]) -> None:
         """Does something as often as was typed."""
         for _ in range(self.count.taken()):
-            before = self.view.top, self.view.spot
+            before = self.view.top, self.view.position
             does()
-            if (self.view.top, self.view.spot) == before:
+            if (self.view.top, self.view.position) == before:
                 break
 
     def perform(self, command: str) -> None:
@@ -131,7 +131,7 @@ class CopyMode:
         view, (word, _, kind) = self.view, command.partition(" ")
         if command in MOVES:
             move = MOVES[command]
-            self.repeat(lambda: view.go(move(self, view.spot)))
+            self.repeat(lambda: view.go(move(self, view.position)))
         elif command in STEPS:
             step = STEPS[command]
             self.repeat(lambda: step(view))
@@ -155,13 +155,13 @@ class CopyMode:
         """How many columns a row has where a block is selected; None where it has those at which something stands."""
         return self.rows.cols if self.view.is_block and self.view.selection else None
 
-    def word_end(self, spot: Spot, separators: str) -> Spot:
+    def word_end(self, position: Position, separators: str) -> Position:
         """The end of the word here, or of the next: with vi's keys its last character, else the place behind it."""
-        return motions.last_of_word(self.rows, spot, separators) if self.is_vi else motions.word_end(self.rows, spot, separators)
+        return motions.last_of_word(self.rows, position, separators) if self.is_vi else motions.word_end(self.rows, position, separators)
 
     def jumps(self, kind: str, letter: str) -> None:
         """Jumps to a character."""
-        self.view.go(motions.jumped(self.rows, self.view.spot, kind, letter))
+        self.view.go(motions.jumped(self.rows, self.view.position, kind, letter))
 
     # ---- places
 
@@ -172,12 +172,12 @@ class CopyMode:
 
     def put_mark(self) -> None:
         """Marks the place of the cursor."""
-        self.mark = self.view.spot
+        self.mark = self.view.position
 
     def go_to_mark(self) -> None:
         """Changes the place of the cursor and the mark."""
         if self.mark:
-            mark, self.mark = self.mark, self.view.spot
+            mark, self.mark = self.mark, self.view.position
             self.view.jump(mark)
 
     # ---- searches
@@ -186,7 +186,7 @@ class CopyMode:
         """Asks for a line: of an incremental search what was searched for last stands there."""
         self.count.taken()
         self.prompt = Prompt(command, self.sought if command.endswith("-incremental") else "")
-        self.origin = self.view.spot, self.view.top
+        self.origin = self.view.position, self.view.top
 
     def ask_search(self) -> None:
         """Asks what is searched for in the rows above."""
@@ -201,7 +201,7 @@ class CopyMode:
     def search_anew(self, text: str, is_back: bool) -> None:
         """Searches from where that began, since what is searched for is another."""
         if self.origin:
-            self.view.spot, self.view.top = self.origin
+            self.view.position, self.view.top = self.origin
         self.search(text, is_back)
 
     def search_on(self, is_reversed: bool = False) -> None:
@@ -209,11 +209,11 @@ class CopyMode:
         if not self.sought:
             return
         is_back = self.is_back != is_reversed
-        spot = self.view.spot
+        position = self.view.position
         if not is_back and self.is_vi:
-            on = [match for match in matches(self.rows, spot[0], self.sought) if match[0] <= spot < match[1]]
-            spot = on[0][1] if on else spot
-        found = next_match(self.rows, self.finds, spot, self.sought, is_back)
+            on = [match for match in matches(self.rows, position[0], self.sought) if match[0] <= position < match[1]]
+            position = on[0][1] if on else position
+        found = next_match(self.rows, self.finds, position, self.sought, is_back)
         self.match, self.is_marked = found, True
         if not found:
             self.told = NOTHING_FOUND.format(self.sought)
@@ -227,7 +227,7 @@ class CopyMode:
 
     def search_word(self, is_back: bool) -> None:
         """Searches for the word at the cursor."""
-        selection, _ = word_at(self.rows, self.view.spot, False)
+        selection, _ = word_at(self.rows, self.view.position, False)
         (row, begin), (last, end) = selection.begin, selection.end
         word = self.rows.row(row).text(begin, end) if last == row else ""
         if word.strip():
@@ -237,7 +237,7 @@ class CopyMode:
 
     def begin_selection(self) -> None:
         """Selects from here on."""
-        self.view.selection = Selection(self.view.spot)
+        self.view.selection = Selection(self.view.position)
 
     def toggle_block(self) -> None:
         """Selects a block, or no more."""
@@ -249,7 +249,7 @@ class CopyMode:
     def select_line(self) -> None:
         """Selects the line here, and as many as was typed."""
         self.view.is_block = False
-        self.view.selection, cursor = lines_at(self.rows, self.view.spot)
+        self.view.selection, cursor = lines_at(self.rows, self.view.position)
         self.view.go(cursor)
         for _ in range(self.count.taken() - 1):
             self.view.follow()
@@ -258,17 +258,17 @@ class CopyMode:
     def select_word(self) -> None:
         """Selects the word here."""
         self.view.is_block = False
-        self.view.selection, cursor = word_at(self.rows, self.view.spot, self.is_vi)
+        self.view.selection, cursor = word_at(self.rows, self.view.position, self.is_vi)
         self.view.go(cursor)
 
     def copy(self, leaves: bool, appends: bool = False) -> None:
         """Has what is selected be copied; where nothing is, the match here."""
         selection, is_block = self.view.selection, self.view.is_block
-        if not selection and self.match and self.match[0] <= self.view.spot <= self.match[1]:
+        if not selection and self.match and self.match[0] <= self.view.position <= self.match[1]:
             selection, is_block = Selection(self.match[0]), False
             selection.end = motions.left(self.rows, self.match[1]) if self.is_vi else self.match[1]
         if selection:
-            columns = Columns(self.rows, selection, self.view.spot, is_block, self.is_vi)
+            columns = Columns(self.rows, selection, self.view.position, is_block, self.is_vi)
             self.asked.append(CopyWish(COPY, CopiedText(columns), leaves, appends))
             self.view.clear_selection()
         elif leaves:
@@ -277,12 +277,12 @@ class CopyMode:
     def copy_line_end(self) -> None:
         """Has the rest of the line be copied, with as many lines as was typed, and leaves."""
         view = self.view
-        view.selection = selection = Selection(view.spot)
+        view.selection = selection = Selection(view.position)
         view.is_block = False
         for _ in range(self.count.taken() - 1):
             view.step(1)
-        view.go(motions.line_end(self.rows, view.spot))
-        selection.end = view.spot
+        view.go(motions.line_end(self.rows, view.position))
+        selection.end = view.position
         self.copy(True)
 
     def go_to_other_end(self) -> None:
@@ -294,4 +294,4 @@ class CopyMode:
     def selected(self) -> Columns | None:
         """Which columns are selected, where any are, to be shown."""
         selection = self.view.selection
-        return Columns(self.rows, selection, self.view.spot, self.view.is_block, self.is_vi, True) if selection else None
+        return Columns(self.rows, selection, self.view.position, self.view.is_block, self.is_vi, True) if selection else None

@@ -6,7 +6,7 @@ TYPE_CHECKING = False
 if TYPE_CHECKING:
     from collections.abc import Callable
 
-    from roam_live.frontend.copymode.rows import Rows, Spot
+    from roam_live.frontend.copymode.rows import Position, Rows
 
 # What parts words, beside a blank.
 SEPARATORS = "!\"#$%&'()*+,-./:;<=>?@[\\]^`{|}~"
@@ -16,38 +16,38 @@ BLANK = " "
 OPENING, CLOSING = "{[(", "}])"
 
 
-def letter_at(rows: Rows, spot: Spot) -> str:
+def letter_at(rows: Rows, position: Position) -> str:
     """What stands at a place; of a right half the wide character."""
-    row, col = spot
-    kept = rows.row(row)
-    return kept.at(col) or kept.at(col - 1)
+    row, col = position
+    content = rows.row(row)
+    return content.at(col) or content.at(col - 1)
 
 
-def is_in(rows: Rows, spot: Spot, letters: str) -> bool:
+def is_in(rows: Rows, position: Position, letters: str) -> bool:
     """Whether what stands at a place is one of these."""
-    return letter_at(rows, spot) in letters
+    return letter_at(rows, position) in letters
 
 
 # ---- characters
 
 
-def right(rows: Rows, spot: Spot, is_wrapped: bool = True, width: int | None = None) -> Spot:
+def right(rows: Rows, position: Position, is_wrapped: bool = True, width: int | None = None) -> Position:
     """A character to the right, at the end in the next row; up to so many columns, or the end of the row."""
-    row, col = spot
+    row, col = position
     most = rows.length(row) if width is None else width
     if is_wrapped and col >= most and row < rows.last():
         return row + 1, 0
     if col >= most:
-        return spot
+        return position
     col += 1
     while col < most and rows.row(row).is_right_half(col):
         col += 1
     return row, col
 
 
-def left(rows: Rows, spot: Spot, is_wrapped: bool = True) -> Spot:
+def left(rows: Rows, position: Position, is_wrapped: bool = True) -> Position:
     """A character to the left, at the beginning at the end of the row before."""
-    row, col = spot
+    row, col = position
     while col and rows.row(row).is_right_half(col):
         col -= 1
     if col:
@@ -57,26 +57,26 @@ def left(rows: Rows, spot: Spot, is_wrapped: bool = True) -> Spot:
     return row, col
 
 
-def line_begin(rows: Rows, spot: Spot) -> Spot:
+def line_begin(rows: Rows, position: Position) -> Position:
     """The beginning of the row, or of the first of those that go on to it."""
-    return rows.begin_of(spot[0]), 0
+    return rows.begin_of(position[0]), 0
 
 
-def line_end(rows: Rows, spot: Spot, width: int | None = None) -> Spot:
+def line_end(rows: Rows, position: Position, width: int | None = None) -> Position:
     """The end of the row, or of the last to which it goes on; the last of so many columns where they are told."""
-    row = rows.end_of(spot[0])
+    row = rows.end_of(position[0])
     return row, rows.length(row) if width is None else width
 
 
-def indentation(rows: Rows, spot: Spot) -> Spot:
+def indentation(rows: Rows, position: Position) -> Position:
     """The first place in the row, or in those that go on to it and from it, at which something stands."""
-    row = rows.begin_of(spot[0])
+    row = rows.begin_of(position[0])
     while True:
         for col in range(rows.length(row)):
             if rows.row(row).at(col) != BLANK:
                 return row, col
         if not rows.goes_on(row):
-            return spot
+            return position
         row += 1
 
 
@@ -86,9 +86,9 @@ def indentation(rows: Rows, spot: Spot) -> Spot:
 class WordReader:
     """A place that goes over rows, to the right, a row's end as a blank; one that goes on has none."""
 
-    def __init__(self, rows: Rows, spot: Spot) -> None:
-        self.rows, self.spot = rows, spot
-        self.most = self.most_of(spot[0])
+    def __init__(self, rows: Rows, position: Position) -> None:
+        self.rows, self.position = rows, position
+        self.most = self.most_of(position[0])
 
     def most_of(self, row: int) -> int:
         """The last column of a row."""
@@ -96,20 +96,20 @@ class WordReader:
 
     def stands(self) -> bool:
         """Goes on in the next row where the end of one is passed; tells whether there is one."""
-        while self.spot[1] > self.most:
-            if self.spot[0] == self.rows.last():
+        while self.position[1] > self.most:
+            if self.position[0] == self.rows.last():
                 return False
-            self.spot = self.spot[0] + 1, 0
-            self.most = self.most_of(self.spot[0])
+            self.position = self.position[0] + 1, 0
+            self.most = self.most_of(self.position[0])
         return True
 
     def is_in(self, letters: str) -> bool:
         """Whether what stands here is one of these."""
-        return is_in(self.rows, self.spot, letters)
+        return is_in(self.rows, self.position, letters)
 
     def step(self) -> None:
         """Goes a column to the right."""
-        self.spot = self.spot[0], self.spot[1] + 1
+        self.position = self.position[0], self.position[1] + 1
 
     def skip(self, passes: Callable[[], bool]) -> None:
         """Goes over this column, and over those behind it that pass."""
@@ -125,39 +125,39 @@ class WordReader:
             self.skip(lambda: not self.is_in(separators) and not self.is_in(BLANK))
 
 
-def next_word(rows: Rows, spot: Spot, separators: str) -> Spot:
+def next_word(rows: Rows, position: Position, separators: str) -> Position:
     """The beginning of the next word."""
-    reader = WordReader(rows, spot)
+    reader = WordReader(rows, position)
     if not reader.stands():
-        return reader.spot
+        return reader.position
     if not reader.is_in(BLANK):
         reader.skip_word(separators)
     while reader.stands() and reader.is_in(BLANK):
         reader.step()
-    return reader.spot
+    return reader.position
 
 
-def word_end(rows: Rows, spot: Spot, separators: str) -> Spot:
+def word_end(rows: Rows, position: Position, separators: str) -> Position:
     """The place behind the end of the word here, or of the next."""
-    reader = WordReader(rows, spot)
+    reader = WordReader(rows, position)
     while reader.stands():
         if not reader.is_in(BLANK):
             reader.skip_word(separators)
             break
         reader.step()
-    return reader.spot
+    return reader.position
 
 
-def last_of_word(rows: Rows, spot: Spot, separators: str) -> Spot:
+def last_of_word(rows: Rows, position: Position, separators: str) -> Position:
     """The last character of the word here, or of the next where it is this one."""
-    if not is_in(rows, spot, BLANK):
-        spot = right(rows, spot, False)
-    return left(rows, word_end(rows, spot, separators))
+    if not is_in(rows, position, BLANK):
+        position = right(rows, position, False)
+    return left(rows, word_end(rows, position, separators))
 
 
-def filled_before(rows: Rows, spot: Spot) -> Spot | None:
+def filled_before(rows: Rows, position: Position) -> Position | None:
     """The nearest place before that isn't blank; None where all are."""
-    row, col = spot
+    row, col = position
     while col or row != rows.first:
         if not col:
             row, col = row - 1, rows.length(row - 1)
@@ -168,9 +168,9 @@ def filled_before(rows: Rows, spot: Spot) -> Spot | None:
     return None
 
 
-def previous_word(rows: Rows, spot: Spot, separators: str, is_already: bool = True) -> Spot:
+def previous_word(rows: Rows, position: Position, separators: str, is_already: bool = True) -> Position:
     """The beginning of the word before; that of the word here where it needn't be another."""
-    before = filled_before(rows, spot) if is_already or is_in(rows, spot, BLANK) else spot
+    before = filled_before(rows, position) if is_already or is_in(rows, position, BLANK) else position
     if not before:
         return rows.first, 0
     row, col = before
@@ -190,18 +190,18 @@ def previous_word(rows: Rows, spot: Spot, separators: str, is_already: bool = Tr
 # ---- paragraphs
 
 
-def paragraph_above(rows: Rows, spot: Spot) -> Spot:
+def paragraph_above(rows: Rows, position: Position) -> Position:
     """The blank row above the text here, or above."""
-    row = spot[0]
+    row = position[0]
     for is_blank in (True, False):
         while row > rows.first and (rows.length(row) == 0) == is_blank:
             row -= 1
     return row, 0
 
 
-def paragraph_below(rows: Rows, spot: Spot) -> Spot:
+def paragraph_below(rows: Rows, position: Position) -> Position:
     """The blank row below the text here, or below."""
-    row = spot[0]
+    row = position[0]
     for is_blank in (True, False):
         while row < rows.last() and (rows.length(row) == 0) == is_blank:
             row += 1
@@ -211,22 +211,22 @@ def paragraph_below(rows: Rows, spot: Spot) -> Spot:
 # ---- to a character
 
 
-def jump(rows: Rows, spot: Spot, letter: str) -> Spot | None:
+def jump(rows: Rows, position: Position, letter: str) -> Position | None:
     """The next place from here on at which a character stands, in rows that go on from this one; None where there is none."""
-    row, col = spot
+    row, col = position
     while True:
-        kept = rows.row(row)
-        for place in range(col, kept.length):
-            if kept.at(place) == letter:
+        content = rows.row(row)
+        for place in range(col, content.length):
+            if content.at(place) == letter:
                 return row, place
         if not rows.goes_on(row):
             return None
         row, col = row + 1, 0
 
 
-def jump_back(rows: Rows, spot: Spot, letter: str) -> Spot | None:
+def jump_back(rows: Rows, position: Position, letter: str) -> Position | None:
     """The next place from here back at which a character stands, in rows that go on to this one; None where there is none."""
-    row, col = spot
+    row, col = position
     while True:
         for place in range(col, -1, -1):
             if rows.row(row).at(place) == letter:
@@ -241,24 +241,24 @@ JUMPS = {"f": (False, False), "F": (True, False), "t": (False, True), "T": (True
 REVERSED = {"f": "F", "F": "f", "t": "T", "T": "t"}
 
 
-def jumped(rows: Rows, spot: Spot, kind: str, letter: str) -> Spot:
+def jumped(rows: Rows, position: Position, kind: str, letter: str) -> Position:
     """Where a jump of a kind to a character leads; nowhere else where it doesn't stand there."""
     is_back, is_before = JUMPS[kind]
-    row, col = spot
+    row, col = position
     if is_back:
-        begin = left(rows, spot, False)
+        begin = left(rows, position, False)
         found = jump_back(rows, left(rows, begin, False) if is_before else begin, letter)
-        return spot if found is None else right(rows, found) if is_before else found
+        return position if found is None else right(rows, found) if is_before else found
     found = jump(rows, (row, col + 1 + is_before), letter)
-    return spot if found is None else left(rows, found) if is_before else found
+    return position if found is None else left(rows, found) if is_before else found
 
 
 # ---- brackets
 
 
-def bracket_at(rows: Rows, spot: Spot, brackets: str) -> Spot | None:
+def bracket_at(rows: Rows, position: Position, brackets: str) -> Position | None:
     """The first of such brackets from a place on, in its row and those to which it goes on; None where there is none."""
-    found = [place for place in (jump(rows, spot, letter) for letter in brackets) if place]
+    found = [place for place in (jump(rows, position, letter) for letter in brackets) if place]
     return min(found) if found else None
 
 
@@ -266,16 +266,16 @@ def bracket_at(rows: Rows, spot: Spot, brackets: str) -> Spot | None:
 MOST_BRACKET_ROWS = 2000
 
 
-def other_bracket(rows: Rows, spot: Spot, letter: str) -> Spot | None:
+def other_bracket(rows: Rows, position: Position, letter: str) -> Position | None:
     """The bracket that belongs to one at a place; None where it isn't found."""
     is_back = letter in CLOSING
     other = OPENING[CLOSING.index(letter)] if is_back else CLOSING[OPENING.index(letter)]
-    row, col = spot
+    row, col = position
     depth, left_rows = 0, MOST_BRACKET_ROWS
     while left_rows:
-        kept = rows.row(row)
-        for place in range(col, -1, -1) if is_back else range(col, kept.length):
-            depth += (kept.at(place) == letter) - (kept.at(place) == other)
+        content = rows.row(row)
+        for place in range(col, -1, -1) if is_back else range(col, content.length):
+            depth += (content.at(place) == letter) - (content.at(place) == other)
             if not depth:
                 return row, place
         if row == (rows.first if is_back else rows.last()):
@@ -286,30 +286,30 @@ def other_bracket(rows: Rows, spot: Spot, letter: str) -> Spot | None:
     return None
 
 
-def matched_forward(rows: Rows, spot: Spot, is_vi: bool) -> Spot:
+def matched_forward(rows: Rows, position: Position, is_vi: bool) -> Position:
     """The bracket that belongs to the one here, or to the next; with emacs' keys where none opens here the end of the word, which
     brackets and blanks part."""
-    here = letter_at(rows, spot)
-    if not rows.length(spot[0]):
-        return spot
+    here = letter_at(rows, position)
+    if not rows.length(position[0]):
+        return position
     if is_vi:
-        begin = spot if here in OPENING + CLOSING else bracket_at(rows, spot, OPENING + CLOSING)
+        begin = position if here in OPENING + CLOSING else bracket_at(rows, position, OPENING + CLOSING)
     else:
-        begin = spot if here in OPENING else None
+        begin = position if here in OPENING else None
         if begin is None:
-            return word_end(rows, spot, OPENING)
+            return word_end(rows, position, OPENING)
     found = other_bracket(rows, begin, letter_at(rows, begin)) if begin else None
-    return found or spot
+    return found or position
 
 
-def matched_back(rows: Rows, spot: Spot) -> Spot:
+def matched_back(rows: Rows, position: Position) -> Position:
     """The bracket that opens what the one here, or before it, closes; the word before where none does, which brackets and blanks part."""
-    begin: Spot | None = spot
-    if not rows.length(spot[0]):
-        return spot
-    if not is_in(rows, spot, CLOSING):
-        begin = left(rows, spot) if spot[1] else None
+    begin: Position | None = position
+    if not rows.length(position[0]):
+        return position
+    if not is_in(rows, position, CLOSING):
+        begin = left(rows, position) if position[1] else None
         if begin is None or not is_in(rows, begin, CLOSING):
-            return previous_word(rows, spot, CLOSING)
+            return previous_word(rows, position, CLOSING)
     found = other_bracket(rows, begin, letter_at(rows, begin)) if begin else None
-    return found or spot
+    return found or position

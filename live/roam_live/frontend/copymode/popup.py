@@ -1,7 +1,7 @@
 """Where copy mode is drawn at a person's terminal, and what stands there: the lines of its view, its cursor, and a line in the last row."""
 from __future__ import annotations
 
-from roam_live.frontend.popup import Drawing
+from roam_live.frontend.popup import Popup
 from roam_live.protocol.panes import Rect
 
 TYPE_CHECKING = False
@@ -30,7 +30,7 @@ class CopyScreen:
 
     def lay(self) -> None:
         """Draws it over its rectangle."""
-        self.display.lay(Drawing(self.rect, self.lines, self.cursor))
+        self.display.lay(Popup(self.rect, self.lines, self.cursor))
         self.say()
 
     def lines(self) -> list[bytes]:
@@ -70,7 +70,7 @@ class CopyScreen:
         try:
             back, most = mode.view.back()
         except Missing:
-            return self.display.drawing_line
+            return self.display.popup_line
         came = f"{self.came} row{'s' * (self.came != 1)} came since" if self.came else ""
         count = f"(repeat) {mode.count.digits}" if mode.count.digits else ""
         return "; ".join(filter(None, (f"[{back}/{most}] copy mode", came, count, mode.told)))

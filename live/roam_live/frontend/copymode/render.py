@@ -10,7 +10,7 @@ from roam_live.protocol.screen_cells import FLAGS, Colour, Style
 TYPE_CHECKING = False
 if TYPE_CHECKING:
     from roam_live.frontend.copymode.mode import CopyMode
-    from roam_live.frontend.copymode.rows import KeptRow, Line
+    from roam_live.frontend.copymode.rows import Line, ScrollbackRow
     from roam_live.frontend.copymode.search import Match
 
 NUMBERS = {name: number for number, name in FLAGS.items()}
@@ -60,42 +60,42 @@ class LinePainter:
         self.selected = mode.selected()
         self.found: dict[int, list[Match]] = {}
 
-    def styles(self, row: int, kept: KeptRow, begin: int, end: int) -> list[Style]:
+    def styles(self, row: int, content: ScrollbackRow, begin: int, end: int) -> list[Style]:
         """The styles of columns, with what is found, and what is selected, to be seen."""
-        styles = kept.styles[begin:end]
+        styles = content.styles[begin:end]
         styles += [PLAIN] * (end - begin - len(styles))
         for match in self.found[row]:
             (first, low), (last, high) = match
             style = CURRENT if match == self.mode.match else MATCH
             for col in range(max(begin, low if first == row else 0), min(end, high if last == row else end)):
                 styles[col - begin] = style
-        selected = self.columns(row, kept)
+        selected = self.columns(row, content)
         for col in range(max(begin, selected[0]), min(end, selected[1])) if selected else ():
             styles[col - begin] = reversed_of(styles[col - begin])
         return styles
 
-    def columns(self, row: int, kept: KeptRow) -> tuple[int, int] | None:
+    def columns(self, row: int, content: ScrollbackRow) -> tuple[int, int] | None:
         """The columns of a row that are selected; of a wide character that is cut both halves are."""
         columns = self.selected.of(row) if self.selected else None
         if not columns or columns[0] >= columns[1]:
             return None
         begin, end = columns
-        return begin - kept.is_right_half(begin), end + kept.is_right_half(end)
+        return begin - content.is_right_half(begin), end + content.is_right_half(end)
 
     def line(self, line: Line) -> bytes:
         """The text of a line."""
         row = line[0]
-        kept = self.mode.rows.row(row)
+        content = self.mode.rows.row(row)
         if row not in self.found:
             self.found[row] = line_matches(self.mode, row)
         begin, end = self.mode.rows.span_of(line)
         end = min(end, begin + self.cols)
-        letters = [kept.at(col) for col in range(begin, end)]
+        letters = [content.at(col) for col in range(begin, end)]
         # No room is for both halves of a wide character that is cut.
-        for at, is_cut in ((0, letters[0] == ""), (-1, kept.is_right_half(end))):
+        for at, is_cut in ((0, letters[0] == ""), (-1, content.is_right_half(end))):
             letters[at] = " " if is_cut else letters[at]
         parts, at = [], 0
-        for style, same in itertools.groupby(self.styles(row, kept, begin, end)):
+        for style, same in itertools.groupby(self.styles(row, content, begin, end)):
             behind = at + len(list(same))
             parts += [sgr_of(style), self.text(letters, at, behind)]
             at = behind

@@ -1,4 +1,4 @@
-"""What copy mode asks the keeper of shells for: rows of its snapshot that aren't here, and where a text is next. One question at a time is
+"""What copy mode asks the pty host for: rows of its snapshot that aren't here, and where a text is next. One question at a time is
 on its way; what needs the answer is done again once that is there."""
 from __future__ import annotations
 
@@ -9,7 +9,7 @@ if TYPE_CHECKING:
     from roam_live.frontend.copymode.controller import Copying
     from roam_live.frontend.copymode.rows import Missing
     from roam_live.frontend.copymode.search import MissingFind
-    from roam_live.protocol.scrollback_client import RowsLink
+    from roam_live.protocol.scrollback_client import ScrollbackClient
 
 # So many rows are asked for at once at most, and so many pages at first: the one that is needed, and one ahead.
 MOST_ASKED = 2000
@@ -56,17 +56,17 @@ class CopyAsking:
         from roam_live.frontend.copymode.rows import MissingRows
         from roam_live.frontend.copymode.search import MissingFind
 
-        kept = self.copying.kept()
-        if not kept:
+        scrollback = self.copying.scrollback()
+        if not scrollback:
             return
         self.is_waiting = True
         self.tell_later()
         if isinstance(lack, MissingFind):
-            self.ask_find(kept, lack)
+            self.ask_find(scrollback, lack)
         elif isinstance(lack, MissingRows):
-            self.ask_rows(kept, lack.row)
+            self.ask_rows(scrollback, lack.row)
 
-    def ask_find(self, kept: RowsLink, lack: MissingFind) -> None:
+    def ask_find(self, scrollback: ScrollbackClient, lack: MissingFind) -> None:
         """Asks where a text is next."""
         copying, opening = self.copying, self.copying.opening
 
@@ -79,9 +79,9 @@ class CopyAsking:
             copying.mode.finds.put(lack, row)
             self.answered()
 
-        kept.find(copying.pane, copying.life, lack.first, lack.is_back, lack.text, take)
+        scrollback.find(copying.pane, copying.generation, lack.first, lack.is_back, lack.text, take)
 
-    def ask_rows(self, kept: RowsLink, row: int) -> None:
+    def ask_rows(self, scrollback: ScrollbackClient, row: int) -> None:
         """Asks for a row and those behind it, or before it where those behind it are here: ever more while one thing needs them."""
         copying, opening = self.copying, self.copying.opening
         if not copying.mode:
@@ -101,14 +101,14 @@ class CopyAsking:
                 self.answered()
             elif lines and first <= at and at + len(lines) <= row:
                 # Fewer came than were asked for.
-                kept.rows(copying.pane, copying.life, at + len(lines), row - at - len(lines) + 1, take)
+                scrollback.rows(copying.pane, copying.generation, at + len(lines), row - at - len(lines) + 1, take)
             elif not lines and copying.is_connecting():
                 # Rows keep their numbers: they are asked for again once there is another connection.
                 self.loop.later("copy asks again", ASKS_AGAIN, self.answered)
             else:
                 copying.close(GONE)
 
-        kept.rows(copying.pane, copying.life, first, count, take)
+        scrollback.rows(copying.pane, copying.generation, first, count, take)
 
     def answered(self) -> None:
         """Goes on with what waited for an answer."""

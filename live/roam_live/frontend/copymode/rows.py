@@ -1,4 +1,4 @@
-"""The rows that copy mode shows: as the keeper's filter prints them, read into cells, and laid out on lines of a pane's width."""
+"""The rows that copy mode shows: as the host's filter prints them, read into cells, and laid out on lines of a pane's width."""
 from __future__ import annotations
 
 import unicodedata
@@ -10,7 +10,7 @@ from roam_live.protocol.screen_cells import Style, styled
 TYPE_CHECKING = False
 if TYPE_CHECKING:
     # A row by its number, and a column from 0; and a line: a row, and which of the lines that it takes.
-    Spot = tuple[int, int]
+    Position = tuple[int, int]
     Line = tuple[int, int]
 
 # How a row begins that goes on in the next.
@@ -57,7 +57,7 @@ class MissingRows(Missing):
         self.row = row
 
 
-class KeptRow(namedtuple("KeptRow", "goes_on letters styles length")):
+class ScrollbackRow(namedtuple("ScrollbackRow", "goes_on letters styles length")):
     """A row: whether it goes on in the next, what stands in each column (nothing in the right half of a wide character) and its style, and
     how many columns it has without the blanks at its end."""
 
@@ -145,7 +145,7 @@ class RowReader:
             self.letters[at] += letter
 
 
-def row_of(line: bytes, cols: int = 0) -> KeptRow:
+def row_of(line: bytes, cols: int = 0) -> ScrollbackRow:
     """A row as the filter prints it, of a pane of so many columns: of one that goes on the blanks that were left out stand at its end."""
     text = line[:MOST_ROW_BYTES].decode("utf-8", "replace")
     reader = RowReader()
@@ -158,7 +158,7 @@ def row_of(line: bytes, cols: int = 0) -> KeptRow:
     length = len(letters)
     while length and letters[length - 1] == " ":
         length -= 1
-    return KeptRow(goes_on, letters, styles, length)
+    return ScrollbackRow(goes_on, letters, styles, length)
 
 
 class Rows:
@@ -171,7 +171,7 @@ class Rows:
         self.size = 0
         # Rows from this one on stay, whatever is forgotten: those of the screen, by which the lowest view is known.
         self.stays = end
-        self.celled: OrderedDict[int, KeptRow] = OrderedDict()
+        self.celled: OrderedDict[int, ScrollbackRow] = OrderedDict()
 
     def put(self, row: int, lines: Iterable[bytes]) -> None:
         """Has rows from one on."""
@@ -199,7 +199,7 @@ class Rows:
         """The last row."""
         return self.end - 1
 
-    def row(self, row: int) -> KeptRow:
+    def row(self, row: int) -> ScrollbackRow:
         """A row's cells."""
         found = self.celled.get(row)
         if found is not None:
@@ -236,16 +236,16 @@ class Rows:
 
     def begins(self, row: int) -> list[int]:
         """The columns at which the lines begin that a row takes: no wide character is cut."""
-        found, begin, kept = [0], self.cols, self.row(row)
-        while begin < kept.length:
-            begin -= kept.is_right_half(begin)
+        found, begin, content = [0], self.cols, self.row(row)
+        while begin < content.length:
+            begin -= content.is_right_half(begin)
             found.append(begin)
             begin += self.cols
         return found
 
-    def line_of(self, spot: Spot) -> Line:
+    def line_of(self, position: Position) -> Line:
         """The line on which a place stands."""
-        row, col = spot
+        row, col = position
         return row, max(part for part, begin in enumerate(self.begins(row)) if begin <= col)
 
     def span_of(self, line: Line) -> tuple[int, int]:

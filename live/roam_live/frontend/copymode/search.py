@@ -5,10 +5,10 @@ from roam_live.frontend.copymode.rows import Missing
 
 TYPE_CHECKING = False
 if TYPE_CHECKING:
-    from roam_live.frontend.copymode.rows import Rows, Spot
+    from roam_live.frontend.copymode.rows import Position, Rows
 
     # A match: its first place, and that behind its last character.
-    Match = tuple[Spot, Spot]
+    Match = tuple[Position, Position]
 
 # So many rows that go on in one another are looked at together, before one and behind it.
 MOST_JOINED_ROWS = 64
@@ -73,12 +73,12 @@ def matches(rows: Rows, row: int, text: str, is_here: bool = False) -> list[Matc
         return []
     first, last = joined(rows, row, is_here)
     letters: list[str] = []
-    spots: list[Spot] = []
+    positions: list[Position] = []
     for number in range(first, last + 1):
-        kept = rows.row(number)
-        for col, letter in enumerate(kept.letters if rows.goes_on(number) else kept.letters[: kept.length]):
+        content = rows.row(number)
+        for col, letter in enumerate(content.letters if rows.goes_on(number) else content.letters[: content.length]):
             letters += letter
-            spots += [(number, col)] * len(letter)
+            positions += [(number, col)] * len(letter)
     whole = "".join(letters)
     if not is_cased(text):
         # A character that becomes more than one would move what is behind it.
@@ -86,24 +86,24 @@ def matches(rows: Rows, row: int, text: str, is_here: bool = False) -> list[Matc
     found: list[Match] = []
     at = whole.find(text)
     while at >= 0:
-        row_of_last, col = spots[at + len(text) - 1]
+        row_of_last, col = positions[at + len(text) - 1]
         behind = col + 1 + rows.row(row_of_last).is_right_half(col + 1)
-        found.append((spots[at], (row_of_last, behind)))
+        found.append((positions[at], (row_of_last, behind)))
         at = whole.find(text, at + len(text))
     return found
 
 
-def next_match(rows: Rows, finds: Finds, spot: Spot, text: str, is_back: bool) -> Match | None:
+def next_match(rows: Rows, finds: Finds, position: Position, text: str, is_back: bool) -> Match | None:
     """The match at a place or behind it, or the one before it; behind the last, or before the first, at the other end. None where a text
     stands nowhere."""
-    near = matches(rows, spot[0], text)
+    near = matches(rows, position[0], text)
     if is_back:
-        near = [match for match in near if match[0] < spot]
+        near = [match for match in near if match[0] < position]
     else:
-        near = [match for match in near if match[0] >= spot]
+        near = [match for match in near if match[0] >= position]
     if near:
         return near[-1 if is_back else 0]
-    found = far_match(rows, finds, joined(rows, spot[0], False)[0 if is_back else 1], text, is_back)
+    found = far_match(rows, finds, joined(rows, position[0], False)[0 if is_back else 1], text, is_back)
     if found:
         return found
     # From the other end: the first row itself isn't behind any.
@@ -113,7 +113,7 @@ def next_match(rows: Rows, finds: Finds, spot: Spot, text: str, is_back: bool) -
 
 def far_match(rows: Rows, finds: Finds, row: int | None, text: str, is_back: bool) -> Match | None:
     """The next match behind a row, or before it. A row that is told and has none here, since what joins rows is known otherwise at the
-    keeper, is passed over."""
+    host, is passed over."""
     for _ in range(MOST_PASSED):
         row = finds.row(row, is_back, text) if row is not None else None
         if row is None or not rows.first <= row < rows.end:

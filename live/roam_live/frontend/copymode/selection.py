@@ -7,7 +7,7 @@ from roam_live.frontend.copymode.motions import BLANK, SEPARATORS, is_in, last_o
 
 TYPE_CHECKING = False
 if TYPE_CHECKING:
-    from roam_live.frontend.copymode.rows import Rows, Spot
+    from roam_live.frontend.copymode.rows import Position, Rows
 
 # What is selected at once: characters, or whole words or lines round the place where that began.
 CHARACTERS, WORDS, LINES = "characters", "words", "lines"
@@ -19,13 +19,13 @@ MOST_COPIED = 1 << 20
 class Selection:
     """A selection: the place at which it began, and the end that goes with the cursor. `o` changes these two."""
 
-    def __init__(self, spot: Spot, kind: str = CHARACTERS, is_vi: bool = False) -> None:
-        self.begin, self.end, self.kind, self.is_vi = spot, spot, kind, is_vi
+    def __init__(self, position: Position, kind: str = CHARACTERS, is_vi: bool = False) -> None:
+        self.begin, self.end, self.kind, self.is_vi = position, position, kind, is_vi
         # Whether the cursor is at the end, or at the beginning.
         self.is_at_end = True
         # The word or lines round which more is selected, and where the cursor was.
-        self.core = spot, spot
-        self.origin = spot
+        self.core = position, position
+        self.origin = position
         # Of words and lines: what the cursor keeps to where it goes up or down, the end of its line or its beginning.
         self.keeps = ""
 
@@ -33,57 +33,57 @@ class Selection:
         """One like it."""
         return copy.copy(self)
 
-    def fixed(self) -> Spot:
+    def fixed(self) -> Position:
         """The end that doesn't go with the cursor."""
         return self.begin if self.is_at_end else self.end
 
-    def follow(self, rows: Rows, spot: Spot) -> None:
+    def follow(self, rows: Rows, position: Position) -> None:
         """Goes with the cursor."""
         is_begin = not self.is_at_end
         if self.kind == WORDS:
-            is_begin = spot < self.origin
+            is_begin = position < self.origin
             if is_begin:
-                spot, self.end = previous_word(rows, spot, SEPARATORS, False), self.core[1]
+                position, self.end = previous_word(rows, position, SEPARATORS, False), self.core[1]
             else:
-                if spot[1] >= rows.length(spot[0]) or not is_in(rows, (spot[0], spot[1] + 1), BLANK):
-                    spot = end_of_word(rows, spot, self.is_vi)
+                if position[1] >= rows.length(position[0]) or not is_in(rows, (position[0], position[1] + 1), BLANK):
+                    position = end_of_word(rows, position, self.is_vi)
                 self.begin = self.core[0]
         elif self.kind == LINES:
-            is_begin = spot[0] < self.origin[0]
+            is_begin = position[0] < self.origin[0]
             if is_begin:
-                spot, self.end = (spot[0], 0), self.core[1]
+                position, self.end = (position[0], 0), self.core[1]
             else:
-                row = max(spot[0], self.core[1][0])
-                spot, self.begin = (row, rows.length(row)), self.core[0]
+                row = max(position[0], self.core[1][0])
+                position, self.begin = (row, rows.length(row)), self.core[0]
         if is_begin:
-            self.begin = spot
+            self.begin = position
         else:
-            self.end = spot
+            self.end = position
 
-    def turn(self) -> Spot:
+    def turn(self) -> Position:
         """Has the cursor be at the other end, which is told."""
         self.keeps = {"end": "begin", "begin": "end"}.get(self.keeps, "")
         self.is_at_end = not self.is_at_end
         return self.end if self.is_at_end else self.begin
 
 
-def end_of_word(rows: Rows, spot: Spot, is_vi: bool) -> Spot:
+def end_of_word(rows: Rows, position: Position, is_vi: bool) -> Position:
     """The end of the word here: with vi's keys its last character, else the place behind it."""
-    return last_of_word(rows, spot, SEPARATORS) if is_vi else word_end(rows, spot, SEPARATORS)
+    return last_of_word(rows, position, SEPARATORS) if is_vi else word_end(rows, position, SEPARATORS)
 
 
-def lines_at(rows: Rows, spot: Spot) -> tuple[Selection, Spot]:
+def lines_at(rows: Rows, position: Position) -> tuple[Selection, Position]:
     """The selection of the row here with those that go on to it and from it, and where the cursor is then."""
-    selection = Selection(line_begin(rows, spot), LINES)
-    selection.origin, selection.keeps = spot, "end"
-    cursor = line_end(rows, spot)
+    selection = Selection(line_begin(rows, position), LINES)
+    selection.origin, selection.keeps = position, "end"
+    cursor = line_end(rows, position)
     selection.core, selection.end = (selection.begin, cursor), cursor
     return selection, cursor
 
 
-def word_at(rows: Rows, spot: Spot, is_vi: bool) -> tuple[Selection, Spot]:
+def word_at(rows: Rows, position: Position, is_vi: bool) -> tuple[Selection, Position]:
     """The selection of the word here, and where the cursor is then."""
-    begin = previous_word(rows, spot, SEPARATORS, False)
+    begin = previous_word(rows, position, SEPARATORS, False)
     selection = Selection(begin, WORDS, is_vi)
     row, col = begin
     after = (row + 1, 0) if rows.goes_on(row) and col + 1 >= len(rows.row(row).letters) else (row, col + 1)
@@ -92,14 +92,14 @@ def word_at(rows: Rows, spot: Spot, is_vi: bool) -> tuple[Selection, Spot]:
     if col >= rows.length(row) or not is_in(rows, after, BLANK):
         cursor = end_of_word(rows, begin, is_vi)
     selection.core, selection.end = (begin, cursor), cursor
-    selection.origin, selection.keeps = min(spot, cursor), "end"
+    selection.origin, selection.keeps = min(position, cursor), "end"
     return selection, cursor
 
 
 class Columns:
     """Which columns are selected in each row: of the first, the last and those between. To be shown it needs no row that isn't here."""
 
-    def __init__(self, rows: Rows, selection: Selection, cursor: Spot, is_block: bool, is_vi: bool, is_shown: bool = False) -> None:
+    def __init__(self, rows: Rows, selection: Selection, cursor: Position, is_block: bool, is_vi: bool, is_shown: bool = False) -> None:
         self.rows, self.is_block = rows, is_block
         self.first, self.last = min(selection.begin, selection.end), max(selection.begin, selection.end)
         is_far = is_shown and not rows.has(self.last[0])
@@ -125,19 +125,19 @@ class Columns:
             return None
         begin = self.ends[0] if row == self.first[0] else self.begin
         end = self.ends[2] if row == self.last[0] else self.ends[1]
-        kept = self.rows.row(row)
-        whole = max(len(kept.letters), self.rows.cols)
+        content = self.rows.row(row)
+        whole = max(len(content.letters), self.rows.cols)
         return begin, whole if end is None else end
 
     def text(self, row: int) -> str:
         """What is copied of a row, with an end of line where the row doesn't go on, or not so far."""
-        columns, kept = self.of(row), self.rows.row(row)
+        columns, content = self.of(row), self.rows.row(row)
         if not columns or columns[0] > columns[1]:
             return ""
         is_joined = self.rows.goes_on(row)
-        most = len(kept.letters) if is_joined else kept.length
+        most = len(content.letters) if is_joined else content.length
         begin, end = min(columns[0], most), min(columns[1], most)
-        return kept.text(begin, end) + ("" if is_joined and end == most else "\n")
+        return content.text(begin, end) + ("" if is_joined and end == most else "\n")
 
 
 class CopiedText:

@@ -7,7 +7,7 @@ from roam_live.frontend.copymode.motions import line_end
 
 TYPE_CHECKING = False
 if TYPE_CHECKING:
-    from roam_live.frontend.copymode.rows import Line, Rows, Spot
+    from roam_live.frontend.copymode.rows import Line, Position, Rows
     from roam_live.frontend.copymode.selection import Selection
 
 
@@ -17,7 +17,7 @@ class CopyView:
     def __init__(self, rows: Rows, height: int) -> None:
         self.rows, self.height = rows, height
         self.top: Line = (rows.first, 0)
-        self.spot: Spot = (rows.first, 0)
+        self.position: Position = (rows.first, 0)
         # The column to which the cursor comes back where a line is long enough, and how long the line was where it had that.
         self.wanted, self.wanted_of = 0, 0
         self.selection: Selection | None = None
@@ -37,7 +37,7 @@ class CopyView:
 
     def line(self) -> Line:
         """The cursor's line."""
-        return self.rows.line_of(self.spot)
+        return self.rows.line_of(self.position)
 
     def lines(self) -> list[Line]:
         """The lines that are shown."""
@@ -46,7 +46,7 @@ class CopyView:
     def cursor(self) -> tuple[int, int]:
         """Where the cursor stands among them: a line and a column, from 0."""
         line = self.line()
-        return self.depth(), min(self.spot[1] - self.rows.span_of(line)[0], self.rows.cols - 1)
+        return self.depth(), min(self.position[1] - self.rows.span_of(line)[0], self.rows.cols - 1)
 
     def depth(self) -> int:
         """How many lines the cursor is below the top."""
@@ -64,18 +64,18 @@ class CopyView:
 
     # ---- moves
 
-    def go(self, spot: Spot) -> None:
+    def go(self, position: Position) -> None:
         """Puts the cursor on a place, and scrolls as little as shows it."""
-        self.spot = spot
+        self.position = position
         line = self.line()
         if line < self.top:
             self.top = line
         elif line > self.rows.below(self.top, self.height - 1):
             self.top = self.rows.above(line, self.height - 1)
 
-    def jump(self, spot: Spot) -> None:
+    def jump(self, position: Position) -> None:
         """Puts the cursor on a place, which is shown a quarter above the bottom where it wasn't shown before."""
-        self.spot = spot
+        self.position = position
         line = self.line()
         if line not in self.lines():
             _, above = self.rows.up(line, self.height)
@@ -86,7 +86,7 @@ class CopyView:
     def want_column(self) -> None:
         """Keeps the column to which the cursor comes back, where it isn't at the end of its line."""
         line = self.line()
-        col, length = self.spot[1] - self.rows.span_of(line)[0], self.rows.line_length(line)
+        col, length = self.position[1] - self.rows.span_of(line)[0], self.rows.line_length(line)
         if col != length:
             self.wanted, self.wanted_of = col, length
 
@@ -96,14 +96,14 @@ class CopyView:
 
     def column(self) -> int:
         """The cursor's column on its line, or the one to which it comes back."""
-        return self.wanted if self.is_free() else self.spot[1] - self.rows.span_of(self.line())[0]
+        return self.wanted if self.is_free() else self.position[1] - self.rows.span_of(self.line())[0]
 
     def put_on(self, line: Line, col: int, is_clamped: bool = True) -> None:
         """Puts the cursor on a line, at a column as far as there are characters, or at the end, where it was there."""
         begin, length = self.rows.span_of(line)[0], self.rows.line_length(line)
         if is_clamped and (col >= self.wanted_of and col != length or col > length):
             col = length
-        self.spot = line[0], begin + col
+        self.position = line[0], begin + col
 
     def step(self, by: int, scrolls: bool = False) -> None:
         """Goes a line up or down; or scrolls so, with the cursor where it stands."""
@@ -126,7 +126,7 @@ class CopyView:
         self.put_on(line, col, is_free)
         if selection and selection.keeps:
             length = rows.cols if self.is_block else rows.line_length(line)
-            self.spot = line[0], rows.span_of(line)[0] + (length if selection.keeps == "end" else 0)
+            self.position = line[0], rows.span_of(line)[0] + (length if selection.keeps == "end" else 0)
 
     def page(self, by: int, is_half: bool = False) -> None:
         """Goes a page up or down, less two lines, or half of one."""
@@ -148,7 +148,7 @@ class CopyView:
         self.put_on(line, wanted, False)
         length = rows.line_length(line)
         if self.is_free() and (wanted >= self.wanted_of and wanted != length or wanted > length):
-            self.go(line_end(rows, self.spot))
+            self.go(line_end(rows, self.position))
 
     def put_at(self, depth: int, col: int = 0) -> None:
         """Puts the cursor on a line that is shown, at a column as far as there are characters."""
@@ -156,28 +156,28 @@ class CopyView:
         line = lines[max(0, min(depth, len(lines) - 1))]
         begin, _ = self.rows.span_of(line)
         col = max(0, col) if self.is_block and self.selection else max(0, min(col, self.rows.line_length(line)))
-        self.spot = line[0], begin + col
+        self.position = line[0], begin + col
 
     def go_top(self) -> None:
         """Goes to the first row."""
         self.turn_where(self.selection is not None and self.selection.keeps == "end")
         self.top = self.rows.first_line()
-        self.spot = self.top[0], 0
+        self.position = self.top[0], 0
 
     def go_bottom(self) -> None:
         """Goes to the end of the last row."""
         self.turn_where(self.selection is not None and self.selection.keeps == "begin")
         self.top = self.lowest_top()
-        self.spot = self.rows.last(), self.rows.length(self.rows.last())
+        self.position = self.rows.last(), self.rows.length(self.rows.last())
 
     def turn_where(self, is_kept: bool) -> None:
         """Has the cursor be at the other end of lines that are selected, where it is on the row at which they begin."""
-        if is_kept and self.selection and self.spot[0] == self.selection.fixed()[0]:
+        if is_kept and self.selection and self.position[0] == self.selection.fixed()[0]:
             self.other_end()
 
     def go_back(self, count: int) -> None:
         """Shows lines so many rows above the last, with the cursor where it stands."""
-        depth, col = self.depth(), self.spot[1] - self.rows.span_of(self.line())[0]
+        depth, col = self.depth(), self.position[1] - self.rows.span_of(self.line())[0]
         self.top = self.rows.above(self.lowest_top(), count)
         self.put_at(depth, col)
 
@@ -191,11 +191,11 @@ class CopyView:
     def follow(self) -> None:
         """Has what is selected go with the cursor."""
         if self.selection:
-            self.selection.follow(self.rows, self.spot)
+            self.selection.follow(self.rows, self.position)
 
     def clamp(self) -> None:
         """Has the cursor be no further than behind the last character of its row."""
-        self.spot = self.spot[0], min(self.spot[1], self.rows.length(self.spot[0]))
+        self.position = self.position[0], min(self.position[1], self.rows.length(self.position[0]))
 
     def clear_selection(self) -> None:
         """Selects nothing any more."""
