@@ -3,6 +3,7 @@ import argparse
 import io
 import os
 import pathlib
+import re
 import types
 from unittest import mock
 
@@ -10,6 +11,7 @@ from aids import Case, loaded
 from roam_live.cli import capture, cmd, paste, scrollback, send, ssh, targets, windows
 from roam_live.cli.args import TMUX_WORDS
 from roam_live.common.errors import Fault
+from roam_live.common.process import TOOLS
 from roam_live.config import environment as config_environment
 from roam_live.config.user_file import OWN, settings_path
 from roam_live.frontend import app
@@ -602,6 +604,33 @@ class Words(Mux):
         with self.assertRaises(SystemExit):
             self.mux("kill", "--help")
         self.assertIn("ends a session and the programs in it", self.text.getvalue())
+
+    def test_unknown_variables(self):
+        """An unknown variable is named in one printable line on standard error, with the one that it is near to; up to four are."""
+        hint = " (did you mean ROAM_PREDICT?)"
+        for name, line in (("ROAM_GUES", f"ROAM_GUES{hint}"), ("ROAM_GUESS", f"ROAM_GUESS{hint}"), ("ROAM_PREDCIT", f"ROAM_PREDCIT{hint}"),
+                           ("ROAM_HISTROY", "ROAM_HISTROY (did you mean ROAM_HISTORY?)"), ("ROAM_ZEBRA", "ROAM_ZEBRA"),
+                           ("ROAM_", "ROAM_"), ("ROAM_\x1b[2J\n\udcff", "ROAM_?[2J??"), ("ROAM_" + "X" * 99, f"ROAM_{'X' * 35}..")):
+            self.assertEqual(mux.unknown_lines([name, "ROAM", "ROAMING", "HOME"]), [f"roam: unknown variable {line}"])
+        self.assertEqual(mux.unknown_lines([*config_environment.VARIABLES, *config_environment.INTERNAL_VARIABLES]), [])
+        lines = mux.unknown_lines(f"ROAM_X{number}" for number in range(9))
+        self.assertEqual([*lines[3:], len(lines)], ["roam: unknown variable ROAM_X3", "roam: unknown variables: 5 more", 5])
+
+    def test_unknown_ignored(self):
+        """What was asked for is done; a far end says nothing of variables."""
+        self.environment(ROAM_GUES="never")
+        self.assertEqual(self.mux("help", "ls"), 0)
+        self.assertEqual(self.said.getvalue(), "roam: unknown variable ROAM_GUES (did you mean ROAM_PREDICT?)\n")
+        self.is_terminal = False
+        with mock.patch.object(ssh, "carry", return_value=0):
+            self.assertEqual(self.mux("far", "main"), 0)
+        self.assertEqual(self.said.getvalue().count("ROAM_GUES"), 1)
+
+    def test_variables(self):
+        """Each variable that stands in live/ is listed, and each that is listed stands there otherwise too."""
+        files = [path for path in TOOLS.rglob("*") if path.is_file() and path.suffix != ".pyc" and path.parts[-2:] != ("config", "environment.py")]
+        found = {name for path in files for name in re.findall(r"\bROAM_[A-Z]+\b", path.read_text(encoding="utf-8", errors="replace"))}
+        self.assertEqual(found, {*config_environment.VARIABLES, *config_environment.INTERNAL_VARIABLES})
 
     def test_called(self):
         """It is called as it was named."""

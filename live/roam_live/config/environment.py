@@ -3,8 +3,13 @@ mouse, who sets the clipboard, how many rows are kept of a pane, and more; and w
 from __future__ import annotations
 
 import os
+from collections.abc import Iterable
 
 from roam_live.common.errors import Fault
+
+# The variables that roam reads: those that a person sets, and those that its tools pass to each other. A variable exists if it is here.
+VARIABLES = ("ROAM_CLIPBOARD", "ROAM_HISTORY", "ROAM_MOUSE", "ROAM_PREDICT", "ROAM_PREFIX", "ROAM_UDP", "ROAM_WHY")
+INTERNAL_VARIABLES = ("ROAM_CALLED", "ROAM_PANE", "ROAM_SPARE")
 
 # The keys that may be the prefix, by their names, and the one that is where nobody chose another.
 PREFIXES = {f"C-{letter}": chr(ord(letter) & 31) for letter in "abcdefghijklmnopqrstuvwxyz]\\^_"}
@@ -31,6 +36,11 @@ STATUS_INTERVAL = 15
 
 # Whose size a session has: the largest of its terminals, or that at which somebody types.
 WINDOW_SIZES = ("largest", "latest")
+
+
+def unknown_variables(names: Iterable[str]) -> list[str]:
+    """Return the names that begin like roam's variables and are none of them, in order."""
+    return sorted(name for name in names if name.startswith("ROAM_") and name not in VARIABLES + INTERNAL_VARIABLES)
 
 
 def choose_by_file(values: dict[str, str | int]) -> None:
