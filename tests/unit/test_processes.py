@@ -460,7 +460,7 @@ class Spawned(Based):
     def test_cleaned(self):
         """What is left goes, but for the log and the note of its end."""
         panes = [f"p{pane}" for pane in range(1, 10)]
-        names = ["clients", "panes", "terminals", "bells", *panes, "rects", "session", "session.new", "state.json"]
+        names = ["clients", "panes", "terminals", "bells", *panes, "session", "session.new", "state.json"]
         for name in [*names, "log", "lock", "ended", "own", "p0", "p10"]:
             (self.folder / name).touch()
         (self.folder / "attached").mkdir()

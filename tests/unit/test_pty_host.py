@@ -743,7 +743,6 @@ class Words(Case):
         folder = self.made_folder()
         self.words("pane_shells", str(folder))
         made, woken = self.patch_of(tool, "kept", return_value=0), self.patch_of(tool, "woken", return_value=self.pipe()[0])
-        (folder / "rects").touch()
         self.assertEqual(tool.main(), 0)
         self.assertEqual(os.listdir(folder), [])
         self.assertEqual((made.call_args[0][0].dir, woken.call_args[0]), (str(folder), (signal.SIGCHLD, signal.SIGTERM, signal.SIGHUP)))

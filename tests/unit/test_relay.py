@@ -215,7 +215,7 @@ class Nears(Ends):
         self.turn(2)
         self.assertEqual((self.near.forwards, self.near.link), (False, self.links[0]))
         self.assertEqual(self.said.getvalue().count("the other machine's roam is an earlier one"), 1)
-        self.assertEqual([name for name in ("panes", "bells", "host", "rects") if (self.folder / name).exists()], [])
+        self.assertEqual([name for name in ("panes", "bells", "host") if (self.folder / name).exists()], [])
 
     def test_ended(self):
         """The session's end ends it with status 0, and is noted."""

@@ -49,7 +49,7 @@ class Sessions(unittest.TestCase):
             self.addCleanup(patched.stop)
         self.folder = self.base / "main"
         self.folder.mkdir()
-        for name in ("session", "rects", "log"):
+        for name in ("session", "log"):
             (self.folder / name).touch()
         self.note(server=ENDED, host=ENDED)
 

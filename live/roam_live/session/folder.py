@@ -277,8 +277,7 @@ class FolderSession(Processes):
         # A front end that is there still reads how it ended.
         count_front_ends(self.folder)
         relays = self.folder / "relays"
-        # An earlier roam left `rects`.
-        notes = [self.folder / name for name in (*SOCKETS, LINK, REMOTE_CLIENTS, "rects", "session", "session.new", "state.json")]
+        notes = [self.folder / name for name in (*SOCKETS, LINK, REMOTE_CLIENTS, "session", "session.new", "state.json")]
         for path in [*(relays.iterdir() if relays.is_dir() else ()), *notes]:
             path.unlink(missing_ok=True)
         if self.served == "relay":

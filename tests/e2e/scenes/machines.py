@@ -262,7 +262,7 @@ def carried(folder):
     check("a session there is split", outer.status(" 1  2 [3]"), outer.rows)
     here = next(pathlib.Path(os.environ["XDG_RUNTIME_DIR"], "roam").glob("ssh:*"))
     sockets = [(here / name).is_socket() for name in ("panes", "bells", "host")]
-    check("sockets here stand for those there, and no file tells places", all(sockets) and not (here / "rects").exists(), sockets)
+    check("sockets here stand for those there", all(sockets), sockets)
     for number in (1, 2):
         check(f"{number}: ls here counts the panes there", comes(lambda: listed()[4:6] == ["3", "panes"]), listed)
         outer.type(b"\x02\x1b[D")
