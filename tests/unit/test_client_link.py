@@ -1,5 +1,4 @@
 """A terminal's connection to the client process, and how it is had again."""
-import contextlib
 import errno
 import os
 import socket
@@ -9,7 +8,7 @@ from aids import Case, read_now, record
 from roam_live.cli.connection import opened
 from roam_live.common.errors import Fault
 from roam_live.common.event_loop import READ, WRITE
-from roam_live.protocol.client_link import EARLIER, FIRST_WAIT, LET_GO, LOST, MOST_ACTS, NO_MORE, PAUSES, SILENT, ClientLink, Reconnector
+from roam_live.protocol.client_link import FIRST_WAIT, LET_GO, LOST, MOST_ACTS, NO_MORE, NO_RECORDS, PAUSES, SILENT, ClientLink, Reconnector
 
 
 class SocketPeer:
@@ -156,7 +155,7 @@ class Lines(Linked):
         link.close()
         link.close()
         self.assertIsNone(link.peer)
-        for text, why in ((b"\nevents\nwhat\n", LET_GO), (b"full\n", NO_MORE), (b"", NO_MORE), (b"\x1bcroam: line 1: bad act", EARLIER),
+        for text, why in ((b"\nevents\nwhat\n", LET_GO), (b"full\n", NO_MORE), (b"", NO_MORE), (b"\x1bcroam: line 1: bad act", NO_RECORDS),
                           (b"\nevents\nrefused 3 bad act\n", "the client process refused a line: bad act")):
             link, other = self.link(False)
             other.send(text)
@@ -220,7 +219,6 @@ class AnySession:
         self.client = self.noted = 1
         self.served, self.full = True, False
         self.revived, self.fault, self.reads = 0, None, 0
-        self.earlier = []
 
     def __str__(self):
         return "in /folder"
@@ -247,21 +245,12 @@ class AnySession:
         """Whether the server hears no other client."""
         return self.full
 
-    def revive(self, earlier=None):
+    def revive(self):
         """Starts it."""
         if self.fault:
             raise self.fault
         self.revived += 1
-        self.earlier.append(earlier)
         self.noted = 2
-
-    def locked(self):
-        """Its lock."""
-        return contextlib.nullcontext()
-
-    def demand_client(self, earlier=None):
-        """Sees that a client is there."""
-        self.earlier.append(earlier)
 
 
 class Dropped(Linked):
@@ -335,16 +324,6 @@ class Kept(Linked):
         self.assertEqual(self.reconnector.connected(), LET_GO)
         self.link.has_come = self.link.records.begun = True
         self.assertEqual(self.reconnector.lost(), LET_GO)
-
-    def test_earlier(self):
-        """In place of a client that knows no records another is launched at once, of which no loss is told."""
-        self.reconnector.connect()
-        self.reconnector.connected()
-        self.link.has_come = True
-        self.assertEqual((self.reconnector.lost(), self.reconnector.pause()), (EARLIER, 0.1))
-        self.assertEqual(self.reconnector.connect(), (0.02, ""))
-        self.assertEqual((self.place.revived, self.place.earlier), (1, [os.getpid()]))
-        self.assertEqual((self.reconnector.connect(), self.reconnector.connected()), (None, ""))
 
     def test_pauses(self):
         """0.1 s, and longer with each end that comes soon; a connection that lasted 5 s had no fault."""
@@ -437,19 +416,13 @@ class Opened(Linked):
     def test_there(self):
         self.assertEqual(FIRST_WAIT, 5.0)
         link = self.opened(b"\x1bc\nevents\n")
-        self.assertEqual((link.records.begun, link.is_read_only, self.place.earlier), (True, True, []))
-
-    def test_earlier(self):
-        """In place of a client of an earlier roam another is demanded, once."""
-        self.assertTrue(self.opened(b"\x1bc", b"\nevents\n").records.begun)
-        self.assertEqual(self.place.earlier, [os.getpid()])
-        with self.assertRaisesRegex(Fault, f"^{EARLIER}$"):
-            self.opened(b"\x1bc", b"\x1bc")
+        self.assertEqual((link.records.begun, link.is_read_only), (True, True))
 
     def test_refused(self):
         with self.assertRaisesRegex(Fault, f"^{NO_MORE}$"):
             self.opened(b"full\n")
+        with self.assertRaisesRegex(Fault, f"^{NO_RECORDS}$"):
+            self.opened(b"\x1bc")
         waits = mock.patch("roam_live.protocol.client_link.ready", lambda *_: self.pass_time(1) or 0)
         with waits, self.assertRaisesRegex(Fault, f"^{SILENT}$"):
             opened(self.place, False)
-        self.assertEqual(self.place.earlier, [])

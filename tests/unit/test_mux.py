@@ -48,7 +48,6 @@ class Mux(Case):
             self.patch_each(name, self.does(name))
         self.patch_each("find", lambda session: session.name in self.runs)
         self.patch_each("runs", lambda session, role=None: session.name in self.runs)
-        self.patch_of(FolderSession, "demand_age", self.does("demand_age"))
         self.patch_each("busy", lambda session: {1: "vi"})
         self.patch_of(WindowedSession, "busy_programs", FolderSession.busy_programs)
         # Its windows are no matter here: it is as one that has no others.
@@ -108,7 +107,7 @@ class Attaches(Mux):
         for words in (("attach",), ("main",), ("attach", "main"), ("attach", "--predict", "never", "main")):
             self.done.clear()
             self.assertEqual(self.mux(*words), 7)
-            self.assertEqual([one[0] for one in self.done], ["demand_age", "note_found", "demand_host", "demand_client"])
+            self.assertEqual([one[0] for one in self.done], ["note_found", "demand_host", "demand_client"])
             self.assertFalse(self.follows.call_args[0][4](None))
         self.assertEqual(self.follows.call_args[0][3], "never")
 
@@ -272,7 +271,7 @@ class Starts(Mux):
             self.assertFalse(takes.call_args[0][1])
             self.mux("capture", "--svg", "main")
             self.assertTrue(takes.call_args[0][1])
-        self.assertEqual([one[0] for one in self.done[:3]], ["demand_age", "note_found", "demand_client"])
+        self.assertEqual([one[0] for one in self.done[:2]], ["note_found", "demand_client"])
 
     def test_rows(self):
         """Rows that scrolled off, where some are named, or how they are printed; of the pane in focus where none is named. They aren't

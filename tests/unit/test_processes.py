@@ -286,21 +286,6 @@ class Starts(Based):
         session.revive()
         self.assertEqual(len(self.words), 1)
 
-    def test_earlier(self):
-        """In place of a client of an earlier roam another is started, which takes its socket; not where another has done so."""
-        self.listening(self.folder / "terminals")
-        session = self.session()
-        session.revive(os.getpid() + 1)
-        self.assertEqual(self.words, [])
-        for demands in (session.revive, session.demand_client):
-            self.assertTrue((self.folder / "terminals").exists())
-            demands(os.getpid())
-            self.assertFalse((self.folder / "terminals").exists())
-            self.listening(self.folder / "terminals")
-        self.assertEqual(([role for role, _ in self.words], [role for role, _, _ in self.waits]), (["client"] * 2, ["client"]))
-        with mock.patch.object(FolderSession, "listener", side_effect=Fault("takes none")):
-            self.assertTrue(session.has_client(os.getpid()))
-
     def test_full(self):
         """A server that has had its 64 clients hears no other, which is told."""
         self.patch_of(FolderSession, "places", lambda _, seconds: Places({1: Rect(1, 1, 23, 80)}, 1, 64, 0))
@@ -323,17 +308,6 @@ class Starts(Based):
         self.note(server=OWN)
         with mock.patch.object(FolderSession, "demand_host", lambda session: session.state.update(host=OWN)):
             self.assertTrue(session.revive_host())
-
-    def test_age(self):
-        """One that an earlier roam began is left to it."""
-        for version in (None, 1, 2):
-            self.note(server=OWN, version=version)
-            with self.assertRaisesRegex(Fault, "^session main was begun by an earlier roam, and is left to it: `mux kill main` ends it$"):
-                self.session().demand_age()
-        self.note(server=OWN, version=3)
-        self.session().demand_age()
-        self.note(version=1)
-        self.session().demand_age()
 
     def test_near(self):
         """How ssh is called isn't known of what stands for another machine's session; its shells are left to that machine."""

@@ -74,7 +74,11 @@ class Sessions(unittest.TestCase):
 
 
 class Listed(Sessions):
-    """What a list of sessions tells, and removes."""
+    """What a list of sessions tells, and removes: of sessions of one window, whose sockets are in the folder itself."""
+
+    def setUp(self):
+        super().setUp()
+        (self.folder / "clients").touch()
 
     def test_ended(self):
         """One that has ended isn't told, and what it left goes, with its folder."""

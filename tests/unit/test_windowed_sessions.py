@@ -18,7 +18,7 @@ from roam_live.common.unix_socket import is_listened
 from roam_live.protocol.panes import Places, Rect
 from roam_live.session import folder as session_folder, foreground, lookup, remote, windowed
 from roam_live.session.attached import count_front_ends
-from roam_live.session.folder import VERSION, FolderSession
+from roam_live.session.folder import FolderSession
 from roam_live.session.lookup import session_named, window_in
 from roam_live.session.window_state import WINDOWS_VERSION, is_spare_server, numbers_in
 from roam_live.session.windowed import Window, WindowedSession
@@ -57,10 +57,8 @@ class Found(Sessions):
     """How they are found."""
 
     def test_kinds(self):
-        """One that isn't there has windows; an earlier note's is of one window, and so is one whose server answers in its folder."""
+        """One that isn't there has windows; one whose server answers in its folder is of one window."""
         self.assertIsInstance(session_named("new"), WindowedSession)
-        self.noted("main", version=VERSION, server=self.own)
-        self.assertEqual(type(session_named("main")), FolderSession)
         self.noted("main", host=self.own)
         self.assertIsInstance(session_named("main"), WindowedSession)
         (self.base / "main/clients").touch()
@@ -83,7 +81,7 @@ class Found(Sessions):
                 session.window(number)
         one = session.window(2)
         self.assertEqual((one.window(), one.window(7).number, one.whole_session(), one.common), (one, 7, session, self.base / "main"))
-        with self.assertRaisesRegex(Fault, "^session old has one window, as an earlier roam's, and no window 2$"):
+        with self.assertRaisesRegex(Fault, "^session old has one window, as one that was begun by hand, and no window 2$"):
             FolderSession(self.base / "old").window(2)
 
     def test_spare(self):
@@ -403,12 +401,12 @@ class Near(Sessions):
         session.clean()
         self.assertEqual(os.listdir(session.folder), [])
 
-    def test_earlier(self):
-        """Where an earlier roam's is told there is one."""
+    def test_by_hand(self):
+        """Of one that was begun by hand there is one."""
         session = self.near()
         self.assertEqual((session.windows(), session.window(), session.number), ([session], session, 0))
         session.await_windows(None, 0.0)
-        with self.assertRaisesRegex(Fault, "^session ssh:h:n has one window here, as an earlier roam's there, and no window 2$"):
+        with self.assertRaisesRegex(Fault, "^session ssh:h:n has one window here, as one that was begun by hand there, and no window 2$"):
             session.window(2)
 
 

@@ -28,7 +28,7 @@ if TYPE_CHECKING:
 SSH_PAIRS = "BbcDEeFIiJLlmOoPpQRSWw"
 OWN_PAIRS = ("--ssh", "--far", "--predict")
 
-# So many seconds the other machine has for telling which windows there are: one of an earlier roam tells none.
+# So many seconds the other machine has for telling which windows there are: one that was begun by hand there tells none.
 TOLD_WAIT = 1.5
 
 # So many seconds ssh has for telling where it would go.

@@ -51,7 +51,7 @@ PASTED = "paste ; "
 LOST = "the client process has ended; what was typed last may be lost"
 NO_MORE = "no more terminals are taken: 16 are there"
 LET_GO = "this terminal was let go; what was typed last may be lost"
-EARLIER = "the client process is an earlier roam's"
+NO_RECORDS = "no client process sends display records there"
 REFUSED = "the client process refused a line"
 SILENT = "the client process tells nothing"
 
@@ -242,7 +242,7 @@ class ClientLink:
         if self.is_full or not self.has_come:
             return NO_MORE
         if not self.records.begun:
-            return EARLIER
+            return NO_RECORDS
         return f"{REFUSED}: {self.refusal}" if self.refusal else LET_GO
 
     def close(self) -> None:
@@ -272,24 +272,19 @@ def without_keys(line: str) -> str:
 
 
 class Reconnector:
-    """Has a link connected: to the client that is there, or to another, which is spawned after pauses that grow, and in place of one that
-    is an earlier roam's."""
+    """Has a link connected: to the client that is there, or to another, which is spawned after pauses that grow."""
 
     def __init__(self, session: AnySession, link: ClientLink, is_full: Callable[[], bool] = lambda: False) -> None:
         self.session, self.link, self.is_full = session, link, is_full
         self.faults = 0
         self.begun_at = 0.0
         self.client: int | None = None
-        # The process of a client that is an earlier roam's.
-        self.earlier: int | None = None
 
     def lost(self) -> str:
         """Takes note of a link that has ended, and tells why, as far as that is known yet."""
         self.session.read()
         why = self.link.loss() if self.session.runs("client") else LOST
         self.faults = 1 if time.monotonic() - self.link.since > SOUND else self.faults + 1
-        if why == EARLIER:
-            self.earlier, self.client = self.link.process, None
         self.link.close()
         return why
 
@@ -307,8 +302,6 @@ class Reconnector:
 
     def connect(self) -> tuple[float, str] | None:
         """Connects where that can be done now; else the seconds until it is tried again, and why, where a person is to know."""
-        if self.earlier is not None:
-            return self.begin(time.monotonic())
         try:
             self.link.connect()
             return None
@@ -329,9 +322,8 @@ class Reconnector:
 
     def begin(self, now: float) -> tuple[float, str]:
         """Starts a client, which has its socket soon."""
-        earlier, self.earlier = self.earlier, None
         try:
-            self.session.revive(earlier)
+            self.session.revive()
         except (Fault, OSError) as fault:
             return self.failed(reason(fault).removeprefix(f"session {self.session.name}: "))
         self.begun_at = now

@@ -48,8 +48,8 @@ class AnySession(HostedSession, Protocol):
     def busy(self) -> dict[int, str] | None:
         """The panes in which another program than a shell runs, and its name; None where that isn't known, of one pane or of all."""
 
-    def revive(self, earlier: int | None = None) -> None:
-        """Spawns the client process, where none is there but that process of an earlier roam; Fault or OSError tells why that can't be."""
+    def revive(self) -> None:
+        """Spawns the client process, where none is there; Fault or OSError tells why that can't be."""
 
     def ending(self) -> tuple[str, int]:
         """What a person is told once it has ended, and the status of the front end."""

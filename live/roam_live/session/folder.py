@@ -24,8 +24,7 @@ if TYPE_CHECKING:
 
     from roam_live.protocol.panes import Places
 
-# What a session's note is like. An earlier roam had one without this number: its session has no client for terminals. One of 2 knows no
-# predictions.
+# What the note of a session of one window is like.
 VERSION = 3
 
 # So many seconds it is waited for being told whether there is room for a client, before it is spawned: a person waits for that.
@@ -87,7 +86,7 @@ class FolderSession(Processes):
     def window(self, number: int | None = None) -> FolderSession:
         """A window by its number, else the one where somebody was last; Fault where it isn't there."""
         if number not in (None, 1):
-            raise Fault(f"session {self.name} has one window, as an earlier roam's, and no window {number}")
+            raise Fault(f"session {self.name} has one window, as one that was begun by hand, and no window {number}")
         return self
 
     def whole_session(self) -> FolderSession:
@@ -152,11 +151,6 @@ class FolderSession(Processes):
         """Notes that the process that serves it is about to be ended on purpose, so that who follows it tells no fault."""
         if self.runs() and self.met:
             note_end(self.folder, *self.met)
-
-    def demand_age(self) -> None:
-        """Refuses one that an earlier roam began."""
-        if self.runs("server") and (self.state or {}).get("version") != self.version:
-            raise Fault(f"session {self.name} was begun by an earlier roam, and is left to it: `mux kill {self.name}` ends it")
 
     # ---- whether it is there
 
@@ -234,30 +228,26 @@ class FolderSession(Processes):
             raise Fault(f"session {self.name} has had the {MOST_CLIENTS} clients of its life, and hears no other; what runs in it "
                         f"goes on, and `mux kill {self.name}` ends it")
 
-    def demand_client(self, earlier: int | None = None) -> None:
-        """Sees that the client of this machine's terminals runs, and is ready: another than that of an earlier roam, where one is named."""
+    def demand_client(self) -> None:
+        """Sees that the client of this machine's terminals runs, and is ready."""
         before = self.logged()
-        if not self.has_client(earlier):
+        if not self.has_client():
             self.demand_room()
             self.spawn_client()
             self.wait_for("client", before, lambda: is_listened(self.terminals))
 
-    def has_client(self, earlier: int | None = None) -> bool:
-        """Whether a client process for this machine's terminals is there, as is noted or as its socket tells: another than that of an
-        earlier roam, which goes on with the terminals that it has."""
-        if earlier is not None:
-            with contextlib.suppress(Fault):
-                return self.listener(self.sockets["client"]) not in (None, earlier)
+    def has_client(self) -> bool:
+        """Return True if a client process for this machine's terminals is there, as is noted or as its socket tells."""
         if is_listened(self.terminals):
             return True
         client = self.process("client")
         # One that runs for long and has no socket left goes on with the terminals that it has, and is found by no other.
         return client is not None and (os.path.lexists(self.terminals) or age_of(client) < START_WAIT)
 
-    def revive(self, earlier: int | None = None) -> None:
-        """Starts the client of the terminals anew, where it has ended, or is that of an earlier roam, and nobody else does."""
+    def revive(self) -> None:
+        """Starts the client of the terminals anew, where it has ended, and nobody else does."""
         with contextlib.suppress(BlockingIOError), self.locked(may_wait=False):
-            if not self.has_client(earlier):
+            if not self.has_client():
                 self.spawn_client()
 
     def revive_host(self) -> bool:

@@ -9,7 +9,7 @@ from roam_live.common.errors import Fault
 from roam_live.session.folder import FolderSession
 from roam_live.session.names import LONGEST_PATH, NAME, NEAR_NAME, base, check_name
 from roam_live.session.remote import NearSession
-from roam_live.session.window_state import NUMBER, WINDOWS, WINDOWS_VERSION
+from roam_live.session.window_state import NUMBER, WINDOWS
 from roam_live.session.windowed import Window, WindowedSession
 
 
@@ -44,11 +44,8 @@ def sweep() -> None:
 
 
 def session_in(folder: pathlib.Path) -> FolderSession:
-    """The session of a folder: one with windows, but where an earlier roam's is there, which has one and no others."""
-    earlier = FolderSession(folder)
-    if (earlier.state or {}).get("version", WINDOWS_VERSION) != WINDOWS_VERSION or os.path.lexists(folder / "clients"):
-        return earlier
-    return WindowedSession(folder)
+    """The session of a folder: one with windows, but where a server has its sockets in the folder itself, as one that was begun by hand."""
+    return FolderSession(folder) if os.path.lexists(folder / "clients") else WindowedSession(folder)
 
 
 def window_in(folder: str | os.PathLike[str], server: int | None = None) -> FolderSession:

@@ -33,7 +33,7 @@ class NearSession(FolderSession):
     # ---- its windows
 
     def windows(self) -> list[FolderSession]:
-        """The windows that are told here, in order; itself where none is, as by an earlier roam there."""
+        """The windows that are told here, in order; itself where none is, as of a session there that was begun by hand."""
         folder = self.folder / WINDOWS
         numbers = [number for number in numbers_in(str(folder)) if (folder / str(number) / "session").exists()]
         return [NearWindow(self, number) for number in numbers] or [self]
@@ -43,13 +43,13 @@ class NearSession(FolderSession):
         there = self.windows()
         named = [window for window in there if window.number == number or number is None and window.id() == self.id()]
         if not named and number is not None:
-            one = "has one window here, as an earlier roam's there, and no window"
+            one = "has one window here, as one that was begun by hand there, and no window"
             why = f"has no window {number}" if there[0].number else f"{one} {number}"
             raise Fault(f"session {self.name} {why}")
         return (named or there)[0]
 
     def await_windows(self, number: int | None, seconds: float) -> None:
-        """Waits until the other machine tells its windows, that of a number too where one is named, or for so long: one of an earlier roam
+        """Waits until the other machine tells its windows, that of a number too where one is named, or for so long: one that was begun by hand there
         tells none."""
         end = time.monotonic() + seconds
         while time.monotonic() < end:

@@ -140,10 +140,10 @@ class WindowedSession(FolderSession):
             self.spawn_host()
             self.wait_for("host", before, self.is_ready)
 
-    def demand_client(self, earlier: int | None = None) -> None:
+    def demand_client(self) -> None:
         """Sees that the client of the window runs where somebody was last, while there is one."""
         if self.windows():
-            self.window().demand_client(earlier)
+            self.window().demand_client()
 
     def revive_host(self) -> bool:
         """Spawns the pty host anew where it has ended, and takes them over; tells whether it runs."""
@@ -308,10 +308,10 @@ class Window(FolderSession):
         """Refuses: the pty host opens them."""
         raise Fault(f"session {self.session.name}: what keeps its windows opens them")
 
-    def demand_client(self, earlier: int | None = None) -> None:
+    def demand_client(self) -> None:
         """Sees that the client of this machine's terminals runs, and is ready; what was found by its sockets is noted again."""
         self.note_found()
-        super().demand_client(earlier)
+        super().demand_client()
 
     def demand_host(self) -> None:
         """Sees that the pty host runs."""

@@ -1,7 +1,6 @@
 """What ends, is killed, is stopped or can't be had: shells, starts, sessions, descriptors."""
 import contextlib
 import fcntl
-import json
 import os
 import pathlib
 import pty
@@ -15,10 +14,9 @@ import termios
 import time
 
 from tried import (
-    LIVE, Outer, PROGRAM, check, children, commands, comes, folder_of, listed, noted, own_terminal, said, scene, tool, window_of)
+    LIVE, Outer, PROGRAM, check, children, commands, comes, folder_of, listed, noted, own_terminal, said, scene, tool)
 from roam_live.common import tty
 from roam_live.common.process import TOOLS, begun
-from roam_live.session.folder import FolderSession
 
 LISTED = 50
 
@@ -318,80 +316,6 @@ def kill(folder):
     asked.type(b"n\n")
     check("and goes by the answer", asked.ends() and asked.process.returncode == 1 and listed()[0] == "other", listed())
     check("-f doesn't ask", said("kill", "-f", "other") == (0, "", "") and outer.ends(), listed())
-
-
-@scene
-def earlier(folder):
-    """A session that an earlier roam began is told of, and can be ended."""
-    session = FolderSession.named("other")
-    with session.locked():
-        session.launch()
-        session.demand_client()
-    state = json.loads(session.note.read_text(encoding="utf-8"))
-    shown = Outer(tool("mux", "other"))
-    shown.shows("$ ")
-    check("one of the note before this is attached to", shown.status("[1]") and not (session.folder / "w").exists(), shown.rows)
-    told = said("capture", "other:2")
-    check("as one window that can't have others", told[0] == 1 and "has one window, as an earlier roam's" in told[2], told)
-    shown.type(b"\x02d")
-    shown.ends()
-    session.note.write_text(json.dumps({role: state[role] for role in ("server", "host", "command")}), encoding="utf-8")
-    for word in (["capture"], ["send"]):
-        told = said(*word, "other", *(["a"] if word == ["send"] else []))
-        check(f"mux {word[0]} tells of a session of an earlier roam", told[0] == 1 and "was begun by an earlier roam" in told[2], told)
-    outer = Outer(tool("mux", "other"))
-    check("so does mux", outer.shows("was begun by an earlier roam") and outer.ends(), outer.rows)
-    os.kill(state["client"][0], signal.SIGTERM)
-    check("mux kill ends it", said("kill", "other") == (0, "", "") and "other" not in listed(), listed())
-
-
-# A client process as one of an earlier roam is: it knows no records, and says so to whoever asks for them. It says when it listens.
-EARLIER_START = """\
-import contextlib, os, socket, sys
-listener = socket.socket(socket.AF_UNIX)
-listener.bind(sys.argv[1] + ".new")
-listener.listen()
-os.replace(sys.argv[1] + ".new", sys.argv[1])
-while True:
-    with listener.accept()[0] as peer, contextlib.suppress(OSError):
-        peer.send(b"\\x1bc\\x1b[2J\\x1b[1;1Hraw")
-        if peer.recv(100):
-            peer.send(b"\\r\\nroam: line 1: bad act\\r\\n")
-"""
-
-
-@scene
-def earlier_start(folder):
-    """In place of a client process of an earlier roam another is launched, once, by whatever needs one; the earlier one goes on."""
-    subprocess.run(tool("mux", "new", "-d", "other"), check=True)
-    served = window_of("other")
-
-    def comes_earlier():
-        """An earlier start at the session's socket, as it is noted."""
-        os.kill(noted("other")["client"][0], signal.SIGKILL)
-        was = (served / "terminals").stat().st_ino
-        process = subprocess.Popen([sys.executable, "-c", EARLIER_START, str(served / "terminals")])
-        comes(lambda: (served / "terminals").stat().st_ino != was)
-        state = {**json.loads((served / "state.json").read_text(encoding="utf-8")), "client": [process.pid, begun(process.pid)]}
-        (served / "state.json").write_text(json.dumps(state), encoding="utf-8")
-        return process
-
-    for does in (["send", "other", "e"], ["capture", "other"]):
-        process = comes_earlier()
-        told = said(*does)
-        check(f"mux {does[0]} launches another", told[0] == 0 and noted("other")["client"][0] != process.pid, told)
-        check("once", said(*does)[0] == 0 and process.poll() is None, process.returncode)
-        process.kill()
-        process.wait()
-    process = comes_earlier()
-    outer = Outer(tool("mux", "other"))
-    check("so does a front end", outer.shows("$ e") and outer.status("[1]") and not outer.shows("raw", 0.1), outer.rows)
-    check("and the earlier one goes on", process.poll() is None and noted("other")["client"][0] != process.pid, noted("other"))
-    outer.type(b"\x15echo ty''ped\r")
-    check("keys come", outer.shows("typed"), outer.rows)
-    process.kill()
-    process.wait()
-    subprocess.run(tool("mux", "kill", "other"), check=True)
 
 
 @scene
