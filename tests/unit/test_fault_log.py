@@ -169,7 +169,8 @@ class Kept(Host):
         self.begin()
         self.tell("", " ", "focus", "focus 9 9", "1 2", "query 1 " + "9" * 9000 + " version", "1 1 1 99999 99999 4", "\u0661 gone", "modes")
         self.assertEqual((self.host.common.faults.count, sorted(self.host.panes)), (0, [1, 2]))
-        self.tell("1 23 80")
+        with mock.patch.object(self.host, "there_is", side_effect=KeyError("there is")):
+            self.tell("1 1 1 23 39 4")
         self.assertEqual((self.host.common.faults.count, sorted(self.host.panes)), (1, [1, 2]))
 
     def test_bells(self):

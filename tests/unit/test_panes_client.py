@@ -10,7 +10,7 @@ from unittest import mock
 
 from aids import StillLoop
 from roam_live.protocol.panes import Places, Rect
-from roam_live.protocol.panes_client import (AWAITED, LET_GO, NOR_BELLS, NO_PLACE, PAUSES, QUIET, TELLS_NOTHING, UNTOLD, HostSubscription,
+from roam_live.protocol.panes_client import (AWAITED, LET_GO, NO_PANES, NO_PLACE, PAUSES, QUIET, TELLS_NOTHING, HostSubscription,
                                              PanesSubscriber)
 
 
@@ -78,7 +78,7 @@ class Follows(Played):
         self.server.send(b"us 1\n")
         self.subscription.ask("close 1 1")
         self.assertEqual(self.turn(), ["focus 1"])
-        self.assertEqual(self.server.recv(64), b"close 1 1\n")
+        self.assertEqual(self.server.recv(64), b"host\nmetadata\nqueries\nclose 1 1\n")
         self.assertEqual(self.loop.due, {})
 
     def test_quiet(self):
@@ -164,18 +164,16 @@ class Follows(Played):
         self.assertEqual(waits, [0.1, 1, 2, 0.1, 1])
 
     def test_host(self):
-        """The server is told the pty host, where it runs the program of these tools: at each connection, before all else."""
+        """The server is told that this is the pty host at each connection, before all else."""
         self.turn()
         self.server.setblocking(False)
-        with self.assertRaises(BlockingIOError):
-            self.server.recv(64)
-        with mock.patch("roam_live.protocol.panes_client.runs_program", return_value=True):
-            self.server.close()
-            self.turn()
-            self.wait_again()
-            self.turn()
-            self.subscription.ask("close 1 1")
-            self.turn()
+        self.assertEqual(self.server.recv(64), b"host\nmetadata\nqueries\n")
+        self.server.close()
+        self.turn()
+        self.wait_again()
+        self.turn()
+        self.subscription.ask("close 1 1")
+        self.turn()
         self.assertEqual(self.taken().recv(64), b"host\nmetadata\nqueries\nclose 1 1\n")
         self.assertEqual(self.subscription.server, os.getpid())
 
@@ -200,16 +198,16 @@ class FrontEnds(Played):
         return self.panes.places
 
     def test_probed(self):
-        """A refused probe is an answer, and no refusal of another word; one that is lost with its connection has none."""
+        """A refused probe is an answer; one that is lost with its connection has none."""
         answers = []
         self.told(b"1 1 23 80 1\nfocus 1\n")
         self.panes.probe(lambda: answers.append(1))
         self.loop.turns(2)
         self.assertIn(b"alive\n", self.server.recv(256))
         self.told(b"bad line\n")
-        self.assertEqual((answers, self.panes.subscription.has_asked), ([1], True))
+        self.assertEqual(answers, [1])
         self.told(b"bad line\n")
-        self.assertEqual((answers, self.panes.subscription.has_asked), ([1], False))
+        self.assertEqual(answers, [1])
         for _ in range(9):
             self.panes.probe(lambda: answers.append(2))
         self.assertEqual(len(self.panes.probes), 4)
@@ -258,14 +256,6 @@ class FrontEnds(Played):
         self.assertFalse(self.panes.wants_brackets())
         self.told(b"1 1 1 23 80 1\nfocus 1\n")
         self.assertTrue(self.panes.knows_modes())
-        self.told(b"bad line\n")
-        self.assertFalse(self.panes.knows_modes())
-
-    def test_earlier(self):
-        """One that doesn't know what it is asked for says so, which is no sign that it tells nothing."""
-        self.assertIsNone(self.told(b"bad line\n"))
-        self.assertIsNotNone(self.told(b"1 1 1 23 80 1\nfocus 1\nbad line\n"))
-        self.assertEqual(self.words, [])
 
     def follow_clips(self):
         """Has texts for the clipboard be followed, over a connection that is had anew."""
@@ -295,17 +285,6 @@ class FrontEnds(Played):
         self.lose_again()
         self.loop.turns(1)
         self.assertEqual((self.server.recv(64), self.panes.making(1)), (b"metadata\nclipboard\n", ""))
-
-    def test_clips_unknown(self):
-        """A server that doesn't know the word says so, and isn't asked again; the rest goes on."""
-        self.follow_clips()
-        self.told(b"1 1 1 23 80 1\nfocus 1\nbad line\nmodes 1 1 paste\n")
-        self.assertTrue(self.panes.wants_brackets() and self.panes.subscription.has_asked)
-        self.lose_again()
-        self.loop.turns(1)
-        self.assertEqual(self.server.recv(64), b"metadata\n")
-        self.told(b"bad line\n")
-        self.assertEqual((self.panes.subscription.has_asked, self.words), (False, []))
 
     def test_clips_refused(self):
         """One that lets go who asks for texts is followed without, and asked again a minute later."""
@@ -367,21 +346,13 @@ class FrontEnds(Played):
         for _ in range(5):
             self.wait_again()
             self.loop.turns(2)
-        self.assertEqual(self.words, [NOR_BELLS])
+        self.assertEqual(self.words, [NO_PANES])
         self.path.unlink()
         self.listener = self.listens()
         self.words, self.panes = [], PanesSubscriber(self.path.parent, self.loop, self.change, lambda line: self.words.append(line))
         self.server = self.taken()
         self.told(b"1 23 80\nfocus\n")
-        self.told(b"1 23 40\n")
-        self.assertEqual((self.words, self.panes.places), ([UNTOLD], None))
-        (self.path.parent / "bells").touch()
-        self.path.unlink()
-        self.words, self.panes = [], PanesSubscriber(self.path.parent, self.loop, self.change, lambda line: self.words.append(line))
-        for _ in range(2):
-            self.wait_again()
-            self.loop.turns(2)
-        self.assertEqual(self.words, [UNTOLD])
+        self.assertEqual((self.words, self.panes.places), ([], None))
 
     def test_nowhere(self):
         """Without a folder nothing is followed, and nothing awaited."""

@@ -81,6 +81,8 @@ class Host(Case):
     def begin(self, *lines):
         """Two panes; the ends of their connections at the server."""
         self.tell("1 1 1 23 39 4", "2 1 41 23 40 5", "focus 1", "clients 3 of 64", *lines)
+        # What it is asked for at each connection.
+        self.assertEqual(read_now(self.server), b"host\nmetadata\nqueries\n")
         return [self.taken(self.listeners[name]) for name in ("p1", "p2")]
 
 
@@ -119,20 +121,6 @@ class Panes(Host):
         self.kills.side_effect = PermissionError(1, "another's")
         self.tell("1 gone")
         self.assertEqual(self.host.panes, {})
-
-    def test_earlier(self):
-        """An earlier server tells no places: it isn't followed, which is logged once, and is connected to again after pauses that grow."""
-        panes = self.begin()
-        self.tell("1 23 80")
-        for _ in range(2):
-            self.now = self.host.loop.due["follow panes"][0]
-            self.turn()
-            self.server = self.taken(self.listeners["panes"])
-            self.tell("1 23 80")
-        why = "run: the server is of an earlier roam: it doesn't tell where panes are\n"
-        self.assertTrue(self.said.getvalue().endswith(why))
-        self.assertEqual((list(self.host.panes), self.host.is_over, self.host.common.faults.count), ([1, 2], False, 3))
-        self.assertTrue(panes)
 
     def test_there(self):
         """Who is at the session is told at the socket `host`."""

@@ -172,14 +172,13 @@ class Panes(Case):
             targets.making_of(self.session, 0)
 
     def test_brackets(self):
-        """Whether a program wants brackets is asked of a server that knows the word; what is told right behind the places counts."""
+        """Whether a program wants brackets is asked of the server; what is told right behind the places counts."""
         panes = b"1 1 1 2 3 7\n2 1 5 2 4 9\nfocus 1\nclients 1 of 64\nwatchers 0 of 16\n"
         for pane, wanted in ((0, False), (1, False), (2, True)):
             self.server, self.asked, self.answers = None, b"", [panes[:20], panes[20:], b"modes 2 9 paste\n"]
-            with mock.patch.object(targets, "runs_program", return_value=True):
-                self.assertEqual((wants_brackets(self.session, pane), self.asked), (wanted, b"metadata\n"))
+            self.assertEqual((wants_brackets(self.session, pane), self.asked), (wanted, b"metadata\n"))
         self.server, self.asked, self.answers = None, b"", [None]
-        self.assertEqual((wants_brackets(self.session, 1), self.asked), (False, b""))
+        self.assertEqual((wants_brackets(self.session, 1), self.asked), (False, b"metadata\n"))
 
 
 class Given(Sockets):

@@ -9,7 +9,7 @@ from collections import namedtuple
 from roam_live.common.errors import Fault
 from roam_live.common.event_loop import comes
 from roam_live.common.io import Lines, read
-from roam_live.common.unix_socket import connected_in, runs_program
+from roam_live.common.unix_socket import connected_in
 from roam_live.protocol.panes import ASKED, BEHIND, BRACKETED, METADATA, PanesState
 from roam_live.session.foreground import own_pane
 
@@ -131,8 +131,7 @@ def wants_brackets(session: FolderSession, pane: int) -> bool:
     """Whether the program in a pane, or in the one in focus, is known to want what is pasted between brackets."""
     try:
         with connected_in(session.folder / "panes", ASKED) as peer:
-            if runs_program(peer):
-                peer.send(f"{METADATA}\n".encode())
+            peer.send(f"{METADATA}\n".encode())
             asked = AskedPanes(peer)
             asked.hear_all()
     except OSError:

@@ -35,15 +35,6 @@ class SocketPeer(namedtuple("SocketPeer", "process user")):
         return self.user == os.getuid()
 
 
-def runs_program(end: socket.socket) -> bool:
-    """Whether who is at the other end of a Unix socket runs the program that these tools have: one of an earlier version may not know all
-    that is said to it."""
-    try:
-        return os.path.samefile(f"/proc/{SocketPeer.of(end).process}/exe", program())
-    except (OSError, Fault):
-        return False
-
-
 def is_own_peer(end: socket.socket) -> bool:
     """Whether who is at the other end of a Unix socket is of this user."""
     try:

@@ -275,8 +275,6 @@ class WindowHost:
         """Handle a line of D/panes that doesn't describe panes."""
         if words[:1] == [QUERY]:
             self.answer(line)
-        elif len(words) == 3 and all(word.isdigit() for word in words):
-            raise Fault("the server is of an earlier roam: it doesn't tell where panes are")
 
     def answer(self, line: str) -> None:
         """Types the answer to what a pane's program asks of its terminal, where its host knows one."""

@@ -9,7 +9,7 @@ from collections.abc import Callable
 from roam_live.common.errors import reason, say
 from roam_live.common.event_loop import Loop
 from roam_live.common.io import Lines, read, write
-from roam_live.common.unix_socket import SocketPeer, connected, connected_now, runs_program
+from roam_live.common.unix_socket import SocketPeer, connected, connected_now
 from roam_live.protocol.panes import BRACKETED, CLIPBOARD, LONGEST_LINE, METADATA, PanesState, Places
 from roam_live.protocol.queries import QUERIES
 
@@ -44,8 +44,7 @@ MOST_PROBES = 4
 # seconds a front end takes it that it will be told.
 TRIES = 3
 AWAITED = 10.0
-UNTOLD = "where panes are isn't told, as by an earlier roam; an arrow goes to the next"
-NOR_BELLS = "panes and bells aren't told, as by an earlier roam; an arrow goes to the next"
+NO_PANES = "where panes are isn't told: nobody listens at the socket panes; an arrow goes to the next pane"
 NO_PLACE = "no more may follow where panes are; an arrow goes to the next pane"
 
 # A server tells one for whom it has no place too where the panes are, and lets it go then: who met that goes by what is told once the
@@ -174,12 +173,10 @@ class HostSubscription(Subscription):
         self.begin(peer)
 
     def begin(self, peer: socket.socket) -> None:
-        """Follows a connection that is there; something has to come soon. An earlier server doesn't know the pty host."""
+        """Follows a connection that is there; something has to come soon."""
         super().begin(peer)
-        if runs_program(peer):
-            self.ask(HOST)
-            self.ask(METADATA)
-            self.ask(QUERIES)
+        for word in (HOST, METADATA, QUERIES):
+            self.ask(word)
         self.loop.later(self.quiet, QUIET, lambda: self.tell(TELLS_NOTHING))
 
     def end(self) -> None:
@@ -213,25 +210,6 @@ class HostSubscription(Subscription):
             self.tells(self.told)
 
 
-class MetadataSubscription(Subscription):
-    """Follows the panes, and pane metadata: an earlier server doesn't know the word, and answers so."""
-
-    # Whether it was asked, and hasn't answered that.
-    has_asked = False
-
-    def begin(self, peer: socket.socket) -> None:
-        """Follows a connection that is there."""
-        super().begin(peer)
-        self.has_asked = METADATA in self.words
-
-    def hear_refusal(self) -> None:
-        """Takes note that it doesn't know a word: of two the one that came later."""
-        if CLIPBOARD in self.words:
-            self.words.remove(CLIPBOARD)
-        else:
-            self.has_asked = False
-
-
 class PanesSubscriber:
     """What a front end knows of a session's panes: where they are, None where that isn't told. A call is for what is new of that, and one
     for why it can't be told here, which a person is told once."""
@@ -250,7 +228,7 @@ class PanesSubscriber:
         self.probes: deque[Callable[[], object]] = deque()
         self.awaited_until = loop.clock() + AWAITED if folder else 0.0
         path = os.path.join(folder, "panes") if folder else ""
-        self.subscription = MetadataSubscription(lambda: connected_now(path), loop, self.hear, self.lose)
+        self.subscription = Subscription(lambda: connected_now(path), loop, self.hear, self.lose)
         self.subscription.want(METADATA)
         if folder:
             self.subscription.connect()
@@ -283,7 +261,7 @@ class PanesSubscriber:
 
     def knows_modes(self) -> bool:
         """Whether it is told here which modes the panes' programs have set."""
-        return self.places is not None and self.subscription.has_asked
+        return self.places is not None
 
     def is_full(self) -> bool:
         """Whether the server is known to have had as many clients as it ever has."""
@@ -297,11 +275,11 @@ class PanesSubscriber:
 
     def hear(self, lines: list[str]) -> None:
         """Takes what was told."""
-        for _ in range(lines.count(BAD_LINE)):
-            (self.probes.popleft() if self.probes else self.subscription.hear_refusal)()
-        taken = [self.told.take(line) for line in lines if line != BAD_LINE]
-        if taken and not any(taken) and not self.places:
-            self.say(UNTOLD)
+        for line in lines:
+            if line != BAD_LINE:
+                self.told.take(line)
+            elif self.probes:
+                self.probes.popleft()()
         if self.has_no_place and self.loop.clock() < self.subscription.since + STANDS:
             self.loop.later("panes stand", STANDS, self.know)
         else:
@@ -331,7 +309,7 @@ class PanesSubscriber:
             self.awaited_until = self.loop.clock() + AWAITED
             self.changed()
         if subscription.faults >= TRIES and subscription.is_gone and self.folder:
-            self.say(UNTOLD if os.path.exists(os.path.join(self.folder, "bells")) else NOR_BELLS)
+            self.say(NO_PANES)
         elif max(subscription.faults, subscription.soon) >= TRIES and subscription.why == LET_GO:
             self.has_no_place = True
             self.say(NO_PLACE)
