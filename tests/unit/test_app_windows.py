@@ -14,7 +14,7 @@ from roam_live.config.user_file import OWN, settings_path
 from roam_live.frontend import app, command_line, window_view
 from roam_live.frontend.app import FrontEnd
 from roam_live.frontend.choose_list import WINDOWS_LINE
-from roam_live.frontend.windows import DROPPED, EARLIER, FAR, LATE, LISTS, NOT_AWAITED, NO_ROOM, OPENING, OPENS, SMALL, TAKES_LONG
+from roam_live.frontend.windows import BY_HAND, DROPPED, FAR, LATE, LISTS, NOT_AWAITED, NO_ROOM, OPENING, OPENS, SMALL, TAKES_LONG
 from roam_live.input.keys import acts_of_bytes
 from test_display import PlayedPanes, painting, places
 from test_app import AnySession
@@ -453,15 +453,15 @@ class Opened(Windows):
         self.type(b"x" * 2000)
         self.assertTrue(self.front.commands.is_full())
 
-    def test_earlier(self):
+    def test_by_hand(self):
         """A host that doesn't know of windows, and a session without a window's number, can have one alone, which is said."""
         self.tell("bad line")
         self.type(b"\x02ca")
-        self.assertEqual((self.front.display.told, self.typed[1]), (EARLIER, "a"))
+        self.assertEqual((self.front.display.told, self.typed[1]), (BY_HAND, "a"))
 
     def test_far(self):
         """A session that is no window of several has one alone, and which of another machine is said so; nothing is asked of its host."""
-        for served, words in (("server", EARLIER), ("relay", FAR)):
+        for served, words in (("server", BY_HAND), ("relay", FAR)):
             self.clients.clear()
             self.hosts.clear()
             self.place.number, self.place.served = 0, served

@@ -114,7 +114,7 @@ class Rowed(Asked):
             self.refuses(told, scrollback.capture_rows, 0, word, None, False, False)
         self.generation = 4
         for does, words in ((scrollback.capture_rows, ("0", None)), (scrollback.log_rows, ())):
-            self.refuses("session main: no rows are kept of pane 1, as where ROAM_HISTORY is 0, or by an earlier roam", does, 0, *words,
+            self.refuses("session main: no rows are kept of pane 1, as where ROAM_HISTORY is 0", does, 0, *words,
                          False, False)
         self.generation = 5
         self.refuses("session main: the pty host doesn't answer", scrollback.capture_rows, 0, "0", None, False, False)
@@ -190,13 +190,13 @@ class Buffered(Asked):
         self.assertTrue(typed[0].startswith("paste ; char 9f ; char "), typed)
         self.refuses("session main: no buffer has this number. Nothing was typed", scrollback.put_buffer, "7", 0)
 
-    def test_earlier(self):
-        """A host of an earlier roam has none."""
+    def test_no_answer(self):
+        """A host that tells of no buffers, takes none or ends, or that isn't there, is told of."""
         with mock.patch.object(self.socket, "take_buffer_line", lambda peer, line: False):
-            self.refuses("session main: no buffers are kept there, as by an earlier roam", scrollback.list_buffers)
+            self.refuses("session main: the pty host tells of no buffers", scrollback.list_buffers)
             self.refuses("session main: the buffer isn't kept", scrollback.set_buffer, "a")
             self.patch_of(paste, "ready", self.ready)
-            told = "session main: the pty host has no buffers, as an earlier roam's, or ended; nothing was typed"
+            told = "session main: the pty host ended, or takes no buffer, and nothing was typed"
             self.refuses(told, scrollback.put_buffer, "1", 0)
         with mock.patch.object(self.socket, "take_line", lambda peer, line: self.socket.drop(peer)):
             self.refuses(told, scrollback.put_buffer, "1", 0)

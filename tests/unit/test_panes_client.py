@@ -339,7 +339,7 @@ class FrontEnds(Played):
         self.assertEqual(len(self.panes.places.rects), 2)
 
     def test_gone(self):
-        """Where nobody tells the panes that is said once, as of an earlier roam; also where what is told can't be read."""
+        """Where nobody tells the panes that is said once; also where what is told can't be read."""
         self.listener.close()
         self.server.close()
         self.loop.turns(2)

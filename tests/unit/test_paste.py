@@ -7,7 +7,7 @@ from roam_live.frontend import paste
 from roam_live.frontend.paste import (BEHIND_IT, COUNTS, DROPPED, DROPS, ENDS, FULL_BEHIND, HANDING, LOST_WORDS, MOST_BEHIND, NOT_TAKEN,
                                       SHORT, TOO_LONG, Pastes, weight)
 from roam_live.input.keys import BRACKETS
-from roam_live.protocol.host_client import LATER, MOST_UNSENT, STORES_AGAIN, UNTOLD, HostClient
+from roam_live.protocol.host_client import LATER, MOST_UNSENT, NO_HOST, STORES_AGAIN, HostClient
 from roam_live.protocol.panes_client import PAUSES
 from roam_live.protocol.paste_text import FULL, placeholder_acts
 from test_display import ClientLink, Person, PlayedPanes, places
@@ -101,8 +101,8 @@ class Handed(Case):
             self.assertEqual((self.link.lines.pop(), self.said.pop()), ("paste ; char 61 ; char 62", paste.ALONE.format(why)))
         self.host.takes, self.host.room = True, None
         self.paste("ab")
-        self.tell(2, UNTOLD)
-        self.tell(1, UNTOLD)
+        self.tell(2, NO_HOST)
+        self.tell(1, NO_HOST)
         self.assertEqual((self.link.lines, self.said), (["paste ; char 61 ; char 62"], [paste.ALONE.format(paste.NO_TEXTS)]))
 
     def test_short(self):
@@ -125,7 +125,7 @@ class Handed(Case):
         self.host.takes = False
         self.paste("cd")
         self.assertEqual(self.link.lines, [])
-        self.tell(1, UNTOLD)
+        self.tell(1, NO_HOST)
         self.assertEqual(self.link.lines, ["paste ; char 61 ; char 62", "paste ; char 63 ; char 64"])
 
     def test_held(self):
@@ -504,7 +504,7 @@ class Given(Sockets):
         self.taken(listener).close()
         link.loop.turn()
         link.loop.turn()
-        self.assertEqual((self.told, link.takes_texts(), link.unstored), ([(self.names[0], UNTOLD, "")], False, {}))
+        self.assertEqual((self.told, link.takes_texts(), link.unstored), ([(self.names[0], NO_HOST, "")], False, {}))
 
     def test_cancelled(self):
         """One that isn't wanted any more isn't given again, nor at all where nothing of it was sent; what was begun of it goes on."""

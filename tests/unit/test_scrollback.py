@@ -8,7 +8,7 @@ from aids import Case, StillLoop
 from filtered import FAKE, played
 from roam_live.common.event_loop import Loop
 from roam_live.host import scrollback
-from roam_live.host.scrollback import BEHIND, EARLIER, LAST_WAIT, PAUSES, QUEUE, SCREEN_WAIT, TOLD_FOR, WAITS, Scrollback, chosen_rows
+from roam_live.host.scrollback import BEHIND, LAST_WAIT, PAUSES, QUEUE, SCREEN_WAIT, TOLD_FOR, WAITS, Scrollback, chosen_rows
 from roam_live.host.scrollback_store import LOST_ROWS, LOST_SOME
 
 SIZE = (23, 80)
@@ -297,19 +297,6 @@ class Ended(Keeping):
             self.end()
             self.pass_time(PAUSES[0])
             self.assertIsNotNone(self.scrollback.process)
-
-    def test_earlier(self):
-        """An earlier program keeps no rows, and isn't spawned again; all else goes on."""
-        self.scrollback.begin(1, 5, SIZE)
-        self.scrollback.feed(1, b"a")
-        self.scrollback.ended("usage", 2)
-        self.assertEqual(self.said, [EARLIER])
-        self.scrollback.feed(1, b"a")
-        self.ask()
-        self.assertEqual(self.told, [None])
-        self.pass_time(PAUSES[-1])
-        self.assertIsNone(self.scrollback.process)
-        self.assertTrue(self.scrollback.hears())
 
 
 class Chosen(Case):

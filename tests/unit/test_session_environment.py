@@ -234,7 +234,7 @@ class Brings(Case):
         with self.assertRaisesRegex(Fault, "^session main: its pty host is not running: "):
             asked_values(self.session)
         for says in (["bad line"], ["environment DISPLAY none", "environment DISPLAY none", "environment PATH 3a"], []):
-            with self.assertRaisesRegex(Fault, "^session main: the pty host doesn't tell what they have, as an earlier roam's$"):
+            with self.assertRaisesRegex(Fault, "^session main: the pty host doesn't tell what new panes have$"):
                 self.told(*says)
 
     def test_host(self):

@@ -512,7 +512,7 @@ class Links(Sockets):
         self.assertEqual((nowhere.loop.due, nowhere.is_connecting(), nowhere.is_awaited()), ({}, False, False))
 
     def test_ended_at_once(self):
-        """A socket that ends each connection at once, as a relay's to an earlier host, is tried ever more seldom."""
+        """A socket that ends each connection at once, as a relay's to a host that is gone, is tried ever more seldom."""
         folder = self.made_folder()
         listener = self.listening(folder / "host")
         one, waits = self.link(folder=folder), []

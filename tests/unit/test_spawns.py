@@ -192,7 +192,7 @@ class AtFrontEnd(Case):
         self.runner.typed("splitw htop")
         self.commands.link.is_read_only = True
         self.runner.typed("splitw htop")
-        self.assertEqual(self.told(), ["not run: the folder ? isn't there", "not run: the pty host is silent, or an earlier roam's",
+        self.assertEqual(self.told(), ["not run: the folder ? isn't there", "not run: the pty host is silent",
                                        "not run: the pty host isn't there just now",
                                        "a terminal that only watches runs nothing"])
         self.assertFalse(self.commands.act_together.called or self.commands.type_key.called)

@@ -520,10 +520,10 @@ class Asked(Sessions):
         os.rename(self.window.folder, self.base / "elsewhere")
         self.assertFalse(is_there(self.window, os.getpid()))
 
-    def test_earlier(self):
-        """An earlier host has one window."""
+    def test_one_window(self):
+        """The host of a session that was begun by hand has one window."""
         self.answers = [b"bad line\n"]
-        with self.assertRaisesRegex(Fault, "^session main:2: the pty host is an earlier roam's, and has one window$"):
+        with self.assertRaisesRegex(Fault, "^session main:2: it was begun by hand, and has one window$"):
             windows_of(self.window)
         self.answers, self.host, self.window.number = [b"bad line\n"], None, 0
         self.assertEqual(windows_of(self.window), [(1, "")])

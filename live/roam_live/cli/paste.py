@@ -88,7 +88,7 @@ def store_text(session: FolderSession, data: bytes, is_plain: bool) -> PasteClie
 
 def type_text(session: FolderSession, text: str, pane: int, is_plain: bool) -> int:
     """Has a text typed, whole and at one place among all acts, into a pane or that in focus: between brackets where its program wants them
-    and it isn't plain. Where no host takes it, as an earlier roam's, it is typed as acts."""
+    and it isn't plain. Where no host is there, as of a session that was begun by hand, it is typed as acts."""
     focus = pane_places(session, pane).focus if pane else 0
     data = text.encode("utf-8", "replace")
     if not data:
@@ -119,7 +119,7 @@ def paste_buffer(session: FolderSession, number: int, pane: int) -> int:
     except OSError as fault:
         raise Fault(f"session {session.name}: its pty host is not running") from fault
     if not client.is_buffer_stored(number):
-        raise Fault(f"session {session.name}: the pty host has no buffers, as an earlier roam's, or ended; nothing was typed")
+        raise Fault(f"session {session.name}: the pty host ended, or takes no buffer, and nothing was typed")
     return insert_text(session, client, pane, focus)
 
 

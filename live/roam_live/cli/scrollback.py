@@ -31,8 +31,8 @@ ANSWERS = 10.0
 # What names the first of all rows, or the last.
 OUTERMOST = "-"
 
-NOT_KEPT = "session {}: no rows are kept of pane {}, as where ROAM_HISTORY is 0, or by an earlier roam"
-NO_BUFFERS = "session {}: no buffers are kept there, as by an earlier roam"
+NOT_KEPT = "session {}: no rows are kept of pane {}, as where ROAM_HISTORY is 0"
+NO_BUFFERS = "session {}: the pty host tells of no buffers"
 
 # What begins a style, and what may stand in one.
 BEGIN = "\x1b["

@@ -36,7 +36,7 @@ LEAVES = 5.0
 MOST_DIGITS = 20
 
 BAD_LINE = "bad line"
-EARLIER = "session {}: the pty host is an earlier roam's, and has one window"
+ONE_WINDOW = "session {}: it was begun by hand, and has one window"
 
 
 class WindowsAsked:
@@ -58,14 +58,14 @@ class WindowsAsked:
             raise Fault(f"session {self.session.name}: the pty host has ended") from fault
 
     def until(self, *begins: str, seconds: float = ANSWERS) -> list[str]:
-        """The words of the first line that begins with one of these, behind which others stay; Fault where none comes in time, or it is
-        an earlier roam's."""
+        """The words of the first line that begins with one of these, behind which others stay; Fault where none comes in time, or the
+        session was begun by hand and has one window."""
         end = time.monotonic() + seconds
         while True:
             while self.told:
                 line = self.told.pop(0)
                 if line == BAD_LINE:
-                    raise Fault(EARLIER.format(self.session.name))
+                    raise Fault(ONE_WINDOW.format(self.session.name))
                 if line.split(" ")[0] in begins:
                     return line.split(" ")
             if not comes(self.peer, max(0.0, end - time.monotonic())):
@@ -115,8 +115,8 @@ def tells_terminal(words: list[str]) -> bool:
 
 
 def windows_of(session: FolderSession, has_programs: bool = False) -> list[tuple[int, str]]:
-    """The windows of a session by their numbers, with the names that they have, or what runs there where that is asked; an earlier roam's
-    has one."""
+    """The windows of a session by their numbers, with the names that they have, or what runs there where that is asked; one that was
+    begun by hand has one."""
     asked = WindowsAsked(session)
     found: dict[int, str] = {}
     asked.say(WINDOWS)

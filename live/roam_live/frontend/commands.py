@@ -65,7 +65,7 @@ WINDOW_GONE = "nothing is pasted: its window is gone"
 
 # So many seconds others have for leaving, and a line stands that tells how many did.
 LEAVES_IN = 2.0
-OTHERS_STAY = "the others can't be detached: the pty host doesn't answer, or is an earlier roam's"
+OTHERS_STAY = "the others can't be detached: the pty host doesn't answer"
 
 # What waits in the loop for a window, and is nothing in another.
 OF_WINDOW = ("fit", "others", "size", "requested size", "motion", "border", "untold", "even", "zoom", "zoom left", "zoom comes",

@@ -7,7 +7,7 @@ from collections.abc import Callable, Iterable, Sequence
 from roam_live.common.event_loop import Loop
 from roam_live.input.keys import pasted_acts
 from roam_live.protocol.client_link import TYPES
-from roam_live.protocol.host_client import INSERTED, LATER, LOST, STORED, UNTOLD
+from roam_live.protocol.host_client import INSERTED, LATER, LOST, NO_HOST, STORED
 from roam_live.protocol.panes import MOVES
 from roam_live.protocol.paste_text import MOST_BYTES, cleaned, placeholder_acts, placeholder_in, random_name
 
@@ -239,10 +239,10 @@ class Pastes:
             paste.is_stored = True
         elif word == INSERTED:
             self.waiting.remove(paste)
-        elif word == UNTOLD and paste.focuses:
+        elif word == NO_HOST and paste.focuses:
             self.waiting.remove(paste)
             self.tells(ALONE.format(NO_TEXTS))
-        elif word == UNTOLD and paste.buffer is None:
+        elif word == NO_HOST and paste.buffer is None:
             typed = Behind(tuple(pasted_acts(paste.text, paste.is_bracketed)), True)
             self.waiting[self.waiting.index(paste)] = typed
             self.behind += len(typed.acts)

@@ -14,7 +14,7 @@ if TYPE_CHECKING:
     from roam_live.frontend.commands import Commands
 
 NOBODY = "not run: the pty host isn't there just now"
-SILENT = "not run: the pty host is silent, or an earlier roam's"
+SILENT = "not run: the pty host is silent"
 NO_PANE = "not run: no pane came in its place"
 READ_ONLY = "a terminal that only watches runs nothing"
 NO_FOCUS = "which pane is in focus isn't known yet"

@@ -70,8 +70,8 @@ NO_ROOM = "the list of windows has no room here"
 # So many seconds a line stands.
 SAID = 2.0
 ONE = "no other window can be had here"
-FAR = f"{ONE}: an earlier roam has the session there"
-EARLIER = f"{ONE}: the session is an earlier roam's, or by hand"
+FAR = f"{ONE}: the session there was begun by hand"
+BY_HAND = f"{ONE}: the session was begun by hand"
 NOBODY = "what keeps the windows isn't there just now"
 LATE = "no window is opened yet: what keeps them is silent"
 DROPPED = "; keys for it are dropped"
@@ -152,8 +152,8 @@ class WindowWishes:
     def why_one(self) -> str:
         """Why no other window can be had here; nothing where one can."""
         if not self.front.number:
-            return FAR if self.front.session.served == "relay" else EARLIER
-        return EARLIER if self.link.is_refused else ""
+            return FAR if self.front.session.served == "relay" else BY_HAND
+        return BY_HAND if self.link.is_refused else ""
 
     # ---- what is told
 

@@ -86,7 +86,7 @@ class WindowsState:
 
 class WindowsLink(Subscription):
     """A front end's connection to the pty host about windows, beside the one that tells of the terminal: at any window's socket.
-    One who doesn't know the word is an earlier roam's, and isn't asked again."""
+    The host of a session that was begun by hand doesn't know the word, and isn't asked again."""
 
     again = "follow windows"
 

@@ -45,14 +45,10 @@ LAST_WAIT = 10.0
 # What shows the other screen (xterm, 1049).
 SHOWS_OTHER = b"\x1b[?1049h"
 
-# The status of a program that doesn't know the command, as an earlier one.
-UNKNOWN = 2
-
 BEHIND = "rows of history are lost: the scrollback process doesn't keep up"
 ENDED = "rows of history are lost: the scrollback process ended: {}; it is spawned again"
 SHORT = "rows of history are dropped: memory is short"
 NOT_RUN = "no rows of history are kept: {}; tried again"
-EARLIER = "no rows of history are kept: the program is an earlier one"
 
 
 # A session has nine panes a window at most, so that this many numbers are each one's.
@@ -163,12 +159,7 @@ class Scrollback:
         for pane in [*self.panes.values(), *self.leaving]:
             self.cut(pane)
         self.faults = 0 if self.loop.clock() >= self.since + SOUND else self.faults
-        if self.is_off:
-            return
-        if status == UNKNOWN:
-            self.is_off = True
-            self.tell(EARLIER)
-        else:
+        if not self.is_off:
             self.tell(ENDED.format(why))
             self.spawn_later()
 

@@ -256,7 +256,7 @@ class Windows:
     def taken(self, number: int, why: str) -> None:
         """Takes note of a window that was taken over, or couldn't be."""
         if not number:
-            say(f"a window of an earlier host can't be gone on with: {why}")
+            say(f"a window of the host before can't be gone on with: {why}")
 
     def begin(self, window: HostedWindow) -> None:
         """Begins a window with its server."""

@@ -29,7 +29,7 @@ HOST = "host"
 
 # What is told here of one where no host is there that takes any, and of one for which there is no room yet: with the host's words. It
 # is given again after so many seconds, until there is.
-UNTOLD, LATER = "untold", "later"
+NO_HOST, LATER = "no host", "later"
 STORES_AGAIN = 0.3
 
 # Where so many connections in a row couldn't be had one may still be there soon.
@@ -195,7 +195,7 @@ class HostClient(Subscription):
         self.others, self.is_there, self.zoomed = OtherTerminals(), False, (0, None)
         self.scrollback.forget()
         if not self.is_known:
-            self.lose(UNTOLD)
+            self.lose(NO_HOST)
 
     # ---- texts
 

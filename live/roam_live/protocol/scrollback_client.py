@@ -171,8 +171,6 @@ class ScrollbackClient:
         self.on_more: Callable[[int, int, int], object] = lambda pane, generation, count: None
         # What was asked, in the order in which it is answered: the word of its answer, and the call.
         self.asked: deque[tuple[str, Told]] = deque()
-        # Whether the host that is connected has answered something of this, so that it knows how many bytes follow a line.
-        self.is_known = False
 
     # ---- questions
 
@@ -210,23 +208,11 @@ class ScrollbackClient:
 
     def release(self, pane: int, generation: int) -> None:
         """Lets a snapshot go."""
-        if self.is_known:
-            self.ask(f"{RELEASE} {pane} {generation}", b"")
+        self.ask(f"{RELEASE} {pane} {generation}", b"")
 
     def add_buffer(self, text: bytes, told: Callable[[int | None], object]) -> None:
         """Has a buffer kept; told with its number, None where it isn't kept."""
-
-        def add(is_known: bool) -> None:
-            if not is_known:
-                told(None)
-                return
-            self.put(f"{BUFFER} {ADD} {len(text)}", BUFFER, lambda answer: told(answer.number(2) if answer else None), text)
-
-        # An earlier host would take the bytes for lines.
-        if self.is_known:
-            add(True)
-        else:
-            self.buffers(lambda notes: add(notes is not None))
+        self.put(f"{BUFFER} {ADD} {len(text)}", BUFFER, lambda answer: told(answer.number(2) if answer else None), text)
 
     def buffers(self, told: Callable[[list[BufferNote] | None], object]) -> None:
         """Asks which buffers there are, the newest first."""
@@ -257,13 +243,11 @@ class ScrollbackClient:
         word, told = self.asked.popleft()
         if not is_refusal and word != words[0]:
             raise BadAnswer(f"{words[0]} isn't what was asked for")
-        self.is_known = self.is_known or not is_refusal
         told(None if is_refusal or NONE in words[2:4] else answer)
         return True
 
     def forget(self) -> None:
         """Knows of no host any more: nothing that was asked is answered."""
-        self.is_known = False
         asked, self.asked = self.asked, deque()
         for _, told in asked:
             told(None)

@@ -196,7 +196,7 @@ def asked_values(session: FolderSession) -> dict[str, str]:
     except OSError as fault:
         raise Fault(f"session {session.name}: its pty host is not running: {reason(fault)}") from fault
     if told is None:
-        raise Fault(f"session {session.name}: the pty host doesn't tell what they have, as an earlier roam's")
+        raise Fault(f"session {session.name}: the pty host doesn't tell what new panes have")
     return told.values
 
 

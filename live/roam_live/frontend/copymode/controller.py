@@ -23,7 +23,7 @@ if TYPE_CHECKING:
     from roam_live.input.keys import Key
     from roam_live.protocol.scrollback_client import ScrollbackClient, Snapshot
 
-# So many seconds a host has for lending a snapshot: where it is stopped, or an earlier roam's, the view that all share scrolls.
+# So many seconds a host has for lending a snapshot: where it is stopped the view that all share scrolls.
 LENDS = 2.0
 
 # So often it is looked whether the host is connected meanwhile.
