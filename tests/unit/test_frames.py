@@ -69,7 +69,7 @@ ODD = {
     "that it carries, again and again": packed(frame(0, FORWARDS) * 1000),
     "a frame for each peer": packed(b"".join(frame(peer, datagram(62)) for peer in range(1, 65536))),
     "8 MB of datagrams": packed(frame(9, datagram(1242)) * (1 << 13)),
-    "what an earlier far end tells of panes": packed(frame(0, b"p" + bytes(range(256)) * 15) + frame(0, b"b") + frame(0, b"k\0")),
+    "what no end knows": packed(frame(0, b"p" + bytes(range(256)) * 15) + frame(0, b"b") + frame(0, b"k\0")),
     "what isn't known": packed(frame(0, b"z" * MOST_TOLD)),
 }
 

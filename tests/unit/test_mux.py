@@ -627,7 +627,8 @@ class Words(Mux):
 
     def test_variables(self):
         """Each variable that stands in live/ is listed, and each that is listed stands there otherwise too."""
-        files = [path for path in TOOLS.rglob("*") if path.is_file() and path.suffix != ".pyc" and path.parts[-2:] != ("config", "environment.py")]
+        owner = TOOLS / "roam_live/config/environment.py"
+        files = [path for path in TOOLS.rglob("*") if path.is_file() and path.suffix != ".pyc" and path != owner]
         found = {name for path in files for name in re.findall(r"\bROAM_[A-Z]+\b", path.read_text(encoding="utf-8", errors="replace"))}
         self.assertEqual(found, {*config_environment.VARIABLES, *config_environment.INTERNAL_VARIABLES})
 

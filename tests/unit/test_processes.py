@@ -760,7 +760,7 @@ class Carried(Case):
         reader, writer = self.pipe()
         os.write(writer, greeting("5e55") + b"more")
         self.assertEqual((read_greeting(reader), os.read(reader, 9)), ("5e55", b"more"))
-        for text, told in ((b"x" * 80, "the other end is no relay"), (b"roam-relay 1 -\n", "of an earlier roam"), (b"roam-r", "has left")):
+        for text, told in ((b"x" * 80, "the other end is no relay"), (b"roam-relay 1 -\n", "of an older roam"), (b"roam-r", "has left")):
             reader, writer = self.pipe()
             os.write(writer, text)
             os.close(writer)

@@ -206,15 +206,14 @@ class Nears(Ends):
         self.turn(2)
         self.assertEqual((len(self.near.carriers), list(self.near.peers.numbers.values())), (1, [2]))
 
-    def test_earlier(self):
-        """A far end of an earlier version tells of panes in ways of its own, which are passed over; that is said once, and none of the
-        sockets that stand for the other machine's is there."""
+    def test_not_forwarded(self):
+        """A far end that doesn't say that it forwards connections has none of the sockets be there that stand for the other machine's; what
+        else it says, and nobody knows, is passed over."""
         self.answer()
         told = [(0, b"p1 1 1 23 80\nfocus 1\n"), (0, b"b\3"), (0, b"b"), (0, b"k\3\1"), (0, b"z?")]
         self.links[0].say(packed(*told))
         self.turn(2)
         self.assertEqual((self.near.forwards, self.near.link), (False, self.links[0]))
-        self.assertEqual(self.said.getvalue().count("the other machine's roam is an earlier one"), 1)
         self.assertEqual([name for name in ("panes", "bells", "host") if (self.folder / name).exists()], [])
 
     def test_ended(self):
@@ -338,7 +337,7 @@ class Nears(Ends):
         """So does a first one of another version."""
         self.turn()
         self.links[0].say(b"roam-relay 1 abc\n")
-        with self.assertRaisesRegex(BadWords, "of an earlier roam"):
+        with self.assertRaisesRegex(BadWords, "of an older roam"):
             self.turn()
 
     def test_many_clients(self):
@@ -912,8 +911,8 @@ class Streams(Ends):
                 self.assertEqual(self.receiver.had, 11 + SHORTEST)
 
     def test_versions(self):
-        for line, told in ((b"roam-relay 1 5e55\n", "the other end is of an earlier roam: its relay has version 1, and this one version 2"),
-                           (b"roam-relay 3 5e55\n", "the other end is of a later roam: its relay has version 3, and this one version 2")):
+        for line, told in ((b"roam-relay 1 5e55\n", "the other end is of an older roam: its relay has version 1, and this one version 2"),
+                           (b"roam-relay 3 5e55\n", "the other end is of a newer roam: its relay has version 3, and this one version 2")):
             self.receiver = RelayStream(self.there[0], self.back[1], "-")
             with self.assertRaises(BadWords) as fault:
                 self.received(line)

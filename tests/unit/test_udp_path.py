@@ -540,7 +540,7 @@ class Told(Net):
     """What the ends tell each other of themselves."""
 
     def test_states(self):
-        """The newest of each comes, and nothing twice; what an earlier end tells of panes is passed over."""
+        """The newest of each comes, and nothing twice; what nobody knows is passed over."""
         self.begin()
         for text in (b"p1 1 1 23 80\n", b"b\3\0\0\0\1", b"k\1\1", ENDED, KILLED):
             self.far.tell(0, text)

@@ -67,7 +67,7 @@ class Far:
             self.stream.session = "-"
         self.ways = Ways(self.loop)
         self.ways.take_stream(self.stream, self.opened_socket)
-        # An earlier far end doesn't forward connections, and says nothing of it.
+        # The near end listens for connections once it knows this.
         self.stream.tell(0, FORWARDS)
         self.loop.add(1, None, self.flush, has_more=lambda: self.stream.going)
         self.loop.add(0, self.hear)

@@ -42,7 +42,7 @@ READ_AHEAD = 1 << 14
 # Numbers are 1 to this, one after the other.
 MOST_NUMBER = 65535
 
-# Frames of peer 0 over a command, which an earlier end knows as nothing: that an end forwards connections at all, which a far end says
+# Frames of peer 0 over a command: that an end forwards connections at all, which a far end says
 # before all else; that one is opened, with its name; bytes; its end; and how many bytes its reader has taken.
 FORWARDS, OPEN, BYTES, END, TAKEN = b"c\2", b"o", b"d", b"q", b"t"
 NUMBER = struct.Struct(">cH")

@@ -29,23 +29,22 @@ GREETING = re.compile(rb"(?:^|\n)roam-relay (\d{1,9}) ([0-9a-f]{1,16}|-)\r?\n")
 HEADER = struct.Struct(">HH")
 COUNT = struct.Struct(">cQ")
 
-# The kinds of what the ends tell each other, and how long one is at most. An earlier far end tells others, of panes, which are passed over.
+# The kinds of what the ends tell each other, and how long one is at most. Others are passed over.
 HAD, ENDED = b"h", b"e"
 MOST_TOLD = 4097
 
-# An end by which the server was killed; an earlier end of a relay knows it as nothing.
+# An end by which the server was killed.
 KILLED = ENDED + b"k"
 
-# Those of an encrypted path beside the stream, which an earlier end knows as nothing: the near end wants one, and tells its name; the far
-# end tells its port, the key and its address. By the path alone: the near end leaves.
+# Those of an encrypted path beside the stream: the near end wants one, and tells its name; the far end tells its port, the key and its
+# address. By the path alone: the near end leaves.
 WANTS, ENCRYPTED, LEAVES = b"w", b"s", b"l"
 
-# What the ends tell each other of windows, which an earlier one knows as nothing: the near end that it takes them, and the far one all that
-# there are.
+# What the ends tell each other of windows: the near end that it takes them, and the far one all that there are.
 WINDOWS = b"n"
 
-# An end can unpack what LZMA packed, which an earlier one doesn't say, or know. A frame of what is packed: its peer, and whether it is the
-# last of an instruction.
+# An end can unpack what LZMA packed, where its Python has that. A frame of what is packed: its peer, and whether it is the last of an
+# instruction.
 UNPACKS, PACKED = b"c\1", b"x"
 PACKED_HEAD = struct.Struct(">cHB")
 
@@ -100,7 +99,7 @@ def session_of(found: re.Match[bytes] | None) -> str:
     if not found:
         raise BadWords("the other end is no relay")
     if int(found[1]) != VERSION:
-        age = "an earlier" if int(found[1]) < VERSION else "a later"
+        age = "an older" if int(found[1]) < VERSION else "a newer"
         raise BadWords(f"the other end is of {age} roam: its relay has version {int(found[1])}, and this one version {VERSION}")
     return found[2].decode()
 

@@ -243,7 +243,6 @@ class Near:
         self.link: RunningCommand | None = None
         # Whether the far end forwards connections; None where that isn't known yet.
         self.forwards: bool | None = None
-        self.has_told_lack = False
         self.tries: list[RunningCommand] = []
         self.ending: list[RunningCommand] = []
         self.has_answered = self.is_told = False
@@ -424,9 +423,6 @@ class Near:
                 self.link.stream.tell(0, WINDOWS)
         elif self.sockets and forwards is not None:
             self.sockets.close()
-            if not self.has_told_lack:
-                self.has_told_lack = True
-                say("the other machine's roam is an earlier one: it tells neither where panes are nor that one rings")
 
     def hear_windows(self, text: bytes) -> None:
         """Takes which windows are told: at once, and of what is told soon after another the newest."""

@@ -243,7 +243,7 @@ class States:
         self.is_sent = False
 
     def news(self, text: bytes) -> bytes | None:
-        """What is new of what came; None where nothing is, and where it can't be. An earlier end tells of panes too."""
+        """What is new of what came; None where nothing is, and where it can't be."""
         try:
             demand_length(0, len(text))
             demand_told(text)

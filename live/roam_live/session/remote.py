@@ -49,8 +49,8 @@ class NearSession(FolderSession):
         return (named or there)[0]
 
     def await_windows(self, number: int | None, seconds: float) -> None:
-        """Waits until the other machine tells its windows, that of a number too where one is named, or for so long: one that was begun by hand there
-        tells none."""
+        """Waits until the other machine tells its windows, that of a number too where one is named, or for so long: one that was begun by
+        hand there tells none."""
         end = time.monotonic() + seconds
         while time.monotonic() < end:
             there = [window.number for window in self.windows()]
