@@ -9,7 +9,6 @@ import time
 from collections import namedtuple
 
 from roam_live.common.errors import Fault, is_absent, reason, say
-from roam_live.common.process import program
 
 # How many seconds a socket that isn't there yet is waited for, and after how many that is said.
 LONGEST_WAIT = 10.0
