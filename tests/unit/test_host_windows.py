@@ -676,7 +676,7 @@ class Noted(Case):
 
     def test_stands_ready(self):
         """A server that only stands ready is known by its environment too, which no other process has of it."""
-        self.environment(ROAM_STANDS_READY="1")
+        self.environment(ROAM_SPARE="1")
         processes = WindowProcesses(str(self.made_folder()), 4)
         processes.make_folder()
         for is_spare in (False, True):
