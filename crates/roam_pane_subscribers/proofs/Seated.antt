@@ -18,7 +18,7 @@ module _ {S : Type 0} (contents : S → Option (List ℕ)) (now : PaneList) wher
   role_told old f (Some stream) t = record {
     mid = t.mid;
     replies = t.replies;
-    tells = record { told = t.tells.told; count = t.tells.count; waiting = t.tells.waiting; wrote = t.tells.wrote };
+    tells = record { told = t.tells.told; count = t.tells.count; whole = t.tells.whole; waiting = t.tells.waiting; wrote = t.tells.wrote };
   }
 
   by_role : (any later : Bool) (old f : Subscriber S) (role : Role) → IsTold contents now old f → IsTold contents now old (seated_by role any later f)

@@ -9,18 +9,21 @@ use Rattle.roam_pane_subscribers.specs.Subscribing.{HaveCome, IsFresh, IsReply, 
 use Rattle.roam_pane_subscribers.specs.declared.subscribing.Subscriber.{Subscriber}
 
 -- nothing was said
-pub none_said : {S : Type 0} (old new : Subscriber S) → new.told ≡ old.told → new.waiting.items ≡ old.waiting.items → Replies old new
-none_said old new told same = record {
+pub none_said : {S : Type 0} (old new : Subscriber S) → new.told ≡ old.told
+    → new.metadata_event.text ≡ old.metadata_event.text → new.waiting.items ≡ old.waiting.items → Replies old new
+none_said old new told beside same = record {
   told = told;
+  beside = beside;
   replies = [];
   each = All-nil IsReply;
   waiting = same ∙ sym (append-nil old.waiting.items);
 }
 
 pub one_said : {S : Type 0} (old new : Subscriber S) (reply : List ℕ) → IsReply reply → new.told ≡ old.told
-    → new.waiting.items ≡ old.waiting.items ++ reply → Replies old new
-one_said old new reply is told same = record {
+    → new.metadata_event.text ≡ old.metadata_event.text → new.waiting.items ≡ old.waiting.items ++ reply → Replies old new
+one_said old new reply is told beside same = record {
   told = told;
+  beside = beside;
   replies = reply ∷ [];
   each = All-cons IsReply reply [] is (All-nil IsReply);
   waiting = same ∙ ap (λ t. old.waiting.items ++ t) (sym (append-nil reply));
@@ -29,6 +32,7 @@ one_said old new reply is told same = record {
 pub both_said : {S : Type 0} (old mid new : Subscriber S) → Replies old mid → Replies mid new → Replies old new
 both_said old mid new p q = record {
   told = q.told ∙ p.told;
+  beside = q.beside ∙ p.beside;
   replies = p.replies ++ q.replies;
   each = All-append IsReply p.replies q.replies p.each q.each;
   waiting =

@@ -47,9 +47,10 @@ IsReply text = (text ≡ []) ⊎ ((text ≡ codes "bad line\n") ⊎ ((text ≡ c
 abbrev pub joined : List (List ℕ) → List ℕ
 joined texts = flat_map (λ (text : List ℕ). text) texts
 
--- replies wait behind what waited, or none does
+-- replies wait behind what waited, or none does; what waits of metadata events stays
 pub record Replies {S : Type 0} (old new : Subscriber S) : Type 0 where
   pub told : new.told ≡ old.told
+  pub beside : new.metadata_event.text ≡ old.metadata_event.text
   pub replies : List (List ℕ)
   pub each : All IsReply replies
   pub waiting : new.waiting.items ≡ old.waiting.items ++ joined replies
@@ -59,9 +60,11 @@ abbrev pub news : PaneList → PaneList → List ℕ
 news told now = lines_text (lines_between told now)
 
 -- The program that is there was told what is so: the first of what waited before and of the news was written to it, and the rest waits.
+-- Nothing is written while a metadata event is unfinished, so a line stands in no record.
 pub record Tells {S : Type 0} (contents : S → Option (List ℕ)) (now : PaneList) (old new : Subscriber S) : Type 0 where
   pub told : new.told ≡ now
   pub count : ℕ
+  pub whole : (count ≡ 0) ⊎ (old.metadata_event.text.items ≡ [])
   pub waiting : new.waiting.items ≡ drop count (old.waiting.items ++ news old.told now)
   pub wrote : Wrote contents old.program.stream new.program.stream (take count (old.waiting.items ++ news old.told now))
 

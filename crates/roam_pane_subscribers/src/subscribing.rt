@@ -113,6 +113,7 @@ impl<S: Stream + Drop> Subscriber<S> {
         ensures told { OnOk result (self.new.told ≡ now.now) }
         ensures program { self.new.program ≡ self.old.program }
         ensures lines { self.new.lines ≡ self.old.lines }
+        ensures metadata { self.new.metadata_event ≡ self.old.metadata_event }
         ensures fault { IsOkUnless result Fault.OutOfMemory }
     {
         let text = lines_between(alloc, &self.told, now)?;
@@ -145,7 +146,8 @@ impl<S: Stream + Drop> Subscriber<S> {
 
     // The same, where what was told to it beside is whole: a line stands in no other.
     fn hand_over_whole(&mut self)
-        ensures took { (n : ℕ) × (self.new.waiting.items ≡ drop n self.old.waiting.items)
+        ensures took { (n : ℕ) × ((n ≡ 0) ⊎ (self.old.metadata_event.text.items ≡ []))
+            × (self.new.waiting.items ≡ drop n self.old.waiting.items)
             × Wrote S.contents self.old.program.stream self.new.program.stream (take n self.old.waiting.items) }
         ensures told { self.new.told ≡ self.old.told }
         ensures lines { self.new.lines ≡ self.old.lines }
@@ -159,6 +161,7 @@ impl<S: Stream + Drop> Subscriber<S> {
     fn read_line(&mut self)
         ensures came { (bytes : List ℕ) × (self.new.lines.kept ≡ self.old.lines.kept ++ bytes) }
         ensures told { self.new.told ≡ self.old.told }
+        ensures metadata { self.new.metadata_event ≡ self.old.metadata_event }
         ensures waiting { self.new.waiting ≡ self.old.waiting }
     {
         let mut piece = [0u8; 1024];

@@ -5,5 +5,6 @@ abbrev pub invariant-loop : goal.invariant-loop
 invariant-loop g l = record {
   came : (bytes : List ℕ) × (l.self.lines.kept ≡ l.initial.self.lines.kept ++ bytes);
   told : l.self.told ≡ l.initial.self.told;
+  metadata : l.self.metadata_event ≡ l.initial.self.metadata_event;
   waiting : l.self.waiting ≡ l.initial.self.waiting;
 }
