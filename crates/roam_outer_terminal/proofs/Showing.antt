@@ -209,6 +209,12 @@ over_laid now g outer wanted over w w' (none is same) h = subst (IsOver now g ou
     over_none (Some g) outer = tt
 over_laid now g outer wanted over w w' (laid s text asked is same forth) h = subst (IsOver now g outer) (asked ∙ sym is) h
 
+-- nothing is laid where nothing is wanted
+pub none_laid : (outer : Option Noted) (wanted over : Option Screenshot) (w w' : List ℕ)
+    → Lays outer wanted over w w' → wanted ≡ None → over ≡ None
+none_laid outer wanted over w w' (none is same) e = is
+none_laid outer wanted over w w' (laid s text asked is same forth) e = absurd cc
+
 -- what is noted stays where what stands over it is taken back, or nothing is noted
 pub noted_kept : (over : Option Screenshot) (outer outer' : Option Noted) (taken : Option Taken) → TakesBack over outer outer' taken
     → (outer' ≡ outer) ⊎ (outer' ≡ None)

@@ -1,5 +1,5 @@
 -- An outer terminal is painted from what its client start shows.
-use Rattle.std.specs.Prelude.{◌≡◌, ◌⊎◌, ℕ, List, [], ◌++◌, Bool, true, false, not, ◌&&◌, ◌||◌, Option, Some, None, is_some}
+use Rattle.std.specs.Prelude.{◌≡◌, ◌⊎◌, ℕ, List, [], ◌++◌, Bool, true, false, not, nat_le, ◌&&◌, ◌||◌, Option, Some, None, is_some}
 use Rattle.roam_hub.specs.Clients.{ClientView}
 use Rattle.roam_overlay.specs.Overlays.{OverlayOf, Judges}
 use Rattle.roam_display_records.specs.declared.records.Record.{Record}
@@ -9,6 +9,7 @@ use Rattle.roam_display_state.specs.DisplayState.{DisplayStateView, Tells, Tells
 use Rattle.roam_turns.specs.Painting.{LeadsSized}
 use Rattle.roam_turns.specs.declared.outer.Noted.{Noted}
 use Rattle.roam_outer_terminal.specs.Overlaid.{IsOver, on_show}
+use Rattle.roam_outer_terminal.specs.Silence.{seconds_of}
 use Rattle.roam_outer_terminal.specs.Terminals.{has_predictions}
 use Rattle.roam_outer_terminal.specs.Writing.{is_empty}
 use Rattle.roam_outer_terminal.specs.declared.silence.Silence.{Silence}
@@ -41,6 +42,10 @@ pub data IsJudged (now : ℕ) (client : ClientView) (noted : Option Noted) (old 
       → Judges n.number n.screen client.kept.acts.acked now o o' → IsJudged now client noted old new
   stay : new ≡ old → IsJudged now client noted old new
 
+-- no prediction is shown once nothing was heard for ten seconds
+abbrev pub IsHidden : Silence → Option Screenshot → Type 0
+IsHidden silence over = nat_le 10 (seconds_of silence) ≡ true → over ≡ None
+
 -- A terminal was painted: what waits for it leads it from what it showed to what it shows, the screen that is noted with what is predicted
 -- over it. What is noted is what the start shows, or what was noted before, where that has its number or memory was wanting; where there is
 -- no memory to take back what was laid over it, nothing is.
@@ -53,6 +58,7 @@ pub record Paints {S : Type 0} (silence : Silence) (client : ClientView) (old ne
   pub leads : LeadsSized (on_show old.over old.outer) new.waiting (on_show new.over new.outer)
   pub judged : IsJudged silence.moment client noted old.predicting new.predicting
   pub over : IsOver silence.moment new.predicting new.outer new.over
+  pub hidden : IsHidden silence new.over
   pub others : new
       ≡ record old { outer = new.outer; predicting = new.predicting; over = new.over; waiting = new.waiting }
 
@@ -91,6 +97,7 @@ pub record TellsAll {S : Type 0} (silence : Silence) (client : ClientView) (old 
   pub noted : (mid.outer ≡ Some (shown_of client)) ⊎ (mid.outer ≡ old.outer)
   pub judged : IsJudged silence.moment client mid.outer old.predicting mid.predicting
   pub over : IsOver silence.moment mid.predicting mid.outer mid.over
+  pub hidden : IsHidden silence mid.over
   pub others : mid ≡ record old { outer = mid.outer; predicting = mid.predicting; over = mid.over }
   pub tells : TellsIt client.kept.acts.acked before mid new
 

@@ -3,7 +3,7 @@ ghost use Rattle.std.specs.Prelude.{◌≡◌, ◌⊎◌, ◌++◌, ◌≤◌, �
 ghost use Rattle.roam_screens.specs.Screenshot.{Screenshot};
 ghost use Rattle.roam_scroll_paint.specs.Leads.{Leads};
 ghost use Rattle.roam_outer_terminal.specs.Overlaid.{IsBack, IsForth, IsOver, IsSize, Lays, TakesBack, on_show};
-ghost use Rattle.roam_outer_terminal.specs.Painted.{IsJudged, MayPaint, Paints, is_ready, shown_of};
+ghost use Rattle.roam_outer_terminal.specs.Painted.{IsHidden, IsJudged, MayPaint, Paints, is_ready, shown_of};
 ghost use Rattle.roam_turns.specs.Painting.{IsBehind, LeadsSized};
 ghost use Rattle.roam_turns.specs.declared.outer.Noted.{Noted as NotedOf};
 
@@ -185,6 +185,7 @@ impl<S: Duplex + Drop> Terminal<S> {
     // What is to stand over the screen that is noted: nothing in a silence, which is told.
     pub(crate) fn wanted(&self, alloc: Global, silence: Silence) -> Option<RowShot>
         ensures over { IsOver silence.moment self.now.predicting self.now.outer result }
+        ensures hidden { IsHidden silence result }
     {
         if silence.is_long() {
             return None;
@@ -199,6 +200,7 @@ impl<S: Duplex + Drop> Terminal<S> {
     // Lays a screen over the one that is noted, behind what waits.
     fn lay_over(&mut self, alloc: Global, wanted: Option<RowShot>)
         ensures lays { Lays self.old.outer wanted self.new.over self.old.waiting self.new.waiting }
+        ensures hidden { wanted ≡ None → self.new.over ≡ None }
         ensures others { self.new ≡ record self.old { over = self.new.over; waiting = self.new.waiting } }
     {
         self.over = put_forth(alloc, &mut self.waiting, &self.outer, wanted);
@@ -213,6 +215,7 @@ impl<S: Duplex + Drop> Terminal<S> {
             → LeadsSized (on_show (Some over) outer) self.new.waiting (on_show self.new.over self.new.outer) }
         ensures over { (now : ℕ) → IsOver now self.old.predicting self.old.outer wanted
             → IsOver now self.old.predicting self.new.outer self.new.over }
+        ensures hidden { wanted ≡ None → self.new.over ≡ None }
         ensures outer { (self.new.outer ≡ self.old.outer) ⊎ (self.new.outer ≡ None) }
         ensures others { self.new ≡ record self.old { over = self.new.over; outer = self.new.outer; waiting = self.new.waiting } }
     {
@@ -236,6 +239,7 @@ impl<S: Duplex + Drop> Terminal<S> {
             → LeadsSized (on_show over outer) self.new.waiting (on_show self.new.over self.new.outer) }
         ensures over { (now : ℕ) → IsOver now self.old.predicting self.old.outer wanted
             → IsOver now self.old.predicting self.new.outer self.new.over }
+        ensures hidden { wanted ≡ None → self.new.over ≡ None }
         ensures outer { (self.new.outer ≡ self.old.outer) ⊎ (self.new.outer ≡ None) }
         ensures others { self.new ≡ record self.old { over = self.new.over; outer = self.new.outer; waiting = self.new.waiting } }
     {

@@ -33,6 +33,7 @@ returns-clause-paints g c =
       judged = subst (λ x. IsJudged now client painted.outer old.predicting x) (sym predicting)
           (subst (λ x. IsJudged now client painted.outer x judged.predicting) was
           (subst (λ m. IsJudged m client painted.outer painted.predicting judged.predicting) c.moment.ensures.moment c.judge.ensures.judged));
+      hidden = λ long. c.lay.ensures.hidden (c.wanted-wanted.ensures.hidden long);
       over = subst (λ x. IsOver now x new.outer new.over) (sym predicting) (c.lay.ensures.over now c.wanted-wanted.ensures.over);
       others = search rules;
     }

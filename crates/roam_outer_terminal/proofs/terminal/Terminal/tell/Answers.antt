@@ -34,6 +34,7 @@ returns-clause-tells g c =
       over = subst (λ x. IsOver now x mid.outer mid.over) (sym predicting)
           (subst (λ o. IsOver now judged.predicting o mid.over) (judged_outer ∙ sym outer)
           (subst (λ o. IsOver now judged.predicting judged.outer o) (sym over) c.wanted-wanted.ensures.over));
+      hidden = λ long. over ∙ c.wanted-wanted.ensures.hidden long;
       others = search rules;
       tells = subst (λ a. TellsIt a was.0 mid c.tell_all.new.self) c.acknowledged.ensures.acknowledged
           (c.tell_all.ensures.told was.0 display_state);
