@@ -61,7 +61,7 @@ BEHIND = {"version": [], "frames": ["set"], "pastes": ["set"], "foreground": ["b
 
 
 def query_in(line: str) -> PaneQuery | None:
-    """The query that a line tells, `query P LIFE WHAT`; None where it is another line."""
+    """The query that a line tells, `query P GENERATION WHAT`; None where it is another line."""
     word, *words = line.split(" ")
     if word != QUERY or len(words) < 3 or words[2] not in BEHIND:
         return None
