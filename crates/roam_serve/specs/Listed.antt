@@ -20,5 +20,5 @@ pane_of (Some generation) (Some rect) =
 pub record ArePanesOf (s : Server) (known : PaneList) : Type 0 where
   pub panes : (p : ℕ) → 1 ≤ p → p ≤ 9 → pane_at known p ≡ pane_of (generation_of s.size s.log p) (rect_at s.size s.log p)
   pub focus : known.focus ≡ focus_at s.size s.log
-  pub starts : known.starts ≡ Some (min (length (alike s false)) 65535)
+  pub starts : known.clients ≡ Some (min (length (alike s false)) 65535)
   pub watchers : known.watchers ≡ Some (min (length (alike s true)) 65535)

@@ -17,7 +17,7 @@ use Rattle.roam_serve.specs.Echoes.{before_by, most_ahead}
 use Rattle.roam_serve.specs.Listed.{ArePanesOf}
 use Rattle.roam_pane_sockets.specs.Moments.{sooner}
 use Rattle.roam_serve.specs.declared.tellings.ClipTimes.{ClipTimes}
-use Rattle.roam_pane_subscribers.specs.declared.following.Subscriber.{Subscriber}
+use Rattle.roam_pane_subscribers.specs.declared.subscribing.Subscriber.{Subscriber}
 use Rattle.roam_pane_sockets.specs.declared.panes.Pane.{Pane}
 use Rattle.roam_serve.specs.declared.tellings.MetadataEventTimes.{MetadataEventTimes}
 

@@ -10,7 +10,7 @@ use Rattle.roam_pane_protocol.specs.declared.clip_list.ClipList.{ClipList}
 use Rattle.roam_pane_sockets.specs.MetadataLists.{AreMetadata}
 use Rattle.roam_pane_subscribers.specs.Subscribing.{TellsMetadata, any_asked}
 use Rattle.roam_pane_sockets.specs.Moments.{after, is_time}
-use Rattle.roam_pane_subscribers.specs.declared.following.Subscriber.{Subscriber}
+use Rattle.roam_pane_subscribers.specs.declared.subscribing.Subscriber.{Subscriber}
 use Rattle.roam_pane_sockets.specs.declared.panes.Pane.{Pane}
 use Rattle.roam_serve.specs.declared.tellings.MetadataEventTimes.{MetadataEventTimes}
 use Rattle.roam_pane_sockets.specs.Clips.{AreClips}
