@@ -7,7 +7,7 @@ import time
 
 from control_strings import controls
 from tried import SESSION, Outer, check, comes, scene, terminals_of, tool
-from roam_live.protocol.panes import CLIPS
+from roam_live.protocol.panes import CLIPBOARD
 from scenes.machines import ssh_words
 
 ON = {"ROAM_CLIPBOARD": "on"}
@@ -84,7 +84,7 @@ def tells_clips(folder):
     """Whether the server of a session's folder tells texts for the clipboard."""
     with socket.socket(socket.AF_UNIX) as peer:
         peer.connect(str(folder / "panes"))
-        peer.sendall(f"{CLIPS}\n".encode())
+        peer.sendall(f"{CLIPBOARD}\n".encode())
         time.sleep(0.3)
         return b"bad line" not in peer.recv(65536)
 

@@ -6,7 +6,7 @@ from tried import SESSION, Outer, check, comes, connected, scene, terminals_of, 
 from roam_live.cli.capture import asked_screen
 from roam_live.protocol.colours import ASKED
 from roam_live.protocol.display_records import screen_of
-from roam_live.protocol.queries import ASKS, NAMED
+from roam_live.protocol.queries import QUERIES, NAMED
 
 # A program that writes what its words spell to its terminal, and notes what comes until the answer to DA1 has, or for three seconds.
 ASKER = """\
@@ -71,7 +71,7 @@ def questions(folder):
     terminal has it, which told it among what is typed."""
     outer = Outer(tool("mux", SESSION))
     outer.shows("$ ")
-    if not has_word(terminals_of(SESSION).parent, ASKS):
+    if not has_word(terminals_of(SESSION).parent, QUERIES):
         print("skipped questions: this server tells none", flush=True)
         return
     check("the terminal is asked for its colours", ASKED in outer.written, bytes(outer.written[:300]))
