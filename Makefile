@@ -51,12 +51,14 @@ try: all
 PREFIX ?= /usr/local
 installed = $(DESTDIR)$(PREFIX)
 completions = $(installed)/share/bash-completion/completions
+# The modules of the Python packages, below live/.
+modules = $(shell cd live && find roam_live -name '*.py')
 
 install: all
-	install -d $(installed)/bin $(installed)/lib/roam/roam_live $(installed)/share/man/man1 $(installed)/share/man/man5 $(completions)
+	install -d $(installed)/bin $(installed)/lib/roam $(installed)/share/man/man1 $(installed)/share/man/man5 $(completions)
 	install crates/roam/out/roam live/attach live/mux live/pane_shells live/picture live/relay $(installed)/lib/roam
 	install -m 644 live/first_word $(installed)/lib/roam
-	install -m 644 $(wildcard live/roam_live/*.py) $(installed)/lib/roam/roam_live
+	for module in $(modules); do install -D -m 644 live/$$module $(installed)/lib/roam/$$module || exit 1; done
 	cd $(installed)/lib/roam && python3 -m compileall -q -f -d $(PREFIX)/lib/roam/roam_live roam_live
 	install live/installed $(installed)/bin/roam
 	ln -sf ../lib/roam/mux $(installed)/bin/roam-mux
