@@ -147,6 +147,19 @@ class Case(unittest.TestCase):
         self.patch_of(sys, "argv", [*words])
 
 
+class PlayedSurvey:
+    """What the sockets of sessions answered: where the panes of a folder are, by a call, and how many terminals there are."""
+
+    def __init__(self, places: "object" = None, terminals: "int | None" = 0) -> None:
+        self.places = places if callable(places) else lambda folder: places
+        self.terminals = lambda folder: terminals
+
+
+def line_of(session: "object", places: "object" = None, terminals: "int | None" = 0) -> str:
+    """The line of `mux ls` for a session."""
+    return session.line(PlayedSurvey(places, terminals), session.windows())
+
+
 def record(word: str, *numbers: int, data: "bytes | None" = None, words: str = "") -> bytes:
     """A record as a client process writes it: with bytes behind it their number is told."""
     counts = [*numbers, *([len(data)] if data is not None else [])]

@@ -37,6 +37,7 @@ KNOWN = {
     ("roam_live/host/output_scan.py", "Bells.go_on", "ESC"): PROGRAM,
     ("roam_live/host/output_scan.py", "Bells.rung", "ESC"): PROGRAM,
     ("roam_live/host/output_scan.py", "ENDS", "re"): PROGRAM,
+    ("roam_live/session/survey.py", "CLIENT_COUNT", "re"): LINES,
     ("roam_live/protocol/bells.py", "KEYPAD", "re"): LINES,
     ("roam_live/protocol/bells.py", "SAID", "re"): LINES,
     ("roam_live/protocol/bells.py", "TOLD", "re"): LINES,

@@ -15,7 +15,8 @@ from roam_live.config import environment
 from roam_live.protocol import client_link, datagram_stream, panes_client, server_address
 from roam_live.protocol.server_address import Home
 from roam_live.relay import common, far, frames, near
-from roam_live.session import attached, folder as session_folder, foreground, host_watchdog, remote, tmp_keepalive
+from roam_live.session import (folder as session_folder, foreground, front_end_lock, host_watchdog, remote,
+                               tmp_keepalive)
 
 
 class Programs(Case):
@@ -172,45 +173,34 @@ class Begun(Case):
 
 
 class Notes(Case):
-    """Who is noted as a front end."""
+    """The lock by which front ends keep a session's folder."""
 
     def setUp(self):
         self.folder = self.made_folder()
         self.said = self.heard()
 
-    def other(self, kind):
-        """Another that is noted."""
-        process = self.process()
-        (self.folder / "attached").mkdir(exist_ok=True)
-        note = self.folder / "attached" / str(process.pid)
-        note.write_text(f"{common_process.begun(process.pid)} {kind}\n", encoding="utf-8")
-        return note
-
-    def test_noted(self):
-        """Its file is named by the process, and has its begin and what it does; who was killed isn't counted."""
-        note = attached.noted_front_end(self.folder)
-        self.assertEqual((note.name, note.read_text(encoding="utf-8")),
-                         (str(os.getpid()), f"{common_process.begun(os.getpid())} read-write\n"))
-        self.assertEqual((attached.count_front_ends(self.folder), attached.has_others(self.folder)), (1, False))
-        watcher = self.other("read-only")
-        self.assertEqual((attached.count_front_ends(self.folder), attached.has_others(self.folder)), (2, False))
-        self.other("read-write")
-        self.assertEqual((attached.count_front_ends(self.folder), attached.has_others(self.folder)), (3, True))
-        watcher.write_text("1 read-only\n", encoding="utf-8")
-        for name, text in (("1073741824", "5 read-write\n"), ("1073741825", ""), ("x", "1 read-write\n"), ("1073741826", "x")):
-            (self.folder / "attached" / name).write_text(text, encoding="utf-8")
-        self.assertEqual(attached.count_front_ends(self.folder), 2)
-        self.assertEqual(len(list((self.folder / "attached").iterdir())), 2)
+    def test_kept(self):
+        """A session's folder is kept while one of its front ends is there; what they don't foresee is logged there."""
+        self.assertFalse(front_end_lock.has_front_ends(self.folder))
+        (self.folder / "log").touch()
+        with front_end_lock.locked_session(self.folder):
+            with front_end_lock.locked_session(self.folder):
+                self.assertTrue(front_end_lock.has_front_ends(self.folder))
+            self.assertTrue(front_end_lock.has_front_ends(self.folder))
+            self.assertEqual(errors.logs, [self.folder / "log"])
+        self.assertFalse(front_end_lock.has_front_ends(self.folder))
+        self.assertEqual((self.folder / "front_ends").stat().st_mode & 0o777, 0o600)
 
     def test_none(self):
-        found = attached.noted_front_end(None), attached.has_others(None), attached.count_front_ends(self.folder)
-        self.assertEqual(found, (None, False, 0))
-        with self.assertRaisesRegex(Fault, "/none is no folder$"):
-            attached.noted_front_end(self.folder / "none")
-        (self.folder / "attached").touch()
-        self.assertIsNone(attached.noted_front_end(self.folder))
-        self.assertIn("this front end isn't counted: ", self.said.getvalue())
-        self.assertEqual(attached.kind_of(self.folder / "no"), "")
+        """Without a folder nothing is kept; a lock that can't be had is said, and one that can't be asked may be held."""
+        with front_end_lock.locked_session(None):
+            pass
+        with self.assertRaisesRegex(Fault, "/none is no folder$"), front_end_lock.locked_session(self.folder / "none"):
+            pass
+        (self.folder / "front_ends").symlink_to("elsewhere")
+        with front_end_lock.locked_session(self.folder):
+            self.assertIn("front_ends cannot be locked: ", self.said.getvalue())
+        self.assertTrue(front_end_lock.has_front_ends(self.folder))
 
     def test_replaced(self):
         """Who reads a file finds the old or the new text whole; where it can't be written the old one stays, and nothing beside it."""

@@ -11,7 +11,7 @@ from unittest import mock
 
 from roam_live.common import errors, files, io as common_io, unix_socket
 from roam_live.common.listener import listening
-from roam_live.session import attached
+from roam_live.session import front_end_lock
 
 
 class Connections(unittest.TestCase):
@@ -141,6 +141,6 @@ class Folders(unittest.TestCase):
                 self.assertFalse(files.is_own_folder(made))
                 said = io.StringIO()
                 with contextlib.redirect_stderr(said):
-                    self.assertIsNone(attached.noted_front_end(made))
-                self.assertIn("this front end isn't counted: ", said.getvalue())
+                    self.assertIsNone(front_end_lock.opened(made))
+                self.assertIn("is not a folder of yours: nothing is logged there", said.getvalue())
                 self.assertEqual(sorted(path.name for path in pathlib.Path(made).iterdir()), ["file", "link"])

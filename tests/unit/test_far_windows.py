@@ -1,6 +1,7 @@
 """Windows of another machine's session over a relay: what the far end tells of them, the near end's folders, and peers' numbers."""
 import os
 import pathlib
+import socket
 import types
 
 from aids import Case, StillLoop, read_now
@@ -133,6 +134,16 @@ class Near(Case):
                          ([1, 2], [f"w/1/{name}" for name in names], "c\n"))
         self.windows.close()
         self.assertEqual(os.listdir(self.folder), [])
+
+    def test_used(self):
+        """A front end that waits at any window is there."""
+        self.windows.take({1: "a", 2: "b"})
+        self.assertFalse(self.windows.is_used())
+        with socket.socket(socket.AF_UNIX, socket.SOCK_STREAM) as one:
+            one.connect(str(self.folder / "w/2/host"))
+            self.loop.turns(2)
+            self.assertTrue(self.windows.is_used())
+        self.assertFalse(self.windows.is_used())
 
     def test_churn(self):
         """Other windows without end are made at a bounded rate; the same, told again, cost nothing; in the end those are there that were

@@ -383,18 +383,19 @@ class Listed(Mux):
     def test_listed(self):
         for name in ("b", "a", "ssh:there:main"):
             (self.base / name).mkdir()
-        lines = {"a": "a 24 by 80\x1b[c", "b": "", "ssh:there:main": Fault("somebody listens")}
+        found = {"a": True, "b": False, "ssh:there:main": Fault("somebody listens")}
 
-        def listed(session):
-            if isinstance(lines[session.name], Fault):
-                raise lines[session.name]
-            return lines[session.name]
+        def is_listed(session):
+            if isinstance(found[session.name], Fault):
+                raise found[session.name]
+            return found[session.name]
 
-        with mock.patch.object(FolderSession, "listed", listed):
+        with mock.patch.object(FolderSession, "is_listed", is_listed), \
+                mock.patch.object(FolderSession, "line", lambda session, survey, windows: f"{session.name} 24 by 80\x1b[c"):
             self.assertEqual(self.mux("ls"), 1)
             self.assertEqual(self.text.getvalue(), "a 24 by 80?[c\n")
             self.assertIn("session ssh:there:main: somebody listens\n", self.said.getvalue())
-            lines["ssh:there:main"] = ""
+            found["ssh:there:main"] = False
             self.assertEqual(self.mux("list"), 0)
 
 

@@ -292,6 +292,36 @@ class Others(Sockets):
         self.connect("host")
         self.assertEqual(self.names[-1], "host")
 
+    def test_used(self):
+        """A front end is there while it is connected, or waits until something carries it; one at another socket is none."""
+        self.turn(2)
+        bells = self.connect("bells")
+        self.assertFalse(self.sockets.is_used())
+        one = self.connect("host")
+        self.assertTrue(self.sockets.is_used())
+        self.near.end_all()
+        self.assertFalse(self.sockets.is_used())
+        self.carrying = None
+        again = self.connect("host")
+        again.send(b"here\n")
+        self.assertTrue(self.sockets.is_used())
+        again.close()
+        self.assertEqual((self.sockets.is_used(), self.sockets.others[-1].waiting), (False, []))
+        last = self.connect("host")
+        self.sockets.close()
+        self.assertEqual((bells.recv(1), one.recv(1), last.recv(1)), (b"",) * 3)
+
+    def test_many_wait(self):
+        """So many wait here at most, and others at the socket; all are forwarded once something carries them."""
+        self.turn(2)
+        self.carrying = None
+        held = [self.connect("host") for _ in range(near_sockets.MOST_SUBSCRIBERS + 3)]
+        self.turn(len(held))
+        self.assertEqual(len(self.sockets.others[-1].waiting), near_sockets.MOST_SUBSCRIBERS)
+        self.carrying = self.near
+        self.turn(10)
+        self.assertEqual((self.sockets.others[-1].waiting, self.names.count("host")), ([], 63))
+
     def test_most(self):
         """Whom there is no room for is let go."""
         held = []

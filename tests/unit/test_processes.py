@@ -8,7 +8,7 @@ import subprocess
 import unittest
 from unittest import mock
 
-from aids import Case, read_now, record
+from aids import Case, line_of, read_now, record
 from roam_live.cli import capture, send
 from roam_live.cli.args import WordParser
 from roam_live.common.errors import Fault
@@ -125,7 +125,7 @@ class Read(Based):
         """A line of `ls`: name, rows and columns, panes, terminals, and the clients from 33 on, with a warning from 48 on."""
         self.note(server=OWN, host=OWN)
         session = self.session()
-        self.assertEqual(session.line().split(), ["main", "-", "?", "panes", "0", "terminals"])
+        self.assertEqual(line_of(session).split(), ["main", "-", "?", "panes", "0", "terminals"])
         one, two = Places({1: Rect(1, 1, 23, 80)}, 1, 32), Places({1: Rect(1, 1, 23, 39), 2: Rect(1, 41, 23, 40)}, 1, 33)
         for places, told in ((one, "main         24 by 80     1 pane   0 terminals"),
                              (two, "main         24 by 80     2 panes  0 terminals, 33 of 64 clients"),
@@ -135,22 +135,20 @@ class Read(Based):
                                                        "machine alone are taken"),
                              (one._replace(clients=64), "main         24 by 80     1 pane   0 terminals, 64 of 64 clients, no other is "
                                                        "taken")):
-            self.patch_of(session, "places", lambda places=places: places)
-            self.assertEqual(session.line(), told)
-        (self.folder / "attached").mkdir()
-        (self.folder / "attached" / str(OWN[0])).write_text(f"{OWN[1]} read-write\n", encoding="utf-8")
-        self.assertIn(" 1 terminal,", session.line())
+            self.assertEqual(line_of(session, places), told)
+        self.assertIn(" 1 terminal,", line_of(session, one._replace(clients=64), 1))
+        self.assertTrue(line_of(session, one, None).endswith("1 pane   ? terminals, its pty host does not answer"))
 
     def test_lacking(self):
         """A line of `ls` says where no pty host is there, or what does is stopped; of another machine's it says nothing."""
         self.note(server=OWN)
-        self.assertTrue(self.session().line().endswith(" 0 terminals, its pty host is not running"))
+        self.assertTrue(line_of(self.session(), None, None).endswith(" ? terminals, its pty host is not running"))
         host = self.process()
         self.note(server=OWN, host=[host.pid, begun(host.pid)])
-        self.assertTrue(self.session().line().endswith(" 0 terminals"))
+        self.assertTrue(line_of(self.session()).endswith(" 0 terminals"))
         host.send_signal(signal.SIGSTOP)
         os.waitid(os.P_PID, host.pid, os.WSTOPPED | os.WNOWAIT)
-        self.assertTrue(self.session().line().endswith(" 0 terminals, the pty host is stopped"))
+        self.assertTrue(line_of(self.session(), None, None).endswith(" ? terminals, the pty host is stopped"))
         self.assertEqual(NearSession(self.base / "ssh:a:b").lacking(), "")
 
     def test_command_found(self):
@@ -421,9 +419,8 @@ class Spawned(Based):
 
     def test_forgotten(self):
         """The folder goes where its log tells nothing."""
-        for name in ("log", "lock"):
+        for name in ("log", "lock", "front_ends"):
             (self.folder / name).touch()
-        (self.folder / "attached").mkdir()
         self.session_here.forget()
         self.assertFalse(self.folder.exists())
         self.folder.mkdir()
@@ -437,10 +434,9 @@ class Spawned(Based):
         names = ["clients", "panes", "terminals", "bells", *panes, "session", "session.new", "state.json"]
         for name in [*names, "log", "lock", "ended", "own", "p0", "p10"]:
             (self.folder / name).touch()
-        (self.folder / "attached").mkdir()
-        (self.folder / "attached/1").touch()
+        (self.folder / "front_ends").touch()
         self.session_here.clean()
-        self.assertEqual(sorted(path.name for path in self.folder.rglob("*")), ["attached", "ended", "lock", "log", "own", "p0", "p10"])
+        self.assertEqual(sorted(path.name for path in self.folder.rglob("*")), ["ended", "front_ends", "lock", "log", "own", "p0", "p10"])
 
     def test_front(self):
         """What may ask is in front of the terminal while it does; where there is none that is no fault."""

@@ -484,17 +484,17 @@ class Nears(Ends):
         self.assertEqual(self.near.next_try, 100.2)
 
     def test_alone(self):
-        """With --alone it ends when no client was noted for so many seconds; it looks each five."""
+        """With --alone it ends when no front end was connected for so many seconds; it looks each five."""
         self.near.asked.alone = 60.0
-        counts = self.patch_of(near, "count_front_ends", return_value=1)
+        counts = self.patch_of(near.NearSockets, "is_used", return_value=True)
         self.now += 4.9
         self.near.look()
         counts.assert_not_called()
         self.now += 0.1
         self.near.look()
         self.near.look()
-        counts.assert_called_once_with(str(self.folder))
-        counts.return_value = 0
+        counts.assert_called_once_with()
+        counts.return_value = False
         for _ in range(12):
             self.now += 5
             self.near.look()

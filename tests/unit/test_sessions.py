@@ -14,8 +14,9 @@ from unittest import mock
 
 from roam_live.common.errors import Fault
 from roam_live.common.process import begun, note_end
-from roam_live.session import folder as session_folder, lookup
+from roam_live.session import folder as session_folder, lookup, survey
 from roam_live.session.folder import VERSION, FolderSession
+from roam_live.session.front_end_lock import locked_session
 from roam_live.session.remote import NearSession
 
 # A process that ended: no process has begun at this moment.
@@ -82,10 +83,10 @@ class Listed(Sessions):
 
     def test_ended(self):
         """One that has ended isn't told, and what it left goes, with its folder."""
-        for name in ("state.json.77", "ended.8", "attached.9"):
+        for name in ("state.json.77", "ended.8", "front_ends"):
             (self.folder / name).touch()
         (self.folder / "log").write_text("[the server has ended]\n" * 2, encoding="utf-8")
-        self.assertEqual(FolderSession.named("main").listed(), "")
+        self.assertFalse(FolderSession.named("main").is_listed())
         self.assertFalse(self.folder.exists())
 
     def test_log_kept(self):
@@ -99,15 +100,11 @@ class Listed(Sessions):
             self.assertEqual(self.names() if self.folder.exists() else [], names)
 
     def test_followed(self):
-        """While a front end is there that reads how it ended, that stays, and the front end's note does; then all goes."""
-        (self.folder / "attached").mkdir()
-        own = self.folder / "attached" / str(os.getpid())
-        own.write_text(f"{begun(os.getpid())} read-write\n", encoding="ascii")
-        (self.folder / "attached/1").write_text("7 read-write\n", encoding="ascii")
+        """While a front end is there that reads how it ended, that stays; then all goes."""
         (self.folder / "ended").touch()
-        lookup.sweep()
-        self.assertEqual((self.names(), self.names(self.folder / "attached")), (["attached", "ended", "lock", "log"], [own.name]))
-        own.unlink()
+        with locked_session(self.folder), locked_session(self.folder):
+            lookup.sweep()
+            self.assertEqual(self.names(), ["ended", "front_ends", "lock", "log"])
         lookup.sweep()
         self.assertFalse(self.folder.exists())
 
@@ -127,7 +124,7 @@ class Listed(Sessions):
         own = [os.getpid(), begun(os.getpid())]
         self.note(server=own)
         before = self.names()
-        self.assertTrue(session.listed().startswith("main "))
+        self.assertTrue(session.is_listed())
         self.assertEqual(self.names(), sorted([*before, "lock"]))
         self.assertEqual(json.loads((self.folder / "state.json").read_text(encoding="utf-8"))["server"], own)
 
@@ -136,7 +133,7 @@ class Listed(Sessions):
         before = self.names()
         with open(self.folder / "lock", "wb") as lock:
             fcntl.flock(lock, fcntl.LOCK_EX)
-            self.assertEqual(FolderSession.named("main").listed(), "")
+            self.assertFalse(FolderSession.named("main").is_listed())
         self.assertEqual(self.names(), sorted([*before, "lock"]))
 
     def test_other_machines(self):
@@ -148,7 +145,7 @@ class Listed(Sessions):
         found = lookup.sessions_here()
         wanted = ["main", "ssh:me@there.example:work:0badcafe", "ssh:there:main"]
         self.assertEqual([session.name for session in found], wanted)
-        self.assertEqual([session.listed().split()[0] for session in found], wanted)
+        self.assertEqual([line.split()[0] for line in survey.surveyed([(one, one.windows()) for one in found])], wanted)
         self.assertIsInstance(lookup.session_named("ssh:there:main"), NearSession)
         for name in ("ssh:none:main", "ssh:there/../x:main", "../main", "ssh:there:main:1"):
             with self.assertRaises(Fault):
@@ -194,7 +191,7 @@ class Found(Sessions):
                 (self.folder / "state.json").unlink()
             before = self.names()
             session = FolderSession.named("main")
-            self.assertTrue(session.listed().startswith("main "))
+            self.assertTrue(session.is_listed())
             with self.assertRaisesRegex(Fault, "somebody answers at"):
                 session.clean()
             self.assertEqual(self.names(), before)
@@ -209,7 +206,7 @@ class Found(Sessions):
             held.enter_context(socket.socket(socket.AF_UNIX, socket.SOCK_STREAM)).connect(str(self.folder / "clients"))
             before = self.names()
             named = FolderSession.named
-            for does in (lambda: named("main").listed(), lambda: named("main").demand(), named("main").clean):
+            for does in (lambda: named("main").is_listed(), lambda: named("main").demand(), named("main").clean):
                 with self.assertRaisesRegex(Fault, "takes no connection|somebody answers at"):
                     does()
             self.assertEqual(self.names(), before)

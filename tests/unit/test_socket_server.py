@@ -6,10 +6,8 @@ import unittest
 from unittest import mock
 
 from aids import Case, StillLoop, read_now
-from roam_live.common.process import begun
 from roam_live.host import foreground_watch
-from roam_live.host.pending_clients import MEETS, TICKS, ticks
-from roam_live.host.socket_server import LONGEST_LINE, MEETS_AGAIN, MOST_PEERS, MOST_WAITING, HostServer
+from roam_live.host.socket_server import LONGEST_LINE, MOST_PEERS, MOST_WAITING, RECONNECTS, HostServer
 from roam_live.protocol import presence
 from roam_live.protocol.host_client import KNOWS, HostClient
 from roam_live.protocol.panes_client import PAUSES
@@ -195,67 +193,22 @@ class Fronts(Case):
         self.assertEqual((self.looks.call_count, self.fronts.looked), (0, {}))
 
 
-class PendingClients(Sockets):
-    """Front ends that are noted, and not connected yet."""
+class Replaced(Sockets):
+    """A host in the place of another, whose terminals reconnect."""
 
-    def setUp(self):
-        super().setUp()
-        self.other, self.pending_clients = self.process().pid, self.socket.common.pending_clients
-        self.pending_clients.folder, self.pending_clients.since = str(self.folder), 0
-        self.age(0)
-        (self.folder / "attached").mkdir()
-        self.note("read-write")
-
-    def note(self, kind):
-        """Notes another front end."""
-        (self.folder / "attached" / str(self.other)).write_text(f"{begun(self.other)} {kind}\n", encoding="utf-8")
-
-    def age(self, seconds):
-        """Has it been there for so long."""
-        self.pending_clients.clock = lambda: begun(self.other) + seconds * TICKS
-
-    def told(self, one):
-        """What one is told of the others, a moment later."""
-        self.now += MEETS_AGAIN
-        self.loop.turns(2)
-        return read_now(one).decode().split("\n")[:-1]
-
-    def test_waited_for(self):
-        """Who asks isn't told that nobody is there while one may be about to connect; who was told already is told of others meanwhile."""
-        before = self.connect(b"who\n")
-        self.age(MEETS)
-        self.assertEqual(self.told(before), [f"host {NAMED}", "others 0"])
-        self.age(MEETS / 2)
+    def test_reconnect(self):
+        """Nobody is told who else is there before the terminals had time to come again; all is told then."""
+        self.socket.common.await_terminals()
         one = self.connect(f"here {A}\nwho\n".encode())
-        self.assertEqual([self.told(one), self.told(one), self.told(before)], [[f"host {NAMED}"], [], [f"there 2 {A}", "others 1"]])
+        self.assertEqual(read_now(one), f"host {NAMED}\n".encode())
+        self.now += RECONNECTS - 0.01
         self.connect(f"here {B}\n".encode())
-        self.assertEqual(self.told(one), [])
-        self.socket.peers[-1].process = self.other
-        self.assertEqual(self.told(one), [f"there 3 {B}", "others 1"])
-
-    def test_not_for_long(self):
-        """It is waited for no longer than it takes to connect, but anew by a host that has just begun; and not where it has ended."""
-        for seconds, since, is_awaited in ((MEETS - 0.1, 0, True), (MEETS, 0, False), (900, 0, False), (900, 900 - MEETS + 0.1, True)):
-            self.age(seconds)
-            self.pending_clients.since = begun(self.other) + since * TICKS if since else 0
-            self.assertEqual(self.pending_clients.are_awaited(), is_awaited, (seconds, since))
-        one = self.connect(b"who\n")
-        self.assertEqual(self.told(one), [f"host {NAMED}"])
-        (self.folder / "attached" / str(self.other)).write_text("5 read-write\n", encoding="utf-8")
-        self.assertEqual((self.told(one), self.told(one), "others of 0" in self.loop.due), (["others 0"], [], False))
-
-    def test_needless(self):
-        """Nobody waits for one that only watches, or where no folder is known or can be read."""
-        self.assertTrue(self.pending_clients.are_awaited())
-        self.note("read-only")
-        self.assertFalse(self.pending_clients.are_awaited())
-        self.note("read-write")
-        with mock.patch("pathlib.Path.glob", side_effect=OSError(24, "none")):
-            self.assertFalse(self.pending_clients.are_awaited())
-        self.pending_clients.folder = ""
-        self.assertFalse(self.pending_clients.are_awaited())
-        self.assertEqual(round(ticks() / TICKS - time.clock_gettime(time.CLOCK_BOOTTIME)), 0)
-        self.assertLess(abs(begun(self.other) - ticks()), 60 * TICKS)
+        self.assertEqual(read_now(one), b"")
+        self.now += 0.01
+        self.loop.turns(3)
+        self.assertEqual(read_now(one), f"there 2 {B}\nothers 1\n".encode())
+        self.say(one, b"here here:/dev/pts/1 20 80 read-write\nwho\n")
+        self.assertEqual((read_now(one), "others of 0" in self.loop.due), (f"host {NAMED}\n".encode(), False))
 
 
 class Bounds(Sockets):

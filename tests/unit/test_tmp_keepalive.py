@@ -25,10 +25,9 @@ class Lasts(unittest.TestCase):
 
     def fill(self):
         """Makes the folder."""
-        (self.folder / "attached").mkdir(parents=True)
-        (self.folder / "relays").mkdir()
+        (self.folder / "relays").mkdir(parents=True)
         (self.folder / "w/2").mkdir(parents=True)
-        for name in ("state.json", "log", "lock", "attached/17", "relays/ab", "w/last", "w/2/name"):
+        for name in ("state.json", "log", "lock", "front_ends", "relays/ab", "w/last", "w/2/name"):
             (self.folder / name).touch()
         (self.folder / "session").write_text("5e55\n", encoding="utf-8")
         listener = socket.socket(socket.AF_UNIX, socket.SOCK_STREAM)

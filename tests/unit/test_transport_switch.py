@@ -16,7 +16,6 @@ from roam_live.relay.forwarding import FORWARDS
 from roam_live.relay.frames import ENDED, HAD, KILLED, LEAVES, WINDOWS, RelayStream, Waiting, greeting
 from roam_live.relay.path_setup import AEAD_HEAD, wish
 from roam_live.relay.udp_path import Path
-from roam_live.session.attached import count_front_ends
 from test_batches import shown, typed
 from test_relay import FakeLink, Other, packed
 from test_aead_packets import Foolish
@@ -362,17 +361,15 @@ class Far(Both):
         return [frame for frame in self.other.frames() if frame[1][:1] != HAD or frame[0]]
 
     def test_makes(self):
-        """It goes on in another process, notes itself, and tells port, key and address."""
+        """It goes on in another process, notes itself for the next one, and tells port, key and address."""
         self.ask()
         kind, version, port, key = AEAD_HEAD.unpack_from(self.frames()[0][1])
         self.assertEqual((kind, version, key, self.frames()[0][1][AEAD_HEAD.size :]), (b"s", 1, KEY, b"127.0.0.1"))
         self.assertIn(port, range(60000, 61001))
         self.assertEqual(self.parts.call_count, 1)
         self.assertTrue((self.folder / "relays" / b"12345678".hex()).exists())
-        self.assertEqual(count_front_ends(self.folder), 1)
         self.far.close()
         self.assertFalse(list((self.folder / "relays").iterdir()))
-        self.assertEqual(count_front_ends(self.folder), 0)
 
     def test_makes_none(self):
         """Without the wish, the library, a port, a process, or a version that it knows, there is none, and the command is all."""
@@ -408,14 +405,15 @@ class Far(Both):
         self.assertNotIn((3, shown(1)[0]), self.frames())
 
     def test_command_ends(self):
-        """Where the command ends it goes on, and lets the process go that held it; it is still counted."""
+        """Where the command ends it goes on, and lets the process go that held it; its terminals stay."""
         self.validate()
+        ends = self.patch_of(self.far.ways.path.streams, "end_named")
         ended(self.said_end)
         self.run_for(1)
         self.assertEqual((os.read(self.letting_go, 1), self.closes.call_count, self.far.has_command()), (b"", 1, False))
         self.run_for(30)
         self.assertTrue(self.near.is_validated())
-        self.assertEqual(count_front_ends(self.folder), 1)
+        self.assertEqual((self.far.is_called, ends.call_count), (True, 0))
 
     def test_command_ends_without_a_path(self):
         """Without a path the command's end is its own; so it is where what holds it can't be let go."""
@@ -468,17 +466,19 @@ class Far(Both):
         self.assertEqual((len(self.other.text), self.far.has_command()), (count, True))
 
     def test_asleep(self):
-        """After a minute without a call it isn't counted and has no timer but its end, after 7 days; called again it is counted."""
+        """After a minute without a call it ends the connections to the host, and has no timer but its end, after 7 days."""
         self.validate()
+        ends = self.patch_of(self.far.ways.path.streams, "end_named")
         ended(self.said_end)
         self.run_for(1)
         heard, self.is_open = self.far.ways.path.heard_at, False
         self.run_for(70)
-        self.assertEqual((count_front_ends(self.folder), self.far.prepare()), (0, heard + far.FAR_WAIT))
+        ends.assert_called_once_with("host")
+        self.assertEqual((self.far.is_called, self.far.prepare()), (False, heard + far.FAR_WAIT))
         self.now = heard + far.FAR_WAIT - 60
         self.is_open = True
         self.run_for(6)
-        self.assertEqual((count_front_ends(self.folder), self.near.is_validated()), (1, True))
+        self.assertEqual((self.far.is_called, self.near.is_validated(), ends.call_count), (True, True, 1))
         self.now += far.FAR_WAIT + 1
         with self.ends():
             self.far.turn()

@@ -7,7 +7,7 @@ import resource
 import time
 from unittest import mock
 
-from aids import Case, read_now
+from aids import Case, line_of, read_now
 from roam_live.cli import targets, windows as cli_windows
 from roam_live.cli.targets import session_of, target_of, window_of
 from roam_live.cli.windows import (WindowsAsked, check_title, detach_others, is_there, list_clients, list_windows, new_window, rename, shut,
@@ -17,7 +17,7 @@ from roam_live.common.process import begun, end_words, is_running
 from roam_live.common.unix_socket import is_listened
 from roam_live.protocol.panes import Places, Rect
 from roam_live.session import folder as session_folder, foreground, lookup, remote, windowed
-from roam_live.session.attached import count_front_ends
+from roam_live.session.front_end_lock import has_front_ends
 from roam_live.session.folder import FolderSession
 from roam_live.session.lookup import session_named, window_in
 from roam_live.session.window_state import WINDOWS_VERSION, is_spare_server, numbers_in
@@ -100,7 +100,7 @@ class Found(Sessions):
                     session.window(7)
             if mark:
                 (folder / mark).unlink()
-        self.assertNotIn("2 windows", session.line())
+        self.assertNotIn("2 windows", line_of(session))
 
     def test_held(self):
         """Where neither notes nor sockets are left it is found by the process that holds its folder, and ended by that."""
@@ -113,7 +113,7 @@ class Found(Sessions):
         fcntl.flock(held, fcntl.LOCK_EX)
         self.assertTrue(session.find())
         self.assertEqual(session.process("host"), os.getpid())
-        self.assertTrue(session.listed().startswith("main "))
+        self.assertTrue(session.is_listed())
         with self.assertRaisesRegex(Fault, "^session main runs, and nothing is left by which its windows are found"):
             session.window()
         near = remote.NearSession(folder)
@@ -138,9 +138,9 @@ class Found(Sessions):
         session = self.session()
         self.noted("main", host=[1, 1])
         session.read()
-        self.patch_of(FolderSession, "places", lambda session: PLACES)
         self.assertTrue(session.find() and session.runs() and not session.runs("host"))
-        self.assertTrue(session.line().endswith("2 panes  0 terminals, 2 windows: 2 7, its pty host is not running"), session.line())
+        line = line_of(session, PLACES, None)
+        self.assertTrue(line.endswith("2 panes  ? terminals, 2 windows: 2 7, its pty host is not running"), line)
         for number in (2, 7):
             self.noted("main", number, server=[1, 1])
         self.assertFalse(session.find() or session.runs())
@@ -148,12 +148,14 @@ class Found(Sessions):
     def test_line(self):
         """Each window that has a name is listed by it, where there are several."""
         session = self.session()
-        self.patch_of(FolderSession, "places", lambda session: PLACES)
         (self.base / "main/w/2/name").write_text("6162\n", encoding="ascii")
         (self.base / "main/w/7/name").write_text("1b5d\n", encoding="ascii")
-        self.assertEqual(session.line(), "main         24 by 80     2 panes  0 terminals, 2 windows: 2:ab 7")
+        self.assertEqual(line_of(session, PLACES), "main         24 by 80     2 panes  0 terminals, 2 windows: 2:ab 7")
+        (self.base / "main/w/last").write_text("7\n", encoding="ascii")
+        wide = Places({1: Rect(1, 1, 29, 90)}, 1)
+        self.assertIn("30 by 90", line_of(session, lambda folder: wide if folder.name == "7" else PLACES))
         self.noted("main", 7, server=[1, 1])
-        self.assertEqual(session.line(), "main         24 by 80     1 pane   0 terminals")
+        self.assertEqual(line_of(session, PLACES), "main         24 by 80     1 pane   0 terminals")
 
     def test_ending(self):
         """A window's end is on purpose where that was noted, beside others."""
@@ -228,13 +230,12 @@ class Unknown(Sessions):
         self.assertFalse(is_listened(self.base / "none"))
 
     def test_front_ends(self):
-        """A front end's note that can't be read stays."""
+        """A session whose lock can't be asked may have front ends."""
         folder = self.noted("main")
-        (folder / "attached").mkdir()
-        (folder / "attached" / str(os.getpid())).write_text(f"{self.own[1]} read-write\n", encoding="ascii")
-        with mock.patch("pathlib.Path.read_text", side_effect=OSError(errno.EMFILE, "no descriptor")):
-            self.assertEqual(count_front_ends(folder), 1)
-        self.assertEqual(count_front_ends(folder), 1)
+        (folder / "front_ends").touch()
+        with mock.patch("os.open", side_effect=OSError(errno.EMFILE, "no descriptor")):
+            self.assertTrue(has_front_ends(folder))
+        self.assertFalse(has_front_ends(folder))
 
 
 class Launched(Sessions):
@@ -394,10 +395,9 @@ class Near(Sessions):
                          (session.folder, os.getpid(), None, session, True))
         with self.assertRaisesRegex(Fault, "^session ssh:h:n has no window 3$"):
             one.window(3)
-        self.patch_of(FolderSession, "places", lambda session: PLACES)
-        self.assertTrue(session.line().endswith("2 panes  0 terminals, 2 windows: 2 5"), session.line())
-        self.patch_of(FolderSession, "places", lambda session: None if session.number == 2 else PLACES)
-        self.assertTrue(session.line().endswith("24 by 80     ? panes  0 terminals, 2 windows: 2 5"), session.line())
+        self.assertTrue(line_of(session, PLACES).endswith("2 panes  0 terminals, 2 windows: 2 5"), line_of(session, PLACES))
+        line = line_of(session, lambda folder: None if folder.name == "2" else PLACES)
+        self.assertTrue(line.endswith("24 by 80     ? panes  0 terminals, 2 windows: 2 5"), line)
         session.clean()
         self.assertEqual(os.listdir(session.folder), [])
 

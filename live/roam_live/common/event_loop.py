@@ -74,6 +74,13 @@ def is_taken(end: End, seconds: float) -> bool:
     return bool(ready(end, WRITE, seconds))
 
 
+def is_hung_up(end: End) -> bool:
+    """Return True if the other end of a connection has gone, also while bytes from it are unread."""
+    poll = select.poll()
+    poll.register(number_of(end), 0)
+    return bool(poll.poll(0))
+
+
 class Watched:
     """The descriptors that epoll watches, with the events of each.
 

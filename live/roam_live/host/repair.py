@@ -113,7 +113,6 @@ class Mending:
         else:
             raise Fault("no name is free for this session")
         windows.asked.common, windows.folder = common, windows_folder(common)
-        windows.common.registry.pending_clients.folder = common
         for window in self.there():
             window.processes.common, window.processes.folder = common, window_folder(common, window.number)
             if window.host:

@@ -40,11 +40,10 @@ class Upload:
 
 
 class HostPeer:
-    """One who is connected, by a number of its own and its process: what came of its lines, what waits for it, and whether it is at a
-    terminal."""
+    """A connection, by a number of its own: what came of its lines, what waits for it, and the terminal at its other end, if any."""
 
-    def __init__(self, end: socket.socket, number: int, process: int = 0) -> None:
-        self.end, self.number, self.process = end, number, process
+    def __init__(self, end: socket.socket, number: int) -> None:
+        self.end, self.number = end, number
         self.came, self.waiting = bytearray(), bytearray()
         self.presence: Presence | None = None
         # Since when that is so, in seconds since the epoch.

@@ -11,9 +11,7 @@ from roam_live.common.errors import Fault, reason, say
 from roam_live.common.event_loop import Loop
 from roam_live.common.io import read, write
 from roam_live.common.listener import Listener
-from roam_live.common.unix_socket import SocketPeer
 from roam_live.host.paste_buffers import NOTHING, READ_ONLY, UNKNOWN, Buffers
-from roam_live.host.pending_clients import PendingClients
 from roam_live.host.pending_pastes import KEPT, PendingPaste, PendingPastes
 from roam_live.host.pending_spawns import HandedCommands
 from roam_live.host.scrollback_queries import RowAsker
@@ -46,8 +44,8 @@ UNREAD = 60.0
 # So many seconds rows aren't read of the filter for who writes them down and doesn't take them.
 LOG_WAIT = 1.0
 
-# So often it is looked again whether all are known who may be at the session, while somebody waits to be told of them.
-MEETS_AGAIN = 0.1
+# A host that replaces another waits so many seconds for the terminals to reconnect before it reports who else is at the session.
+RECONNECTS = 4.0
 
 # The timer for questions about rows.
 ROWS_DUE = "rows are asked for"
@@ -87,16 +85,18 @@ class HostRegistry:
         self.pane_environment = PaneEnvironment()
         self.buffers = Buffers()
         self.colours = Colours()
-        self.attended, self.pending_clients = Attended(), PendingClients(self.processes)
+        self.attended = Attended()
+        # The moment from which it is known who is at the session.
+        self.knows_at = 0.0
         self.lines: WindowLines | None = None
 
     def peers(self) -> list[HostPeer]:
         """All who are connected."""
         return [peer for one in self.sockets for peer in one.peers]
 
-    def processes(self) -> set[int]:
-        """The processes of the terminals that are there, at any window: of those of another machine that of the relay."""
-        return {peer.process for peer in self.peers() if peer.presence}
+    def await_terminals(self) -> None:
+        """Report who is at the session only once the terminals of the host before had time to reconnect."""
+        self.knows_at = self.loop.clock() + RECONNECTS
 
     def next_number(self) -> int:
         """The number of one who came: no other has it."""
@@ -209,7 +209,7 @@ class HostServer:
 
     def take(self, end: socket.socket) -> None:
         """Takes one who came."""
-        peer = HostPeer(end, self.common.next_number(), SocketPeer.of(end).process)
+        peer = HostPeer(end, self.common.next_number())
         self.peers.append(peer)
         if self.rows:
             peer.asker = RowAsker(self.rows, lambda data: self.answer(peer, data), lambda line: self.send(peer, [line]),
@@ -417,12 +417,11 @@ class HostServer:
         self.loop.soon(self.tell_news)
 
     def tell_news(self) -> None:
-        """Tells each who asked what is new of the others, all that came at once together; who asked just now, once it is known who they
-        are."""
+        """Send each peer that asked what is new of the others, once it is known who they are."""
         asked = [peer for peer in self.peers if peer.asks]
-        if any(peer.told is None for peer in asked) and self.common.pending_clients.are_awaited():
-            asked = [peer for peer in asked if peer.told is not None]
-            self.loop.later(f"others of {self.window}", MEETS_AGAIN, self.renew)
+        if self.loop.clock() < self.common.knows_at:
+            self.loop.at(f"others of {self.window}", self.common.knows_at, self.renew)
+            return
         there = {peer.number: peer.presence for peer in self.peers if peer.presence}
         for peer in asked:
             self.send(peer, peer.news({number: one for number, one in there.items() if number != peer.number}, self.zoom.line()))

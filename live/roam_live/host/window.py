@@ -234,7 +234,8 @@ class WindowHost:
         self.server = asked.server or self.subscription.server or None
         self.server_began = begun(self.server) if self.server else None
         self.bells = BellSource(asked.dir, self.loop)
-        common.registry.pending_clients.folder = asked.common
+        if asked.again and not asked.window:
+            common.registry.await_terminals()
         self.socket = HostServer(asked.dir, self.loop, self.look_at_fronts, common.registry, asked.window)
         self.socket.handed.rect_of, self.socket.handed.folder_beside = self.rect_of, self.folder_beside
         # What runs in front in panes, as far as that was looked up.

@@ -245,6 +245,7 @@ class Windows:
                 continue
             window = self.windows[number] = HostedWindow(number, processes, self.taken)
             window.is_again, window.has_client = True, False
+            self.common.registry.await_terminals()
             self.await_(window, OPENS)
 
     def await_first(self) -> None:

@@ -1,7 +1,6 @@
 """The end of a relay beside the server."""
 from __future__ import annotations
 
-import contextlib
 import math
 import os
 import pathlib
@@ -9,8 +8,9 @@ import socket
 import time
 from collections.abc import Iterable
 
-from roam_live.common.errors import Fault
+from roam_live.common.errors import Fault, log_to
 from roam_live.common.event_loop import Loop, is_taken
+from roam_live.common.files import is_own_folder
 from roam_live.common.process import opened_process
 from roam_live.common.unix_socket import connected_now
 from roam_live.protocol.datagram_stream import Carrier, is_datagram
@@ -22,7 +22,6 @@ from roam_live.relay.forwarding import FORWARDS, HOST
 from roam_live.relay.frames import ENDED, KILLED, LEAVES, WANTS, WINDOWS, RelayStream, Waiting
 from roam_live.relay.path_setup import close_standard, forget_note, is_wanted, made_path, name_in, part_from_command, take_over
 from roam_live.relay.transport_switch import Ways, finish
-from roam_live.session.attached import noted_front_end
 from roam_live.session.host_watchdog import HostWatchdog
 from roam_live.session.lookup import window_in
 
@@ -49,6 +48,8 @@ class Far:
         self.place = window_in(asked.dir, asked.server) if asked.server and asked.dir else None
         self.watchdog = HostWatchdog(self.place, self.loop) if self.place else None
         self.windows = FarWindows(self.place, self.loop, self.tell_windows)
+        if asked.dir and is_own_folder(asked.dir):
+            log_to(self.place.common if self.place else asked.dir)
         self.waiting = Waiting()
         self.sockets: dict[int, socket.socket | Carrier] = {}
         self.moments: dict[int, float] = {}
@@ -71,9 +72,8 @@ class Far:
         self.stream.tell(0, FORWARDS)
         self.loop.add(1, None, self.flush, has_more=lambda: self.stream.going)
         self.loop.add(0, self.hear)
-        self.is_counted = False
-        self.client: pathlib.Path | None = None
-        self.count_itself(True)
+        # Whether the near end called recently: while it sleeps its terminals aren't at the session.
+        self.is_called = True
 
     def send(self, peer: int, datagram: bytes) -> None:
         """Sends a client's datagram to the server, where that is to know its client."""
@@ -229,9 +229,6 @@ class Far:
             if self.held is None:
                 end.close()
                 return
-            # What is noted of this process is another's now.
-            self.count_itself(False)
-            self.count_itself(True)
         made = made_path(end)
         if made:
             self.ways.take_path(made[0], self.hear_path, self.opened_socket)
@@ -283,24 +280,12 @@ class Far:
                 raise Ended(0)
             self.make_path(self.name)
 
-    def count_itself(self, is_there: bool) -> None:
-        """Is counted among the session's clients, or no more, as while nobody calls."""
-        if is_there == self.is_counted:
-            return
-        self.is_counted = is_there
-        if is_there:
-            self.client = noted_front_end(self.place.common if self.place else self.asked.dir)
-        elif self.client:
-            with contextlib.suppress(OSError):
-                self.client.unlink()
-
-    def count_callers(self) -> None:
-        """Is counted while somebody calls; who calls no more, as where the other machine sleeps, is not at the session."""
+    def end_asleep(self) -> None:
+        """End the connections to the pty host once the near end has fallen asleep, so that its terminals don't count as present."""
         path = self.ways.path
-        is_called = self.has_command() or path is not None and not path.is_asleep()
-        if self.is_counted and not is_called and path and path.streams:
+        was_called, self.is_called = self.is_called, self.has_command() or path is not None and not path.is_asleep()
+        if was_called and not self.is_called and path and path.streams:
             path.streams.end_named(HOST)
-        self.count_itself(is_called)
 
     # ---- the server
 
@@ -332,7 +317,7 @@ class Far:
         self.renew()
         self.ways.fill(self.waiting, self.has_command())
         self.end_alone()
-        self.count_callers()
+        self.end_asleep()
         alone_at = self.alone_at()
         return min([*self.ways.moments(), *([alone_at] if alone_at < math.inf else [])], default=None)
 
@@ -346,5 +331,4 @@ class Far:
             self.drop(peer)
         self.ways.drop_path()
         self.ways.drop_stream()
-        self.count_itself(False)
         forget_note(self.note)

@@ -60,7 +60,7 @@ class ForwardedConnection:
 
     def __init__(self, number: int) -> None:
         self.number = number
-        # The name of the socket to which the far end connected it.
+        # The name of the socket to which it is connected at the far end.
         self.socket_name = ""
         self.peer: socket.socket | None = None
         self.going, self.coming = bytearray(), bytearray()
@@ -122,6 +122,7 @@ class Streams(Generic[One]):
             if self.last not in self.all:
                 break
         one = self.all[self.last] = self.made(self.last)
+        one.socket_name = name
         self.name(one, name)
         one.going += said
         self.join(one, peer)
@@ -193,6 +194,10 @@ class Streams(Generic[One]):
             one.going.clear()
             if not one.has_ended:
                 self.end(one)
+
+    def has_named(self, name: str) -> bool:
+        """Return True if a connection to a socket of this name is open here."""
+        return any(one.socket_name == name and not (one.has_ended or one.is_over) for one in self.all.values())
 
     def end_named(self, name: str) -> None:
         """Ends those that were connected here to a socket of a name, of any window: the other end is told."""

@@ -27,7 +27,6 @@ from roam_live.relay.near_sockets import NearSockets
 from roam_live.relay.near_windows import NearWindows
 from roam_live.relay.path_setup import Finder, NearPath, is_wanted, kept_name, near_path, wish
 from roam_live.relay.transport_switch import SOUND, Ways, finish
-from roam_live.session.attached import count_front_ends
 from roam_live.session.tmp_keepalive import Lasting
 
 TYPE_CHECKING = False
@@ -50,7 +49,7 @@ PATIENCE = 20.0
 END_WAIT = 1.0
 LAST_PACKETS = 3
 
-# So often it is looked whether a front end is noted.
+# Seconds between two checks whether a front end is connected.
 LOOKS = 5.0
 
 # So often at most other windows are taken that are told, and what that moment is called.
@@ -348,15 +347,19 @@ class Near:
         self.drop(link)
 
     def look(self) -> None:
-        """Ends where no front end has been noted for so long."""
+        """End if no front end has been connected for so long."""
         now = time.monotonic()
         if self.asked.alone is None or now < self.looked_at + LOOKS:
             return
         self.looked_at = now
-        if self.asked.dir and count_front_ends(self.asked.dir):
+        if self.is_used():
             self.used_at = now
         elif now > self.used_at + self.asked.alone:
             raise Ended(0)
+
+    def is_used(self) -> bool:
+        """Return True if a front end is connected here, at any window."""
+        return bool(self.sockets and self.sockets.is_used() or self.windows and self.windows.is_used())
 
     def answered(self, link: RunningCommand, session: str) -> None:
         """Takes a command as the one that carries, now that its other end has answered for a session."""

@@ -7,7 +7,7 @@ import socket
 from collections.abc import Callable
 
 from roam_live.common.errors import Fault, reason, say
-from roam_live.common.event_loop import Loop
+from roam_live.common.event_loop import Loop, is_hung_up
 from roam_live.common.io import read, write
 from roam_live.common.listener import Listener
 from roam_live.protocol.panes import CLIP, CLIPBOARD, METADATA, PanesState, metadata_key
@@ -35,22 +35,50 @@ ASKED_HERE = (METADATA, CLIPBOARD)
 
 
 class ForwardedSocket:
-    """A socket of the near folder: who connects is forwarded to that of its name at the other machine. Who comes while nothing carries
-    waits; for whom there is no room is let go."""
+    """A socket of the near folder, whose connections are forwarded to the socket of that name on the other machine.
+
+    A connection that arrives while nothing carries it is kept until something does, so that it counts as present during an outage. A
+    connection for which there is no room is closed.
+    """
 
     def __init__(self, folder: str, name: str, loop: Loop, forwards: Forwards, leads: str = "") -> None:
         self.name, self.forwards = leads + name, forwards
-        self.listener = Listener(loop, os.path.join(folder, name), self.take, lambda: forwards() is not None, lambda fault: None)
+        self.waiting: list[socket.socket] = []
+        self.listener = Listener(loop, os.path.join(folder, name), self.take, lambda: len(self.waiting) < MOST_SUBSCRIBERS,
+                                 lambda fault: None)
 
     def take(self, peer: socket.socket) -> None:
-        """Has one who came carried."""
+        """Forward a new connection, or keep it until something carries it."""
         streams = self.forwards()
-        if not streams or not streams.begin(self.name, peer):
+        if not streams:
+            self.waiting.append(peer)
+        elif not streams.begin(self.name, peer):
             peer.close()
 
+    def wake(self) -> None:
+        """Forward the connections that were kept."""
+        waiting, self.waiting = self.waiting, []
+        for peer in waiting:
+            self.take(peer)
+
+    def drop_gone(self) -> None:
+        """Close the kept connections whose other end has gone."""
+        for peer in [peer for peer in self.waiting if is_hung_up(peer)]:
+            self.waiting.remove(peer)
+            peer.close()
+
+    def is_used(self) -> bool:
+        """Return True if somebody is connected here."""
+        self.drop_gone()
+        streams = self.forwards()
+        return bool(self.waiting) or streams is not None and streams.has_named(self.name)
+
     def close(self) -> None:
-        """Removes the socket."""
+        """Remove the socket."""
         self.listener.close()
+        for peer in self.waiting:
+            peer.close()
+        self.waiting.clear()
 
 
 class PanesPeer:
@@ -255,6 +283,12 @@ class NearSockets:
         before, self.carrier = self.carrier, self.forwards()
         if self.panes and self.carrier and self.carrier is not before:
             self.panes.wake()
+        for other in self.others if self.carrier else ():
+            other.wake()
+
+    def is_used(self) -> bool:
+        """Return True if a front end is connected, or waits until something carries its connection."""
+        return any(other.is_used() for other in self.others if other.name.endswith(HOST))
 
     def close(self) -> None:
         """Removes the sockets."""

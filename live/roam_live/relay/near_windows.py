@@ -100,6 +100,10 @@ class NearWindows:
         self.windows.pop(number).close()
         self.parts(number)
 
+    def is_used(self) -> bool:
+        """Return True if a front end is connected at a window."""
+        return any(window.sockets.is_used() for window in self.windows.values())
+
     def wake(self) -> None:
         """Goes on where something else forwards connections than before."""
         for window in self.windows.values():

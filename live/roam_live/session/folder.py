@@ -12,8 +12,8 @@ from roam_live.common.files import is_locked, is_own_folder, replace_text
 from roam_live.common.process import TOOLS, age_of, begun, end_words, is_stopped, note_end, program
 from roam_live.common.unix_socket import is_listened
 from roam_live.protocol.panes import ASKED, MOST_CLIENTS, asked_places
-from roam_live.session.attached import count_front_ends
 from roam_live.session.environment import LINK
+from roam_live.session.front_end_lock import FRONT_ENDS, has_front_ends
 from roam_live.session.names import LONGEST_PATH, base, check_name
 from roam_live.session.processes import START_WAIT, Processes, end_left
 from roam_live.session.window_state import REMOTE_CLIENTS, WINDOWS
@@ -23,6 +23,7 @@ if TYPE_CHECKING:
     from collections.abc import Iterable
 
     from roam_live.protocol.panes import Places
+    from roam_live.session.survey import Survey
 
 # What the note of a session of one window is like.
 VERSION = 3
@@ -33,10 +34,13 @@ ROOM_ASKED = 0.25
 # So many seconds the log of a session that has ended stays; and the files of which a process that was killed while it wrote one leaves
 # another, with its number behind the name.
 LOG_KEPT = 86400.0
-WRITTEN = ("ended", "state.json", "session", "attached")
+WRITTEN = ("ended", "state.json", "session")
 
 # From so many clients on `mux ls` tells how many a server knows.
 MANY_CLIENTS = 32
+
+# What `mux ls` says of a session that did not say how many terminals it has.
+NO_ANSWER = ", its pty host does not answer"
 
 SOCKETS = ("clients", "panes", "terminals", "bells", "host", *(f"p{pane}" for pane in range(1, 10)))
 
@@ -193,7 +197,6 @@ class FolderSession(Processes):
     def launch(self, command: Iterable[str] = ()) -> None:
         """Launches the server and its shells, or a command in place of each shell; all or nothing."""
         self.clean()
-        self.forget_front_ends()
         self.state = {"version": VERSION, "command": list(command)}
         before = self.logged()
         with self.whole():
@@ -264,8 +267,6 @@ class FolderSession(Processes):
         nothing is removed."""
         if self.is_served():
             raise Fault(f"somebody answers at {self.folder / 'clients'}; nothing is removed there")
-        # A front end that is there still reads how it ended.
-        count_front_ends(self.folder)
         relays = self.folder / "relays"
         notes = [self.folder / name for name in (*SOCKETS, LINK, REMOTE_CLIENTS, "session", "session.new", "state.json")]
         for path in [*(relays.iterdir() if relays.is_dir() else ()), *notes]:
@@ -274,12 +275,6 @@ class FolderSession(Processes):
             import shutil
 
             shutil.rmtree(self.folder / WINDOWS, ignore_errors=True)
-
-    def forget_front_ends(self) -> None:
-        """Has no front end counted that was at one of this name before."""
-        attached = self.folder / "attached"
-        for note in attached.iterdir() if attached.is_dir() else ():
-            note.unlink(missing_ok=True)
 
     def end_all(self) -> None:
         """Ends the session's processes; the shells hang up their programs once the server is gone."""
@@ -302,18 +297,18 @@ class FolderSession(Processes):
                 self.leave()
 
     def leave(self) -> None:
-        """Removes the folder of one that has ended, unless somebody is there still; its log stays for a day, where it tells something."""
-        attached, ended = self.folder / "attached", self.folder / "ended"
-        if count_front_ends(self.common) or is_locked(self.folder):
+        """Remove the folder of an ended session, unless a front end still has to read how it ended. A log that says something stays for a
+        day."""
+        front_ends, ended, relays = self.folder / FRONT_ENDS, self.folder / "ended", self.folder / "relays"
+        if has_front_ends(self.common) or is_locked(self.folder):
             return
-        if self.log.exists() and (attached.is_dir() or ended.exists()):
+        if self.log.exists() and (front_ends.exists() or ended.exists()):
             # It has ended just now.
             os.utime(self.log)
-        for path in [ended, *(path for path in self.folder.iterdir() if path.stem in WRITTEN and path.suffix[1:].isdigit())]:
+        for path in [ended, front_ends, *(path for path in self.folder.iterdir() if path.stem in WRITTEN and path.suffix[1:].isdigit())]:
             path.unlink(missing_ok=True)
-        for folder in (attached, self.folder / "relays"):
-            if folder.is_dir():
-                folder.rmdir()
+        if relays.is_dir():
+            relays.rmdir()
         if not self.tells() or time.time() > self.log.stat().st_mtime + LOG_KEPT:
             self.log.unlink(missing_ok=True)
         (self.folder / "lock").unlink(missing_ok=True)
@@ -333,18 +328,27 @@ class FolderSession(Processes):
 
     # ---- what `mux ls` says
 
-    def listed(self) -> str:
-        """What `mux ls` says of it: nothing of one that has ended, which is cleaned up where nobody launches it anew."""
+    def is_listed(self) -> bool:
+        """Return True if it runs. One that has ended is cleaned up, unless somebody is launching it anew."""
         if not self.find():
             self.drop_ended()
-        return self.line() if self.runs() else ""
+        return self.runs()
 
-    def line(self) -> str:
-        """What `mux ls` says of it."""
-        places = self.places()
-        size = "{} by {}".format(*places.size()) if places else "-"
-        panes = len(places.rects) if places else None
-        return f"{listed(self.name, size, panes, count_front_ends(self.common))}{many_clients([places])}{self.lacking()}"
+    def shown_window(self, windows: list[FolderSession]) -> FolderSession:
+        """Return the window whose size `mux ls` prints."""
+        return windows[0]
+
+    def line(self, survey: Survey, windows: list[FolderSession]) -> str:
+        """Return the line of `mux ls`, by what the sockets of its windows answered."""
+        places = [survey.places(window.folder) for window in windows]
+        shown = survey.places(self.shown_window(windows).folder) if windows else None
+        size = "{} by {}".format(*shown.size()) if shown else "-"
+        panes = None if None in places or not places else sum(len(one.rects) for one in places if one)
+        terminals = survey.terminals(windows[0].folder) if windows else None
+        named = " ".join(f"{window.number}:{window.title()}" if window.title() else f"{window.number}" for window in windows)
+        more = f", {len(windows)} windows: {named}" if len(windows) > 1 else ""
+        lacking = self.lacking() or (NO_ANSWER if terminals is None else "")
+        return f"{listed(self.name, size, panes, terminals)}{many_clients(places)}{more}{lacking}"
 
     def lacking(self) -> str:
         """What `mux ls` says of the pty host, where that doesn't run."""
@@ -354,10 +358,10 @@ class FolderSession(Processes):
         return ", the pty host is stopped" if is_stopped(host) else ""
 
 
-def listed(name: str, size: str, panes: int | None, terminals: int) -> str:
-    """What `mux ls` says of any session; panes that aren't known are None."""
+def listed(name: str, size: str, panes: int | None, terminals: int | None) -> str:
+    """Return the columns of `mux ls` that each session has; what is unknown is None."""
     has = "? panes" if panes is None else "1 pane" if panes == 1 else f"{panes} panes"
-    return f"{name:12} {size:12} {has:8} {terminals} terminal{'' if terminals == 1 else 's'}"
+    return f"{name:12} {size:12} {has:8} {'?' if terminals is None else terminals} terminal{'' if terminals == 1 else 's'}"
 
 
 def many_clients(found: Iterable[Places | None]) -> str:

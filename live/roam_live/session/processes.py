@@ -14,6 +14,7 @@ from roam_live.common.errors import Fault, is_absent, reason, say
 from roam_live.common.files import is_own_folder, make_room, replace_text
 from roam_live.common.process import begun, is_running
 from roam_live.common.unix_socket import SAID_AFTER, SocketPeer, connected_in
+from roam_live.session.front_end_lock import FRONT_ENDS
 
 TYPE_CHECKING = False
 if TYPE_CHECKING:
@@ -338,11 +339,8 @@ class Processes:
 
     def forget(self) -> None:
         """Removes the folder of one that doesn't run, where its log tells nothing; its lock is held."""
-        attached = self.folder / "attached"
         with contextlib.suppress(OSError):
             if not self.logged():
-                if attached.is_dir():
-                    attached.rmdir()
-                for name in ("log", "lock"):
+                for name in ("log", "lock", FRONT_ENDS):
                     (self.folder / name).unlink(missing_ok=True)
                 self.folder.rmdir()

@@ -8,8 +8,7 @@ import time
 
 from roam_live.common.errors import Fault
 from roam_live.common.process import TOOLS, end_words, holder_of
-from roam_live.session.attached import count_front_ends
-from roam_live.session.folder import VERSION, FolderSession, listed, many_clients
+from roam_live.session.folder import VERSION, FolderSession
 from roam_live.session.window_state import WINDOWS, numbers_in
 
 TYPE_CHECKING = False
@@ -58,16 +57,9 @@ class NearSession(FolderSession):
                 return
             time.sleep(0.01)
 
-    def line(self) -> str:
-        """What `mux ls` says of it: the size of the relay's own window, and the panes of all."""
-        windows, own = self.windows(), self.places()
-        if len(windows) < 2:
-            return super().line()
-        found = [window.places() for window in windows]
-        panes = None if None in found else sum(len(one.rects) for one in found if one)
-        size = "{} by {}".format(*own.size()) if own else "-"
-        named = " ".join(str(window.number) for window in windows)
-        return f"{listed(self.name, size, panes, count_front_ends(self.common))}{many_clients([own])}, {len(windows)} windows: {named}"
+    def shown_window(self, windows: list[FolderSession]) -> FolderSession:
+        """Return the window that is the relay's own."""
+        return next((window for window in windows if window.id() == self.id()), windows[0])
 
     def end_all(self) -> None:
         """Ends the relay, and the client processes of all windows."""
@@ -91,7 +83,6 @@ class NearSession(FolderSession):
         """Starts a relay over a command, which may ask at this terminal until it has answered, and by UDP to a host, where one is named;
         tells the status of one that didn't answer, and leaves no folder then."""
         self.clean()
-        self.forget_front_ends()
         (self.folder / "ended").unlink(missing_ok=True)
         self.state = {"version": VERSION}
         words = [str(TOOLS / "relay"), "--alone", str(ALONE), "--log", str(self.log), *([f"--host={host}"] if host else [])]

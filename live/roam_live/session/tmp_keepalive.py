@@ -111,10 +111,10 @@ class Lasting:
                 os.utime(path, follow_symlinks=False)
 
     def paths(self) -> Iterator[str]:
-        """The folder, what lies there, and the notes of clients and of far ends, and windows with what lies in their folders."""
+        """Yield the folder, what lies there, the notes of far ends, and windows with what lies in their folders."""
         yield self.folder
         windows = os.path.join(self.folder, WINDOWS)
-        for folder in (self.folder, *(os.path.join(self.folder, name) for name in ("attached", "relays")), windows):
+        for folder in (self.folder, os.path.join(self.folder, "relays"), windows):
             found = entries_in(folder)
             yield from found
             if folder == windows:

@@ -9,8 +9,7 @@ from roam_live.common.errors import Fault
 from roam_live.common.process import TOOLS, begun, end_words, holder_of, program
 from roam_live.common.unix_socket import is_listened
 from roam_live.protocol.window_lines import MOST_WINDOWS, name_in
-from roam_live.session.attached import count_front_ends
-from roam_live.session.folder import FolderSession, command_of, listed, many_clients
+from roam_live.session.folder import FolderSession, command_of
 from roam_live.session.names import LONGEST_PATH
 from roam_live.session.processes import end_left
 from roam_live.session.window_state import SPARE, WINDOWS, WINDOWS_VERSION, is_spare_server, note_ends, numbers_in
@@ -113,7 +112,6 @@ class WindowedSession(FolderSession):
     def launch(self, command: Iterable[str] = ()) -> None:
         """Launches the pty host, and the server of the first, with a command in place of each shell; all or nothing."""
         self.clean()
-        self.forget_front_ends()
         self.state = {"version": self.version, "command": list(command)}
         window = Window(self, FIRST)
         window.name = self.name
@@ -207,17 +205,10 @@ class WindowedSession(FolderSession):
 
     # ---- what `mux ls` says
 
-    def line(self) -> str:
-        """What `mux ls` says of it: the size of the window where somebody was last, the panes of all, and where there are several which."""
-        windows = self.windows()
-        places = {window.number: window.places() for window in windows}
-        shown = places.get(self.last()) or next(iter(places.values()), None)
-        size = "{} by {}".format(*shown.size()) if shown else "-"
-        panes = None if None in places.values() or not places else sum(len(one.rects) for one in places.values() if one)
-        named = " ".join(f"{window.number}:{window.title()}" if window.title() else f"{window.number}" for window in windows)
-        more = f", {len(windows)} windows: {named}" if len(windows) > 1 else ""
-        clients = many_clients(places.values())
-        return f"{listed(self.name, size, panes, count_front_ends(self.folder))}{clients}{more}{self.lacking()}"
+    def shown_window(self, windows: list[FolderSession]) -> FolderSession:
+        """Return the window where somebody was last."""
+        last = self.last()
+        return next((window for window in windows if window.number == last), windows[0])
 
 
 class Window(FolderSession):

@@ -102,7 +102,7 @@ def host(folder):
     outer.type(b"\x02\x1b[D")
     check("an arrow goes by where it is", outer.status("[1] 4  2  3 "), outer.rows)
     line = " ".join(listed())
-    wanted = "4 panes 1 terminal, the pty host is stopped"
+    wanted = "4 panes ? terminals, the pty host is stopped"
     check("ls counts the server's panes, and says so", line.endswith(wanted), line)
     os.kill(host, signal.SIGCONT)
     outer.type(b"\x02q4echo aw''ake\r")
@@ -111,7 +111,7 @@ def host(folder):
     outer.type(b"\x02d")
     outer.ends()
     os.kill(host, signal.SIGKILL)
-    wanted = "4 panes 0 terminals, its pty host is not running"
+    wanted = "4 panes ? terminals, its pty host is not running"
     check("where it has ended ls says that nothing keeps them", comes(lambda: " ".join(listed()).endswith(wanted)), listed)
     again = Outer(tool("mux", SESSION))
     check("who attaches has another", again.shows("[a new shell; ") and " ".join(listed()).endswith("4 panes 1 terminal"), listed)

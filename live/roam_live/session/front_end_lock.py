@@ -1,0 +1,63 @@
+"""The lock that keeps a session's folder until all its front ends have read how the session ended.
+
+Each front end holds a shared lock on the file `front_ends`; the kernel releases it with the process.
+"""
+from __future__ import annotations
+
+import contextlib
+import fcntl
+import os
+from collections.abc import Iterator
+
+from roam_live.common.errors import Fault, log_to, reason, say
+from roam_live.common.files import is_own_folder
+
+# The locked file in a session's folder.
+FRONT_ENDS = "front_ends"
+
+
+@contextlib.contextmanager
+def locked_session(folder: str | os.PathLike[str] | None) -> Iterator[None]:
+    """Keep a session's folder, if it has one, and log unexpected errors there. Fault if it is no folder."""
+    end = opened(folder) if folder else None
+    try:
+        if end is not None:
+            with contextlib.suppress(OSError):
+                fcntl.flock(end, fcntl.LOCK_SH | fcntl.LOCK_NB)
+        yield
+    finally:
+        if end is not None:
+            os.close(end)
+
+
+def opened(folder: str | os.PathLike[str]) -> int | None:
+    """Return the open file that a front end locks; None if it can't be had, which is said."""
+    if not os.path.isdir(folder):
+        raise Fault(f"{folder} is no folder")
+    if not is_own_folder(folder):
+        say(f"{folder} is not a folder of yours: nothing is logged there")
+        return None
+    log_to(folder)
+    path = os.path.join(folder, FRONT_ENDS)
+    try:
+        return os.open(path, os.O_RDONLY | os.O_CREAT | os.O_CLOEXEC | os.O_NOFOLLOW, 0o600)
+    except OSError as fault:
+        say(f"{path} cannot be locked: {reason(fault)}; the end of the session may be reported as a failure")
+        return None
+
+
+def has_front_ends(folder: str | os.PathLike[str]) -> bool:
+    """Return True if a front end keeps a session's folder, or that can't be known."""
+    try:
+        end = os.open(os.path.join(folder, FRONT_ENDS), os.O_RDONLY | os.O_CLOEXEC | os.O_NOFOLLOW)
+    except FileNotFoundError:
+        return False
+    except OSError:
+        return True
+    try:
+        fcntl.flock(end, fcntl.LOCK_EX | fcntl.LOCK_NB)
+    except OSError:
+        return True
+    finally:
+        os.close(end)
+    return False
