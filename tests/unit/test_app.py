@@ -21,6 +21,7 @@ from roam_live.protocol.colours import ASKED
 from roam_live.protocol.display_records import DisplayRecord
 from roam_live.protocol.host_client import FEW
 from roam_live.protocol.panes import Places, Rect
+from roam_live.session.front_end_lock import has_front_ends
 from test_display import Person, PlayedPanes, painting, places
 
 PANES = Places({1: Rect(1, 1, 23, 39), 2: Rect(1, 41, 11, 40), 3: Rect(13, 41, 11, 40)}, 1, 1)
@@ -650,12 +651,11 @@ class Loop(Fronts):
         self.assertEqual(steps, [1, 2])
 
     def test_follow(self):
-        """Who follows is noted while it does, and lets the session go."""
+        """Who follows keeps the session's folder while it does, and lets the session go."""
         seen = []
 
         def runs():
-            note = self.place.folder / "attached" / str(os.getpid())
-            seen.append(note.read_text(encoding="utf-8"))
+            seen.append(has_front_ends(self.place.folder))
             return 5
 
         with mock.patch.object(app, "FrontEnd") as made:
@@ -666,8 +666,7 @@ class Loop(Fronts):
             self.assertEqual(made.call_args[1], {"is_whole": False, "has_mouse": True, "has_clips": False})
             self.environment(ROAM_MOUSE="no")
             self.assertRaises(Fault, app.follow, self.place, True, "C-a", "never")
-        self.assertEqual(seen, [f"{begun(os.getpid())} read-only\n"])
-        self.assertEqual((list((self.place.folder / "attached").iterdir()), self.place.is_closed), ([], True))
+        self.assertEqual((seen, has_front_ends(self.place.folder), self.place.is_closed), ([True], False, True))
 
 
 class Mouse(Fronts):

@@ -19,7 +19,6 @@ from roam_live.frontend.display import Display, wrapped
 from roam_live.input.keys import BRACKETS
 from roam_live.protocol.display_records import DisplayRecord
 from roam_live.protocol.panes import Places, Rect
-from roam_live.session.attached import noted_front_end
 
 FITS = "C-b r fits"
 
@@ -166,6 +165,8 @@ def painting(rows, cols, text="x"):
 
 class PlayedHost:
     """What the pty host tells of who else is at the session."""
+
+    is_known = is_there = False
 
     def __init__(self, types=None, awaited=False):
         self.types, self.awaited, self.said = types, awaited, 0
@@ -410,32 +411,19 @@ class Sizes(unittest.TestCase):
 
     def test_beside_another(self):
         """A larger terminal leaves the size to another that is there, and is told the key."""
-        with tempfile.TemporaryDirectory() as folder:
-            other = os.fork()
-            if other == 0:
-                noted_front_end(folder)
-                signal_pause()
-            try:
-                note = pathlib.Path(folder, "attached", str(other))
-                while not note.exists():
-                    pass
-                person = Person(50, 132, told=places(24, 80), folder=folder)
-                self.assertEqual((person.sizes(), person.said()), ([], ["part 23 80"]))
-                self.assertEqual(person.display.told, "24 by 80, as another terminal has it; C-b r fits this one")
-                self.assertEqual(person.types(b"\x02r"), ["size 50 132"])
-                # No resize of one that isn't alone makes the session smaller.
-                other_one = Person(24, 80, told=places(24, 80), folder=folder)
-                other_one.resize(20, 70)
-                self.assertEqual((other_one.sizes(), other_one.display.line().endswith(FITS)), ([], True))
-                note.write_text(note.read_text(encoding="utf-8").replace("read-write", "read-only"), encoding="utf-8")
-                self.assertEqual(Person(50, 132, told=places(24, 80), folder=folder).sizes(), ["size 50 132"])
-            finally:
-                os.kill(other, 9)
-                os.waitpid(other, 0)
+        person = Person(50, 132, told=places(24, 80), host=PlayedHost(True))
+        self.assertEqual((person.sizes(), person.said()), ([], ["part 23 80"]))
+        self.assertEqual(person.display.told, "24 by 80, as another terminal has it; C-b r fits this one")
+        self.assertEqual(person.types(b"\x02r"), ["size 50 132"])
+        # No resize of one that isn't alone makes the session smaller.
+        other_one = Person(24, 80, told=places(24, 80), host=PlayedHost(True))
+        other_one.resize(20, 70)
+        self.assertEqual((other_one.sizes(), other_one.display.line().endswith(FITS)), ([], True))
+        self.assertEqual(Person(50, 132, told=places(24, 80), host=PlayedHost(False)).sizes(), ["size 50 132"])
 
     def test_resized(self):
         """A lone terminal that showed all of it is followed to a smaller size, and back; one that showed a part isn't."""
-        person = Person(24, 80, told=places(24, 80))
+        person = Person(24, 80, told=places(24, 80), host=PlayedHost(False))
         person.answers()
         person.resize(20, 70)
         self.assertEqual((person.sizes(), person.said()), (["size 20 70"], ["part 19 70"]))
@@ -447,10 +435,9 @@ class Sizes(unittest.TestCase):
         self.assertEqual(person.said(), [])
         person.resize(30, 90)
         self.assertEqual(person.sizes()[2:], ["size 30 90"])
-        # One of another machine isn't, and none without a folder: who is there isn't known.
-        for wrong in ({"served": "relay"}, {"folder": None, "common": None}):
-            person = Person(24, 80, told=places(24, 80))
-            person.place.__dict__.update(wrong)
+        # Without a pty host that knows who is there none is.
+        for host in (None, PlayedHost(None)):
+            person = Person(24, 80, told=places(24, 80), host=host)
             person.resize(20, 70)
             self.assertEqual((person.sizes(), person.said()), ([], ["part 23 80", "part 19 70"]))
         small = Person(12, 40, told=places(24, 80))
@@ -468,15 +455,18 @@ class Sizes(unittest.TestCase):
             person.answers()
             person.resize(20, 70)
             self.assertEqual((person.sizes(), person.host.said > 1), (sizes, True), types)
-            # Nor does it grow where that isn't known, since somebody may be there whom no note of this machine tells.
+            # Nor does it grow where that isn't known.
             person = Person(24, 80, told=places(24, 80), host=PlayedHost(types))
             person.place.served = "relay"
             person.answers()
             person.resize(30, 90)
             self.assertEqual(person.sizes(), ["size 30 90"] if types is False else [], types)
-        with mock.patch("roam_live.frontend.commands.has_others", return_value=True):
-            self.assertEqual(Person(50, 132, told=places(24, 80), host=PlayedHost(False)).sizes(), ["size 50 132"])
-            self.assertEqual(Person(50, 132, told=places(24, 80), host=PlayedHost(None)).sizes(), [])
+        # It grows where no pty host is there at all, and not where one may tell later.
+        for is_known, is_there, sizes in ((True, False, []), (False, True, []), (False, False, ["size 50 132"])):
+            host = PlayedHost(None)
+            host.is_known, host.is_there = is_known, is_there
+            self.assertEqual(Person(50, 132, told=places(24, 80), host=host).sizes(), sizes, (is_known, is_there))
+        self.assertEqual(Person(50, 132, told=places(24, 80)).sizes(), ["size 50 132"])
         person = Person(50, 132, told=places(24, 80), host=PlayedHost(True))
         self.assertEqual((person.sizes(), person.display.told), ([], "24 by 80, as another terminal has it; C-b r fits this one"))
         small = Person(12, 40, told=places(24, 80), host=PlayedHost(False))

@@ -1,7 +1,6 @@
 """A person's front end of a session: a terminal connected to the session's client process, until the person leaves or the session ends."""
 from __future__ import annotations
 
-import contextlib
 import os
 import signal
 import time
@@ -27,14 +26,12 @@ from roam_live.protocol.bells import BellSubscriber
 from roam_live.protocol.client_link import LAST_WAIT, ClientLink, Reconnector
 from roam_live.protocol.host_client import HostClient
 from roam_live.protocol.panes_client import AWAITED, PanesSubscriber
-from roam_live.session.attached import noted_front_end
 from roam_live.session.environment import environment_lines
+from roam_live.session.front_end_lock import locked_session
 from roam_live.session.host_watchdog import HostWatchdog
 
 TYPE_CHECKING = False
 if TYPE_CHECKING:
-    import pathlib
-
     from roam_live.common.tty import Size
     from roam_live.protocol.display_records import DisplayRecord
     from roam_live.protocol.panes import Places
@@ -497,18 +494,10 @@ def follow(session: AnySession, is_read_only: bool, prefix: str, prediction: str
     """Has a person follow a session at this terminal, and tells the status; predictions are shown always, where that helps, or never. Where
     the session is new, which may be known a moment later, it gets this terminal's size, whatever that is. It may be shown whole, where
     there is room for its own status row."""
-    note = None
     try:
         has_mouse, has_clips = wants_mouse(), sets_clipboard()
-        note = noted_front_end(session.common, "read-only" if is_read_only else "read-write")
-        return FrontEnd(session, is_read_only, prefix, prediction, is_new, is_whole=is_whole, has_mouse=has_mouse,
-                        has_clips=has_clips).run()
+        with locked_session(session.common):
+            return FrontEnd(session, is_read_only, prefix, prediction, is_new, is_whole=is_whole, has_mouse=has_mouse,
+                            has_clips=has_clips).run()
     finally:
-        all_done(session.close, lambda: forget_note(note))
-
-
-def forget_note(note: pathlib.Path | None) -> None:
-    """Removes the file that noted this front end."""
-    if note:
-        with contextlib.suppress(OSError):
-            note.unlink()
+        session.close()

@@ -31,7 +31,6 @@ from roam_live.protocol.colours import COLOUR
 from roam_live.protocol.panes import BESIDE, MOVES, Places
 from roam_live.protocol.panes_client import PanesSubscriber
 from roam_live.protocol.presence import LEAVE_OTHERS
-from roam_live.session.attached import has_others
 from roam_live.session.foreground import told
 
 TYPE_CHECKING = False
@@ -647,16 +646,17 @@ class Commands:
             self.showed_all = self.requested_size is not None or shows_all
 
     def has_others(self) -> bool | None:
-        """Whether somebody else types, as the pty host tells it; else by the notes in the session's folder. None where that
-        isn't known: in the folder of another machine's session not all are noted."""
+        """Return True if somebody else types at the session, False if nobody is known to, and None if that is unknown.
+
+        The pty host knows. A session on this machine that has none has nobody who says that he is there.
+        """
         told = self.host.has_others() if self.host else None
-        if told is None and not has_others(self.session.common):
-            return None if self.session.served == "relay" else False
-        return told is None or told
+        is_unknown = self.session.served == "relay" or self.host is not None and (self.host.is_known or self.host.is_there)
+        return told if told is not None or is_unknown else False
 
     def is_alone(self) -> bool:
-        """Whether it is known that nobody else types: without a folder it never is."""
-        return self.session.common is not None and self.has_others() is False
+        """Return True if the pty host reports that nobody else types."""
+        return self.host is not None and self.host.has_others() is False
 
     def fit(self) -> None:
         """Fits the session to this terminal, as far as that may be: a new session goes by each size. Who else is there has to be known for
