@@ -126,7 +126,7 @@ class Near(Case):
         (self.folder / "w/9").mkdir(parents=True)
         pathlib.Path(self.folder, "w/9/session").touch()
         self.windows.take({1: "a", 2: "b"})
-        names = ("bells", "clients", "host", "panes", "session")
+        names = ("clients", "host", "panes", "session")
         self.assertEqual(self.there(), [f"w/{number}/{name}" for number in (1, 2) for name in names])
         self.assertEqual((self.folder / "w/2/session").read_text(encoding="ascii"), "b\n")
         self.windows.take({1: "c"})
@@ -188,7 +188,7 @@ class Names(Case):
     """Names of sockets that are carried."""
 
     def test_names(self):
-        """Those of windows are of three names too, and are ended by these."""
+        """Those of windows are of two names too, and are ended by these."""
         opened = []
 
         def opens(name):
@@ -196,7 +196,7 @@ class Names(Case):
             raise FileNotFoundError(name)
 
         streams = Streams(StillLoop(), opens)
-        for name in ("panes", "w/2/host", "w/99/bells", "w/0/panes", "w/100/panes", "w/2/clients", "w/2/../panes", "w/2/w/3/panes",
-                     "clients"):
+        for name in ("panes", "w/2/host", "w/99/host", "w/2/bells", "w/0/panes", "w/100/panes", "w/2/clients", "w/2/../panes",
+                     "w/2/w/3/panes", "clients"):
             streams.opened(ForwardedConnection(1), name)
-        self.assertEqual(opened, ["panes", "w/2/host", "w/99/bells"])
+        self.assertEqual(opened, ["panes", "w/2/host", "w/99/host"])

@@ -112,14 +112,14 @@ class Kept(Host):
         panes = self.begin()
         self.host.asked.close = True
         pane = self.host.panes[2]
-        with mock.patch.object(pane.bells, "rung", side_effect=ValueError("wrong")):
+        with mock.patch.object(pane.keypad, "fed", side_effect=ValueError("wrong")):
             for text in (b"one", b"two"):
                 self.made[1].send(text)
                 self.turn()
         self.made[1].send(b"three")
         self.turn()
         self.assertEqual((read_now(panes[1]), pane.has_ended), (b"three", False))
-        with mock.patch.object(pane.bells, "rung", side_effect=ValueError("wrong")):
+        with mock.patch.object(pane.keypad, "fed", side_effect=ValueError("wrong")):
             self.made[1].send(b"four")
             self.turn(4)
         self.assertEqual((pane.terminal, self.host.common.hung), (None, [72]))
@@ -136,7 +136,7 @@ class Kept(Host):
         self.host.asked.close = True
         end = self.taken(self.listeners["p1"])
         pane = self.host.panes[1]
-        with mock.patch.object(pane.bells, "rung", side_effect=ValueError("wrong")):
+        with mock.patch.object(pane.keypad, "fed", side_effect=ValueError("wrong")):
             for _ in range(3):
                 self.made[0].send(b"x")
                 self.turn()
@@ -156,7 +156,7 @@ class Kept(Host):
         panes = self.begin()
         self.host.loop.later("moment", 0, lambda: 1 / 0)
         self.host.loop.each(lambda: [][0])
-        with mock.patch.object(self.host, "ring", side_effect=KeyError("ring")):
+        with mock.patch.object(self.host, "touch", side_effect=KeyError("touch")):
             self.made[1].send(b"x")
             self.turn(3)
         self.made[0].send(b"goes on")
@@ -172,18 +172,6 @@ class Kept(Host):
         with mock.patch.object(self.host, "there_is", side_effect=KeyError("there is")):
             self.tell("1 1 1 23 39 4")
         self.assertEqual((self.host.common.faults.count, sorted(self.host.panes)), (1, [1, 2]))
-
-    def test_bells(self):
-        """An exception ends the connection of a subscriber of bells."""
-        self.begin()
-        one = socket.socket(socket.AF_UNIX, socket.SOCK_STREAM)
-        self.addCleanup(one.close)
-        one.connect(str(self.folder / "bells"))
-        self.turn()
-        with mock.patch.object(self.host.bells, "hear", side_effect=ValueError("wrong")):
-            one.send(b"x")
-            self.turn()
-        self.assertEqual((self.host.bells.subscribers, self.host.common.faults.count), ([], 1))
 
     def test_memory(self):
         """If memory is short, scrollback rows are dropped and the pane goes on a second later, however often that happens."""

@@ -23,7 +23,7 @@ class Both(Case):
     def opens(self, name):
         """A connection to a socket of the far folder; its other end is the server's."""
         self.names.append(name)
-        if name == "host":
+        if name == "w/3/host":
             raise ConnectionRefusedError("nobody keeps shells")
         ours, theirs = self.pair()
         self.servers.append(theirs)
@@ -47,16 +47,16 @@ class Carries:
 
     def test_both_ways(self):
         """Bytes go both ways, in their order, to the socket of that name; what was read already goes first."""
-        client, other = self.client("panes", b"host\n"), self.client("bells")
+        client, other = self.client("panes", b"host\n"), self.client("host")
         self.turn(2)
-        self.assertEqual(sorted(self.names), ["bells", "panes"])
-        panes, bells = self.by_name["panes"], self.by_name["bells"]
+        self.assertEqual(sorted(self.names), ["host", "panes"])
+        panes, host = self.by_name["panes"], self.by_name["host"]
         client.send(b"close 1 1\n")
         panes.send(b"1 1 1 23 80 1\n")
-        bells.send(b"bell 3\n")
+        host.send(b"others 0\n")
         self.turn(4)
-        self.assertEqual((read_now(panes), read_now(bells)), (b"host\nclose 1 1\n", b""))
-        self.assertEqual((read_now(client), read_now(other)), (b"1 1 1 23 80 1\n", b"bell 3\n"))
+        self.assertEqual((read_now(panes), read_now(host)), (b"host\nclose 1 1\n", b""))
+        self.assertEqual((read_now(client), read_now(other)), (b"1 1 1 23 80 1\n", b"others 0\n"))
 
     def test_ends(self):
         """Whoever ends it ends both, behind what was said before; nothing is left of it at either end."""
@@ -72,11 +72,11 @@ class Carries:
             self.assertEqual((self.near.all, self.far.all), ({}, {}))
 
     def test_names(self):
-        """Three names are known, and no other, nor a path; where nobody listens the connection ends."""
-        self.assertEqual(NAMES, ("panes", "bells", "host"))
-        clients = [self.client(name) for name in ("clients", "p1", "terminals", "../panes", "panes\0", "host", "x" * 32)]
+        """Two names are known, and no other, nor a path; where nobody listens the connection ends."""
+        self.assertEqual(NAMES, ("panes", "host"))
+        clients = [self.client(name) for name in ("clients", "p1", "terminals", "../panes", "panes\0", "w/3/host", "x" * 32)]
         self.turn(6)
-        self.assertEqual((self.names, self.servers), (["host"], []))
+        self.assertEqual((self.names, self.servers), (["w/3/host"], []))
         for client in clients:
             self.assertEqual(client.recv(1), b"")
         self.assertEqual((self.near.all, self.far.all), ({}, {}))
@@ -130,7 +130,7 @@ class Carries:
 
     def test_end_all(self):
         """Where another way carries them they all end, at both ends."""
-        clients = [self.client(name) for name in ("panes", "bells")]
+        clients = [self.client(name) for name in ("panes", "host")]
         self.turn(2)
         self.near.end_all()
         self.turn(4)
@@ -213,12 +213,12 @@ class Pipes(Both, Carries):
 
     def test_frames(self):
         """The frames are these."""
-        client = self.client("bells", b"ab")
+        client = self.client("panes", b"ab")
         self.near.fill(100)
         client.close()
         self.loop.turn()
         self.near.fill(100)
-        self.assertEqual([text for text, _ in self.going["near"]], [b"o\0\1bells", b"d\0\1ab", b"q\0\1"])
+        self.assertEqual([text for text, _ in self.going["near"]], [b"o\0\1panes", b"d\0\1ab", b"q\0\1"])
         self.assertFalse(self.far.take(b"z"))
 
     def test_fill(self):
@@ -330,13 +330,13 @@ class Paths(Both, Carries):
 
     def test_chunks(self):
         """The first bytes are the name and LF; chunks have 1,080 bytes at most, and the last none."""
-        client = self.client("bells", b"x" * 2000)
+        client = self.client("panes", b"x" * 2000)
         found = [self.near.next_chunk(ROOM) for _ in range(2)]
         client.close()
         self.loop.turn()
         found += [self.near.next_chunk(ROOM) for _ in range(2)]
         self.assertEqual(found, [StreamChunk(b"s", 1, 0), StreamChunk(b"s", 1, 1080), StreamChunk(b"s", 1, 2006), None])
-        self.assertEqual(self.near.frame(found[0]), STREAM.pack(b"s", 1, 0, 1080) + b"bells\n" + b"x" * 1074)
+        self.assertEqual(self.near.frame(found[0]), STREAM.pack(b"s", 1, 0, 1080) + b"panes\n" + b"x" * 1074)
         self.assertEqual(self.near.frame(found[2]), b"s\0\1" + (2006).to_bytes(8, "big") + b"\0\0")
         self.assertEqual((LONGEST_CHUNK, STREAM.size, TAKEN_COUNT.size), (1080, 13, 11))
         self.near.arrived(found[1])
@@ -345,12 +345,12 @@ class Paths(Both, Carries):
 
     def test_little_room(self):
         """A chunk goes by the room that there is; none where there is none."""
-        self.client("bells")
+        self.client("panes")
         self.assertFalse(self.near.next_chunk(13))
         chunk = self.near.next_chunk(15)
-        self.assertEqual(self.near.frame(chunk)[13:], b"be")
+        self.assertEqual(self.near.frame(chunk)[13:], b"pa")
         self.assertTrue(self.near.waits())
-        self.assertEqual(self.near.frame(self.near.next_chunk(ROOM))[13:], b"lls\n")
+        self.assertEqual(self.near.frame(self.near.next_chunk(ROOM))[13:], b"nes\n")
         self.assertFalse(self.near.waits())
 
     def test_unsent(self):
@@ -403,7 +403,7 @@ class Paths(Both, Carries):
         self.far.take(STREAM_KIND, 1, 0, b"panes\n")
         self.assertEqual((self.far.all, len(self.servers)), ({}, 1))
         for number in range(2, path_forwarding.MOST_ENDED + 10):
-            self.far.take(STREAM_KIND, number, 0, b"bells\n")
+            self.far.take(STREAM_KIND, number, 0, b"panes\n")
             self.far.take(STREAM_KIND, number, 6, b"")
         self.assertEqual(len(self.far.ended), path_forwarding.MOST_ENDED)
 

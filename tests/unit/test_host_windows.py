@@ -471,17 +471,19 @@ class Told(Played):
         self.assertIn(b" 24 80 2 1060 read-write\n", self.said_by(later, b"clients\n"))
 
     def test_news(self):
-        """What is written where nobody is, and bells, are told once a second at most."""
+        """What is written where nobody is is told once a second at most; bells are as the server tells them."""
         self.opened()
         self.opened((24, 80))
         one = self.asker(1)
         self.now += 2
         self.turns(2)
         read_now(one)
-        for text, passed, wanted in ((b"x", 0, b"activity 2\n"), (b"y\x07", 0, b"bell 2 1\n"), (b"\x07", 0, b""), (b"", 1, b"activity 2\n"),
-                                     (b"\x07", 1.1, b"bell 2 1\nactivity 2\n")):
+        rows = ((b"x", b"", 0, b"activity 2\n"), (b"\x07", b"bell 1 4\n", 0, b"bell 2 1\n"), (b"", b"", 1, b"activity 2\n"),
+                (b"", b"bell 1 5\nbell 9 4\n", 0, b""), (b"y", b"bell 1 4\n", 1.1, b"bell 2 1\nactivity 2\n"))
+        for text, bell, passed, wanted in rows:
             self.now += passed
             self.made[1][1].send(text)
+            self.servers[2].send(bell)
             self.turns(2)
             self.assertEqual(read_now(one), wanted, text)
         self.asker(2, b"here a:/dev/pts/1 24 80 read-write\n")
@@ -790,11 +792,7 @@ class Mended(Played):
 
     def test_taken(self):
         """Where another session has the name it is called otherwise, and is found and ended by that; the other's is left alone."""
-        bells = socket.socket(socket.AF_UNIX, socket.SOCK_STREAM)
-        self.addCleanup(bells.close)
-        bells.connect(str(self.path(2, "bells")))
-        bells.setblocking(False)
-        self.turns(2)
+        person = self.asker(2, b"here a:/dev/pts/1 24 80 read-write\n")
         other, more = (self.folder.with_name(f"{self.folder.name[:30]}-{number}") for number in (2, 3))
         for path in (other, more):
             self.addCleanup(shutil.rmtree, path, True)
@@ -811,7 +809,7 @@ class Mended(Played):
         self.assertEqual(json.loads((more / "w/2/state.json").read_text())["server"][0], 2000)
         words = repair.RENAMED.format(more.name)
         self.assertIn(words, self.said.getvalue())
-        self.assertIn(f"say {words}\n".encode(), read_now(bells))
+        self.assertIn(f"say {words}\n".encode(), read_now(person))
         self.folder = more
         self.assertEqual(self.names(), [b"window 1 -\nwindow 2 74776f\nwindows 2\n"] * 2)
         with self.assertRaises(OSError):

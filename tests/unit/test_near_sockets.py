@@ -282,20 +282,18 @@ class Others(Sockets):
         """Each goes to the socket of its name at the other machine; who comes while nothing carries waits."""
         self.turn(2)
         self.carrying = None
-        one = self.connect("bells")
-        self.assertNotIn("bells", self.names)
+        one = self.connect("host")
+        self.assertNotIn("host", self.names)
         self.carrying = self.near
         self.turn(4)
-        self.servers["bells"][0].send(b"bell 3\n")
+        self.servers["host"][0].send(b"others 0\n")
         self.turn(3)
-        self.assertEqual(read_now(one), b"bell 3\n")
-        self.connect("host")
-        self.assertEqual(self.names[-1], "host")
+        self.assertEqual((read_now(one), self.names[-1]), (b"others 0\n", "host"))
 
     def test_used(self):
         """A front end is there while it is connected, or waits until something carries it; one at another socket is none."""
         self.turn(2)
-        bells = self.connect("bells")
+        panes = self.connect("panes")
         self.assertFalse(self.sockets.is_used())
         one = self.connect("host")
         self.assertTrue(self.sockets.is_used())
@@ -306,10 +304,10 @@ class Others(Sockets):
         again.send(b"here\n")
         self.assertTrue(self.sockets.is_used())
         again.close()
-        self.assertEqual((self.sockets.is_used(), self.sockets.others[-1].waiting), (False, []))
+        self.assertEqual((self.sockets.is_used(), self.sockets.host.waiting), (False, []))
         last = self.connect("host")
         self.sockets.close()
-        self.assertEqual((bells.recv(1), one.recv(1), last.recv(1)), (b"",) * 3)
+        self.assertEqual((panes.recv(1), one.recv(1), last.recv(1)), (b"",) * 3)
 
     def test_many_wait(self):
         """So many wait here at most, and others at the socket; all are forwarded once something carries them."""
@@ -317,19 +315,18 @@ class Others(Sockets):
         self.carrying = None
         held = [self.connect("host") for _ in range(near_sockets.MOST_SUBSCRIBERS + 3)]
         self.turn(len(held))
-        self.assertEqual(len(self.sockets.others[-1].waiting), near_sockets.MOST_SUBSCRIBERS)
+        self.assertEqual(len(self.sockets.host.waiting), near_sockets.MOST_SUBSCRIBERS)
         self.carrying = self.near
         self.turn(10)
-        self.assertEqual((self.sockets.others[-1].waiting, self.names.count("host")), ([], 63))
+        self.assertEqual((self.sockets.host.waiting, self.names.count("host")), ([], 63))
 
     def test_most(self):
         """Whom there is no room for is let go."""
         held = []
         for _ in range(62):
-            held.append(self.connect("bells"))
+            held.append(self.connect("host"))
         self.assertEqual(len(self.near.all), 63)
         held.append(self.connect("host"))
-        self.assertEqual(self.connect("bells").recv(1), b"")
         self.assertEqual(self.connect("host").recv(1), b"")
 
     def test_close(self):
@@ -341,16 +338,16 @@ class Others(Sockets):
         self.sockets.close()
         self.sockets.open()
         self.sockets.open()
-        self.assertEqual(sorted(os.listdir(self.folder)), ["bells", "host", "panes"])
+        self.assertEqual(sorted(os.listdir(self.folder)), ["host", "panes"])
 
     def test_taken(self):
         """Where somebody listens there already that is told, and the rest goes on."""
         said = self.heard()
         self.sockets.close()
-        self.listening(self.folder / "bells")
+        self.listening(self.folder / "host")
         self.sockets.open()
         self.assertIn("somebody listens at", said.getvalue())
-        self.assertEqual((self.sockets.others, near_sockets.FORWARDED), ([], ("bells", "host")))
+        self.assertIsNone(self.sockets.host)
 
 
 if __name__ == "__main__":

@@ -1,12 +1,7 @@
-"""How a pane's keypad is, and who is told of it."""
-import os
-import pathlib
-import tempfile
+"""How a pane's keypad is, by what its programs write."""
 import unittest
 
-from aids import StillLoop
 from roam_live.host.output_scan import Keypad
-from roam_live.protocol.bells import BellSource, BellSubscriber
 
 # What a program writes, and whether its keypad is an application's then (VT220 Programmer Reference: DECKPAM, DECKPNM, DECSTR; RIS).
 WRITTEN = (
@@ -38,48 +33,5 @@ class Modes(unittest.TestCase):
             self.assertEqual(keypad.is_application, wanted, text)
 
 
-class Told(unittest.TestCase):
-    """Who follows the bells is told how keypads are."""
-
-    def setUp(self):
-        made = tempfile.TemporaryDirectory()
-        self.addCleanup(made.cleanup)
-        self.loop = StillLoop()
-        self.source = BellSource(made.name, self.loop)
-        self.addCleanup(self.source.close)
-        self.folder = pathlib.Path(made.name)
-
-    def subscriber(self):
-        """One who follows, and was taken."""
-        rung = []
-        subscriber = BellSubscriber(os.fspath(self.folder), StillLoop(), rung.append)
-        subscriber.rung = rung
-        subscriber.connect()
-        self.addCleanup(lambda: subscriber.peer and subscriber.peer.close())
-        self.loop.turn()
-        return subscriber
-
-    def test_changes(self):
-        """Each change is told once; who comes later is told what is so."""
-        first = self.subscriber()
-        self.source.tell_keypad(2, True)
-        self.source.tell_keypad(2, True)
-        self.source.tell_keypad(3, False)
-        first.loop.turn()
-        self.assertEqual((first.rung, first.keypads), ([], {2}))
-        later = self.subscriber()
-        later.loop.turn()
-        self.assertEqual(later.keypads, {2})
-        self.source.tell_keypad(2, False)
-        for one in (first, later):
-            one.loop.turn()
-            self.assertEqual(one.keypads, set())
-
-    def test_end(self):
-        """Nothing is known of keypads once who told of them has left."""
-        first = self.subscriber()
-        self.source.tell_keypad(1, True)
-        first.loop.turn()
-        self.source.drop(self.source.subscribers[0])
-        first.loop.turn()
-        self.assertEqual(first.keypads, set())
+if __name__ == "__main__":
+    unittest.main()

@@ -61,11 +61,16 @@ class Modes(Case):
             self.assertTrue(told.take(line), line)
             self.assertEqual(told.title_and_shape(1), title_and_shape, line)
 
-    def test_passed_over(self):
-        """Bells are passed over, and no such line is read otherwise."""
+    def test_bells(self):
+        """Each pane that rang is taken once; another making of a pane didn't ring."""
         told = PanesState()
-        for line in ("bell 1 1",):
+        for line in ("bell 2 1", "1 1 1 23 39 7", "2 1 41 23 39 1", "focus 1", "bell 2 1", "bell 1 7", "bell 1 7", "bell 1 6"):
             self.assertTrue(told.take(line), line)
+        self.assertEqual((told.taken_bells(), told.taken_bells()), ([1, 2], []))
+
+    def test_malformed(self):
+        """What is no line of metadata is refused."""
+        told = PanesState()
         clips = [f"clip 1 1 {text}" for text in NO_CLIPS] + ["clip 1 1", "clip 1 YQ==", "clip 1 1 YQ== YQ==", "clip 0 1 YQ=="]
         for line in ("modes", "modes 1", "modes 0 1", "modes 1 1  paste", "modes 1 1 " + "a" * 17, "title 1 1 xyz", "title 1 1 4",
                      "title 1 1 " + "41" * 801, "shape 1", "shape 1 1 7", "shape 1 1", "bell 1 1 x", "modes 1 1" + " a" * 17, *clips):

@@ -297,6 +297,15 @@ class FrontEnds(Played):
         self.loop.turns(2)
         self.assertEqual(self.server.recv(64), b"clipboard\n")
 
+    def test_bells(self):
+        """Each pane that rang is told on, whether or not it has the focus; a bell of another making isn't."""
+        rung = []
+        self.panes.rings = rung.append
+        self.told(b"1 1 1 23 40 7\n2 1 42 23 39 1\nfocus 1\nbell 1 7\nbell 2 1\nbell 2 2\n")
+        self.assertEqual(rung, [1, 2])
+        self.told(b"bell 2 1\nbell 9 1\n")
+        self.assertEqual(rung, [1, 2, 2])
+
     def test_let_go(self):
         """While nobody tells them the places aren't known; what comes next is told all anew."""
         self.told(b"1 1 1 23 80 1\nfocus 1\n")

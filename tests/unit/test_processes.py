@@ -154,7 +154,7 @@ class Read(Based):
     def test_command_found(self):
         """One whose note is lost is found by its sockets, and its command by the pty host."""
         session = self.session()
-        self.patch_of(FolderSession, "listener", lambda _, name: {"clients": OWN[0], "bells": OWN[0]}.get(name))
+        self.patch_of(FolderSession, "listener", lambda _, name: {"clients": OWN[0], "host": OWN[0]}.get(name))
         with mock.patch.object(session_folder, "command_of", return_value=["vi"]) as asks:
             self.assertTrue(session.find())
         asks.assert_called_once_with(OWN[0], self.folder)
@@ -431,7 +431,7 @@ class Spawned(Based):
     def test_cleaned(self):
         """What is left goes, but for the log and the note of its end."""
         panes = [f"p{pane}" for pane in range(1, 10)]
-        names = ["clients", "panes", "terminals", "bells", *panes, "session", "session.new", "state.json"]
+        names = ["clients", "panes", "terminals", "host", *panes, "session", "session.new", "state.json"]
         for name in [*names, "log", "lock", "ended", "own", "p0", "p10"]:
             (self.folder / name).touch()
         (self.folder / "front_ends").touch()

@@ -22,6 +22,9 @@ def queue():
 
 tool = loaded("pane_shells")
 
+# A terminal that says that it is there.
+PERSON = "a:/dev/pts/1 24 80 read-write"
+
 
 class Host(Case):
     """A host that follows a socket `panes` of its own, and keeps no rows."""
@@ -52,7 +55,6 @@ class Host(Case):
 
     def leave(self, host):
         """Closes what a host has."""
-        host.bells.close()
         host.socket.close()
         for number in list(host.panes):
             host.drop(number)
@@ -217,12 +219,37 @@ class Panes(Host):
         self.assertTrue(panes)
 
     def test_rung(self):
-        """A bell is told."""
+        """A bell is known as the server tells it, of a pane that is there."""
         self.begin()
-        tells = self.patch_of(self.host.bells, "tell")
-        self.made[1].send(b"x\x07y")
+        self.made[0].send(b"\x07")
+        self.tell("bell 2 5", "bell 1 3")
+        self.assertEqual(self.host.rung, {2})
+
+    def test_notices(self):
+        """Each terminal is sent notices and how keypads are; one that comes later is told what is so."""
+        self.begin()
+        ends = []
+        for line in (b"commands\n", f"here {PERSON}\n".encode()):
+            ends.append(socket.socket(socket.AF_UNIX, socket.SOCK_STREAM))
+            self.addCleanup(ends[-1].close)
+            ends[-1].connect(str(self.folder / "host"))
+            ends[-1].setblocking(False)
+            ends[-1].send(line)
         self.turn()
-        tells.assert_called_once_with(2)
+        read_now(ends[0])
+        self.made[1].send(b"\x1b=")
+        self.turn()
+        self.host.tell("pane 3 isn't sh\u00f6wn\x1b[2J" + "x" * 300)
+        self.host.common.tell("of all windows")
+        self.turn()
+        self.assertEqual((read_now(ends[0]), read_now(ends[1])), (
+            b"", b"keypad 2 application\nsay pane 3 isn't sh?wn?[2J" + b"x" * 178 + b"\nsay of all windows\n"))
+        self.host.socket.standing = "for who comes"
+        ends[0].send(f"here {PERSON}\nhere {PERSON}\n".encode())
+        self.turn()
+        self.assertEqual(read_now(ends[0]), b"keypad 2 application\nsay for who comes\n")
+        self.tell("2 gone")
+        self.assertEqual([read_now(end) for end in ends], [b"keypad 2 numeric\n"] * 2)
 
     def test_limits(self):
         """A pane that takes nothing has 16,384 bytes wait, and then its program does; one that reads nothing 65,536."""
@@ -288,8 +315,7 @@ class Panes(Host):
     def test_sockets_removed(self):
         """Its own sockets are made anew a minute after a cleaner removed them, but where somebody else listens there; that is told once."""
         self.begin()
-        for name in ("host", "bells"):
-            (self.folder / name).unlink()
+        (self.folder / "host").unlink()
         other = self.listening(self.folder / "host")
         for _ in range(3):
             self.now += window.LOOKS
@@ -511,7 +537,7 @@ class Ended(Host):
             self.assertTrue(self.host.common.is_over)
         panes = self.begin()
         self.assertEqual(self.host.common.run(), 0)
-        self.assertEqual((self.host.panes, panes[0].recv(1), (self.folder / "bells").exists()), ({}, b"", False))
+        self.assertEqual((self.host.panes, panes[0].recv(1), (self.folder / "host").exists()), ({}, b"", False))
 
     def test_hung(self):
         """The processes of panes that are gone are waited for."""
@@ -561,7 +587,7 @@ class Ended(Host):
             self.server = self.taken(self.listeners["panes"])
         self.assertEqual(says.call_count, 1)
         self.assertTrue(says.call_args[0][1].startswith("[no shell: the panes can't be followed: the server lets this go"))
-        self.assertTrue(self.host.bells.standing.startswith("the panes can't be followed: "))
+        self.assertTrue(self.host.socket.standing.startswith("the panes can't be followed: "))
 
 
 class Again(Host):

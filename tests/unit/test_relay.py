@@ -214,7 +214,7 @@ class Nears(Ends):
         self.links[0].say(packed(*told))
         self.turn(2)
         self.assertEqual((self.near.forwards, self.near.link), (False, self.links[0]))
-        self.assertEqual([name for name in ("panes", "bells", "host") if (self.folder / name).exists()], [])
+        self.assertEqual([name for name in ("panes", "host") if (self.folder / name).exists()], [])
 
     def test_ended(self):
         """The session's end ends it with status 0, and is noted."""
@@ -227,7 +227,7 @@ class Nears(Ends):
                 self.assertEqual(way.exception.args, (0,))
                 self.close(self.near)
                 self.assertEqual((self.folder / "ended").read_text(encoding="utf-8"), noted)
-                for name in ("clients", "session", "panes", "bells"):
+                for name in ("clients", "session", "panes", "host"):
                     self.assertFalse((self.folder / name).exists(), name)
                 self.near = self.near_end()
 

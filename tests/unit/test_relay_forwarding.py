@@ -23,8 +23,8 @@ class Joined(Both):
         self.printed()
         self.family = self.end().family
         self.here, self.there = self.folder, self.made_folder()
-        self.listeners = {name: self.listening(self.there / name) for name in ("panes", "bells", "clients")}
-        self.served = {"panes": [], "bells": []}
+        self.listeners = {name: self.listening(self.there / name) for name in ("panes", "host", "clients")}
+        self.served = {"panes": [], "host": []}
         self.patch_of(near, "RunningCommand", side_effect=self.new_link)
         self.patch_of(path_setup, "random_key", return_value=KEY)
         self.patch_of(path_setup.Finder, "look", lambda _, path: setattr(path, "places", [self.place(path.port)]))
@@ -101,24 +101,24 @@ class ByCommand(Joined):
         held = [self.connect() for _ in range(3)]
         self.run_for()
         self.assertEqual(([read_now(one) for one in held], len(self.served["panes"])), ([LINES] * 3, 1))
-        bells = self.connect("bells")
+        host = self.connect("host")
         self.run_for()
-        self.served["bells"][0].send(b"bell 3\nsay words\n")
+        self.served["host"][0].send(b"bell 3\nsay words\n")
         self.served["panes"][0].send(b"2 1 41 23 39 1\nfocus 2\n")
         self.run_for()
-        self.assertEqual((read_now(bells), read_now(held[2])), (b"bell 3\nsay words\n", b"2 1 41 23 39 1\nfocus 2\n"))
+        self.assertEqual((read_now(host), read_now(held[2])), (b"bell 3\nsay words\n", b"2 1 41 23 39 1\nfocus 2\n"))
         self.assertIsNotNone(self.connect("host"))
 
     def test_cut(self):
         """Where the command ends all of it ends, and is told anew once another is there."""
         self.run_for(0.5)
-        panes, bells = self.connect(), self.connect("bells")
+        panes, host = self.connect(), self.connect("host")
         self.run_for()
         self.assertEqual(read_now(panes), LINES)
         self.fars.pop().close()
         ended(self.links[0].said)
         self.run_for()
-        self.assertEqual((panes.recv(1), bells.recv(1)), (b"", b""))
+        self.assertEqual((panes.recv(1), host.recv(1)), (b"", b""))
         self.run_for(2)
         self.assertEqual(len(self.links), 2)
         again = self.connect()
@@ -140,16 +140,16 @@ class ByCommand(Joined):
     def test_much(self):
         """What is large comes whole beside datagrams, and 65,536 bytes wait at most."""
         self.run_for(0.5)
-        bells = self.connect("bells")
+        host = self.connect("host")
         self.run_for()
         wanted, sent, got = os.urandom(300_000), 0, b""
         while len(got) < len(wanted):
             try:
-                sent += self.served["bells"][0].send(wanted[sent : sent + 20000]) if sent < len(wanted) else 0
+                sent += self.served["host"][0].send(wanted[sent : sent + 20000]) if sent < len(wanted) else 0
             except BlockingIOError:
                 pass
             self.run_for(0.05)
-            got += read_now(bells)
+            got += read_now(host)
         self.assertEqual(got, wanted)
         self.assertIs(self.near.link, self.links[0])
 
@@ -169,20 +169,20 @@ class ByPath(Joined):
         self.run_for(0.1)
         self.validate()
         self.assertEqual(len(self.served["panes"]), 2)
-        panes, bells = self.connect(), self.connect("bells")
+        panes, host = self.connect(), self.connect("host")
         self.run_for()
         self.assertEqual((read_now(panes), len(self.served["panes"])), (LINES, 2))
         self.assertIs(self.near.carrying(), self.near.ways.path.streams)
         self.assertEqual((self.links[0].stream.streams.all, self.fars[0].stream.streams.all), ({}, {}))
-        self.served["bells"][0].send(b"bell 1\n")
+        self.served["host"][0].send(b"bell 1\n")
         self.served["panes"][1].send(b"focus 1\n" * 3)
         self.run_for()
-        self.assertEqual((read_now(bells), read_now(panes)), (b"bell 1\n", b"focus 1\n" * 3))
+        self.assertEqual((read_now(host), read_now(panes)), (b"bell 1\n", b"focus 1\n" * 3))
         # Nothing goes by UDP any more; the command is there still.
         blocked = self.patch_of(self.near.ways.path.aead, "counter_of", lambda packet: 0)
         self.patch_of(self.fars[0].ways.path.aead, "counter_of", lambda packet: 0)
         self.run_for(12)
-        self.assertEqual((panes.recv(1), bells.recv(1)), (b"", b""))
+        self.assertEqual((panes.recv(1), host.recv(1)), (b"", b""))
         again = self.connect()
         self.run_for(2)
         self.assertIs(self.near.carrying(), self.links[0].stream.streams)
@@ -206,9 +206,9 @@ class ByPath(Joined):
     def test_much(self):
         """What is large comes whole over a path, both ways."""
         self.validate()
-        one = self.connect("bells")
+        one = self.connect("host")
         self.run_for()
-        server = self.served["bells"][0]
+        server = self.served["host"][0]
         for writer, reader in ((server, one), (one, server)):
             wanted, sent, got = os.urandom(200_000), 0, b""
             while len(got) < len(wanted):

@@ -50,10 +50,10 @@ class Folder(unittest.TestCase):
         return FolderSession(self.folder, server=os.getpid())
 
     def keep_host(self):
-        """Has this process listen where bells are told, as what keeps shells does."""
+        """Has this process listen at the socket of a pty host."""
         listener = socket.socket(socket.AF_UNIX, socket.SOCK_STREAM)
         self.addCleanup(listener.close)
-        listener.bind(str(self.folder / "bells"))
+        listener.bind(str(self.folder / "host"))
         listener.listen()
 
     def child(self, **environment):

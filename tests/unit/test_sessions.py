@@ -157,7 +157,7 @@ class Found(Sessions):
 
     def test_found(self):
         """Its processes are those that listen at its sockets; the pty host tells the command."""
-        server, host = self.listening("clients"), self.listening("bells")
+        server, host = self.listening("clients"), self.listening("host")
         for text in (None, "", "{", "[]", '{"server": 1}', '{"server": [1]}', '{"server": ["a", "b"]}', "\xff"):
             (self.folder / "state.json").unlink(missing_ok=True)
             if text is not None:

@@ -489,7 +489,7 @@ class Far(Both):
         ended(self.said_end)
         self.run_for(1)
         streams, ends = self.far.ways.path.streams, {}
-        for number, name in ((5, "host"), (6, "bells")):
+        for number, name in ((5, "host"), (6, "panes")):
             ours, ends[name] = self.pair()
             with mock.patch.object(streams, "opens", return_value=ours):
                 streams.opened(streams.all.setdefault(number, streams.made(number)), name)
@@ -500,7 +500,7 @@ class Far(Both):
         self.run_for(20)
         self.assertEqual(ends["host"].recv(1), b"")
         with self.assertRaises(BlockingIOError):
-            ends["bells"].recv(1)
+            ends["panes"].recv(1)
 
     def test_session_ends(self):
         """The session's end is told by the path alone, until it is acknowledged, 30 s at most."""

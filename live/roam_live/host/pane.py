@@ -18,7 +18,7 @@ from roam_live.common.fault_log import SoonFaults
 from roam_live.common.io import UNREAD_LIMIT, read, write
 from roam_live.common.unix_socket import connected_now
 from roam_live.host.input_queue import TypedQueue
-from roam_live.host.output_scan import Bells, Keypad
+from roam_live.host.output_scan import Keypad
 from roam_live.session.environment import AGENT, NAMES, PaneEnvironment, agent_in
 from roam_live.session.foreground import PANE, group_in_front
 
@@ -132,7 +132,6 @@ class PaneCommand:
         self.is_settling = False
         # When its close is asked for anew.
         self.asked_until = 0.0
-        self.bells, self.has_rung = Bells(), False
         self.keypad = Keypad()
         # True if something was typed or written, or written, since the last look. `touches` is called then, and at the end of a command.
         self.is_touched = self.has_news = False
@@ -422,7 +421,6 @@ class PaneCommand:
         elif written:
             self.has_news = True
             self.touch()
-            self.has_rung = self.bells.rung(written) or self.has_rung
             self.keypad.fed(written)
             self.show(written)
 

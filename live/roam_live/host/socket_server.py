@@ -68,6 +68,15 @@ BAD_LINE = "bad line"
 LEAVES = re.compile(r"leave (\d{1,9})", re.ASCII)
 
 
+# The longest text of a notice.
+LONGEST_NOTICE = 200
+
+
+def notice_line(text: str) -> str:
+    """Return the line of a notice: printable ASCII, of bounded length."""
+    return "say " + "".join(letter if " " <= letter <= "~" else "?" for letter in text[:LONGEST_NOTICE])
+
+
 class HostRegistry:
     """What is one at the sockets `host` of all windows: the name by which the host is known, texts that are pasted, buffers, what was
     brought, colours, the scrollback rows, and who is connected anywhere. Where windows can be opened there are lines for that."""
@@ -195,6 +204,9 @@ class HostServer:
         self.peers: list[HostPeer] = []
         # Commands for new panes.
         self.handed = HandedCommands(loop, lambda peer, line: self.send(peer, [line]))
+        # The notice that each terminal gets when it comes, and the panes whose programs asked for application codes of the keypad.
+        self.standing = ""
+        self.keypads: set[int] = set()
         # What is noted of a zoom of this window.
         self.zoom = NotedZoom()
         self.listener: Listener | None = None
@@ -298,6 +310,8 @@ class HostServer:
             peer.since = self.common.attended.comes(presence.name, self.loop.clock())
             if self.common.lines:
                 self.common.lines.comes(self.window)
+            notices = [notice_line(self.standing)] if self.standing else []
+            self.send(peer, [f"keypad {pane} application" for pane in sorted(self.keypads)] + notices)
         peer.presence = presence
         self.renew()
 
@@ -435,6 +449,21 @@ class HostServer:
         for peer in [peer for peer in self.peers if peer.asks_commands and peer.commands.get(pane) != (generation, name)]:
             peer.commands[pane] = generation, name
             self.send(peer, [f"command {pane} {generation} {name}"])
+
+    def notify(self, text: str) -> None:
+        """Send each terminal a notice for its person."""
+        self.tell_terminals(notice_line(text))
+
+    def tell_keypad(self, pane: int, is_application: bool) -> None:
+        """Report the mode of a pane's keypad to each terminal, if it has changed."""
+        if is_application != (pane in self.keypads):
+            self.keypads ^= {pane}
+            self.tell_terminals(f"keypad {pane} {'application' if is_application else 'numeric'}")
+
+    def tell_terminals(self, line: str) -> None:
+        """Send a line to each terminal."""
+        for peer in [peer for peer in self.peers if peer.presence]:
+            self.send(peer, [line])
 
     def send(self, peer: HostPeer, lines: list[str]) -> None:
         """Has lines go to one, who is let go where too much waits for it."""

@@ -14,14 +14,12 @@ from roam_live.common.errors import Fault, reason, say
 from roam_live.common.event_loop import Loop
 from roam_live.common.fault_log import FaultLog
 from roam_live.common.io import read
-from roam_live.common.listener import Listener
 from roam_live.common.process import begun, is_running, note_end
 from roam_live.host.foreground_watch import Fronts
 from roam_live.host.input_queue import TypedQueue
 from roam_live.host.pane import Options, PaneCommand, Spare, has_ended, say_in
 from roam_live.host.scrollback import Scrollback, pane_key, pane_of_key
 from roam_live.host.socket_server import HostRegistry, HostServer
-from roam_live.protocol.bells import BellSource
 from roam_live.protocol.panes import BRACKETED, FOCUS, OTHER, PanesState, Rect
 from roam_live.protocol.panes_client import PROBE, HostSubscription
 from roam_live.protocol.queries import QUERY, holds_frames, query_in
@@ -79,7 +77,6 @@ class Common:
         self.loop.add(wakeup, self.reap)
         # One for what a pane is begun with, and one by which a pane that can't be begun says so.
         self.spare, self.voice = Spare(), Spare()
-        # They come before the bells; what is refused is told there.
         with contextlib.suppress(OSError):
             self.voice.keep()
             self.spare.keep()
@@ -121,10 +118,10 @@ class Common:
         self.loop.later("folders", LOOKS, self.look_at_folders)
 
     def tell(self, text: str) -> None:
-        """Tells what a person has to know, in the log and to who follows the bells of any window."""
+        """Log what a person has to know, and send it to the terminals at all windows."""
         say(text)
         for window in list(self.windows.values()):
-            window.bells.say(text)
+            window.socket.notify(text)
 
     def shows_other(self, key: int) -> bool:
         """Whether a pane's program is known to show the other screen."""
@@ -233,7 +230,6 @@ class WindowHost:
         # The process whose end is the window's: who listens there, where it isn't named.
         self.server = asked.server or self.subscription.server or None
         self.server_began = begun(self.server) if self.server else None
-        self.bells = BellSource(asked.dir, self.loop)
         if asked.again and not asked.window:
             common.registry.await_terminals()
         self.socket = HostServer(asked.dir, self.loop, self.look_at_fronts, common.registry, asked.window)
@@ -247,10 +243,10 @@ class WindowHost:
         common.keep_spares()
 
     def tell(self, text: str) -> None:
-        """Tells what a person has to know, in the log and to who follows the bells here."""
+        """Log what a person has to know, and send it to the terminals at this window."""
         say(f"window {self.asked.window}: {text}" if self.asked.window else text)
-        self.bells.standing = self.subscription.told
-        self.bells.say(text)
+        self.socket.standing = self.subscription.told
+        self.socket.notify(text)
 
     def told(self, line: str) -> None:
         """Takes a line of D/panes: where a pane is, that it is gone, the focus, or pane metadata; counts of clients
@@ -388,8 +384,7 @@ class WindowHost:
         pane = self.panes.pop(number, None)
         self.history = [other for other in self.history if other != number]
         if pane:
-            self.ring(pane)
-            self.bells.tell_keypad(number, False)
+            self.socket.tell_keypad(number, False)
             self.fronts.drop(number)
             self.in_front.pop(number, None)
             self.rows.drop(self.key(number))
@@ -411,6 +406,7 @@ class WindowHost:
             self.panes_state, self.is_new = PanesState(), False
         for line in lines:
             self.told(line)
+        self.rung.update(self.panes_state.taken_bells())
         self.loop.soon(self.tend)
         places = self.panes_state.places() if any(line[:1].isdigit() for line in lines) else None
         if places and places.is_covered():
@@ -498,19 +494,14 @@ class WindowHost:
         self.touched[pane.number] = pane
         self.loop.soon(self.tend)
 
-    def listeners(self) -> list[Listener]:
-        """Return the sockets by which others find this window."""
-        return [one for one in (self.socket.listener, self.bells.listener) if one]
-
     def is_found(self) -> bool:
-        """Return True if all sockets are where they were bound."""
-        return all(one.is_found() for one in self.listeners())
+        """Return True if the socket by which others find this window is where it was bound."""
+        return self.socket.listener is None or self.socket.listener.is_found()
 
     def listen_in(self, folder: str) -> None:
-        """Bind the sockets that were removed anew, in a folder; Fault or OSError if that fails."""
-        for one in self.listeners():
-            if not one.is_found():
-                one.move(os.path.join(folder, os.path.basename(one.path)))
+        """Bind the socket anew in a folder if it was removed; Fault or OSError if that fails."""
+        if self.socket.listener and not self.is_found():
+            self.socket.listener.move(os.path.join(folder, os.path.basename(self.socket.listener.path)))
         if folder == self.asked.dir:
             self.lasting.own = self.lasting.found()
 
@@ -538,7 +529,7 @@ class WindowHost:
         touched, self.touched = self.touched, {}
         for pane in touched.values():
             if self.panes.get(pane.number) is pane:
-                self.ring(pane)
+                self.socket.tell_keypad(pane.number, pane.keypad.is_application)
                 self.touch(pane)
         if self.asked.close and not self.is_over and self.is_followed():
             self.close_ended()
@@ -548,14 +539,6 @@ class WindowHost:
         """Tells of a pane whose programs have written for a while what the server doesn't read."""
         if pane.is_unread():
             self.tell(UNREAD.format(f"pane {pane.number}"))
-
-    def ring(self, pane: PaneCommand) -> None:
-        """Tells whether a pane rang, and how its keypad is."""
-        self.bells.tell_keypad(pane.number, pane.keypad.is_application)
-        if pane.has_rung:
-            pane.has_rung = False
-            self.rung.add(pane.number)
-            self.bells.tell(pane.number)
 
     def tell_front(self, number: int, generation: int, name: str) -> None:
         """Tells what runs in front in that making of a pane."""
@@ -578,7 +561,6 @@ class WindowHost:
 
     def hang_up(self) -> None:
         """Ends the programs of all panes."""
-        self.bells.close()
         for number in list(self.panes):
             self.drop(number)
         self.subscription.end()

@@ -43,7 +43,7 @@ ALL_END = 1.5 * ENDS
 READY = 1.0
 AGAIN = 1.0
 
-# So many seconds lie between two lines that tell of one window that something was written, or of one pane that it rang.
+# Seconds between two lines that report that something was written in a window. The server reports a pane's bell once a second at most.
 APART = 1.0
 
 # What tells of a socket at which somebody may listen soon.
@@ -72,11 +72,10 @@ class HostedWindow:
         self.is_given = False
         # Until when it has to be there, or gone.
         self.until = 0.0
-        # When it may be told again that something was written there, and that a pane rang.
+        # When it may be told again that something was written there.
         self.active_at = 0.0
         # What runs in front in its pane in focus, as it was told.
         self.runs = ""
-        self.rung_at: dict[int, float] = {}
 
     def has_terminals(self) -> bool:
         """Whether somebody is there."""
@@ -426,10 +425,8 @@ class Windows:
         host, now = window.host, self.loop.clock()
         if not host or window.state != THERE:
             return
-        for pane in host.rung:
-            if now >= window.rung_at.get(pane, 0.0):
-                window.rung_at[pane] = now + APART
-                self.lines.tell(f"{BELL} {window.number} {pane}")
+        for pane in sorted(host.rung):
+            self.lines.tell(f"{BELL} {window.number} {pane}")
         host.rung.clear()
         runs = host.in_front.get(host.focus, window.runs)
         if runs != window.runs:

@@ -2,6 +2,7 @@
 from __future__ import annotations
 
 import os
+import re
 import socket
 from collections.abc import Callable
 
@@ -37,6 +38,10 @@ FEW = 2
 
 # So many bytes wait for a host at most.
 MOST_UNSENT = 2 * MOST_BYTES
+
+# Notices of the host: a line for the person, in printable ASCII; and the mode of a pane's keypad.
+NOTICE = re.compile(r"say ([ -~]{1,200})")
+KEYPAD = re.compile(r"keypad ([1-9]) (application|numeric)")
 
 # So many seconds a host that took the connection has for telling who else is there: the one of another machine takes a round trip.
 KNOWS = 2.0
@@ -76,6 +81,9 @@ class HostClient(Subscription):
         # Whether its window was left, of which what was typed goes on.
         self.is_draining = False
         self.others_left: Callable[[str], object] = lambda count: None
+        # What is called with a notice for the person; and the panes whose programs asked for application codes of the keypad.
+        self.notices: Callable[[str], object] = lambda words: None
+        self.keypads: set[int] = set()
         # What is called with what becomes of a command that was handed over.
         self.ran: Callable[[str], object] = lambda told: None
         # The lines by which this terminal brings what new panes have, once to each host: behind a cut another may have brought since.
@@ -184,16 +192,26 @@ class HostClient(Subscription):
                 self.ran(rest)
             elif word == ZOOMED:
                 self.zoomed = zoomed_in(rest.split(" ")) or self.zoomed
-            else:
+            elif not self.take_notice(line):
                 self.others.take(line)
         if self.others.is_whole:
             self.is_known = True
             self.knows()
 
+    def take_notice(self, line: str) -> bool:
+        """Take a notice of the host, and return True if the line is one."""
+        notice, keypad = NOTICE.fullmatch(line), KEYPAD.fullmatch(line)
+        if notice and not self.is_draining:
+            self.notices(notice[1])
+        elif keypad:
+            (self.keypads.add if keypad[2] == "application" else self.keypads.discard)(int(keypad[1]))
+        return bool(notice or keypad)
+
     def forget(self) -> None:
         """Knows no more who is there. Where no host was known before, none is there that takes texts."""
         self.others, self.is_there, self.zoomed = OtherTerminals(), False, (0, None)
         self.scrollback.forget()
+        self.keypads.clear()
         if not self.is_known:
             self.lose(NO_HOST)
 

@@ -34,7 +34,7 @@ WARNED_CLIENTS = 48
 TOLD = re.compile(r"(?P<pane>[1-9])((?: \d{1,4}){4}) (?P<generation>\d{1,19})|(?P<gone>[1-9]) gone|focus (?P<focus>[1-9])"
                   r"|(?P<kind>clients|watchers) (?P<count>\d{1,4})(?: of \d{1,4})?"
                   r"|(?P<metadata>modes [1-9] \d{1,19}(?: [a-z0-9]{1,16}){0,16}|shape [1-9] \d{1,19} [0-6]"
-                  r"|title [1-9] \d{1,19} (?:[0-9a-f]{2}){0,800})|bell [1-9] \d{1,19}|(?P<clip>clip [1-9] \d{1,19} "
+                  r"|title [1-9] \d{1,19} (?:[0-9a-f]{2}){0,800})|bell (?P<bell>[1-9]) (?P<rung>\d{1,19})|(?P<clip>clip [1-9] \d{1,19} "
                   r"(?:[A-Za-z0-9+/]{4}){0,32767}(?:[A-Za-z0-9+/]{4}|[A-Za-z0-9+/]{3}=|[A-Za-z0-9+/]{2}==)?)", re.ASCII)
 LONGEST_LINE = (1 << 17) + 64
 
@@ -171,6 +171,8 @@ class PanesState:
         self.metadata: dict[str, PaneMetadata] = {}
         # The text for the clipboard that was told last, and the pane, until it is taken.
         self.clip: tuple[int, str] | None = None
+        # The panes whose bell rang, until they are taken.
+        self.rung: set[int] = set()
         self.focus = 0
         self.counts: dict[str, tuple[int, str]] = {}
 
@@ -192,6 +194,8 @@ class PanesState:
         elif found["metadata"]:
             generation, _, value = line.split(" ", 2)[2].partition(" ")
             self.metadata[metadata_key(line)] = PaneMetadata(generation, value, line)
+        elif found["bell"]:
+            self.rung.update({int(found["bell"])} if found["rung"] == self.generations.get(int(found["bell"])) else ())
         elif found["clip"]:
             pane_told, generation, text = line.split(" ")[1:]
             self.clip = (int(pane_told), text) if generation == self.generations.get(int(pane_told)) else self.clip
@@ -220,6 +224,11 @@ class PanesState:
         """The text for the clipboard that was told since, and the pane."""
         clip, self.clip = self.clip, None
         return clip
+
+    def taken_bells(self) -> list[int]:
+        """Return the panes whose bell rang since the last call."""
+        rung, self.rung = sorted(self.rung), set()
+        return rung
 
     def has_set(self, pane: int, mode: str) -> bool:
         """Whether a pane's program is known to have set a mode."""

@@ -223,6 +223,8 @@ class PanesSubscriber:
         self.focus_modes: list[str] = []
         # What is called with a text for the clipboard that the program in focus set, and the making of its pane.
         self.clipped: Callable[[str, str], object] = lambda text, making: None
+        # What is called with each pane whose bell rang.
+        self.rings: Callable[[int], object] = lambda pane: None
         self.has_said = self.was_told = self.has_no_place = False
         # What is called at each answer to a probe that is still to come.
         self.probes: deque[Callable[[], object]] = deque()
@@ -294,6 +296,8 @@ class PanesSubscriber:
         self.was_told = self.was_told or self.places is not None
         if (self.places, self.title_and_shape, self.focus_modes) != before:
             self.changed()
+        for pane in self.told.taken_bells():
+            self.rings(pane)
         clip = self.told.taken_clip()
         if clip and self.places and clip[0] == self.places.focus:
             self.clipped(clip[1], self.making(clip[0]))

@@ -1,4 +1,4 @@
-"""Connections to sockets of a session's folder that a relay carries from its near end to its far one: to those of three names, and to no
+"""Connections to sockets of a session's folder that a relay carries from its near end to its far one: to those of two names, and to no
 other.
 
 Each has a number, which the near end chooses, and ends as soon as either end of it does; what was read before that is still written. An
@@ -27,7 +27,7 @@ LED = re.compile(r"^w/[1-9]\d?/", re.ASCII)
 
 # The sockets to which connections are forwarded, that by which a terminal is known to be there, and how many connections at most.
 HOST = "host"
-NAMES = ("panes", "bells", HOST)
+NAMES = ("panes", HOST)
 LONGEST_NAME = 32
 MOST_FORWARDED = 64
 

@@ -1,5 +1,5 @@
-"""The sockets of a near folder that stand for those of the session at the other machine: each connection to `bells` and `host` is forwarded
-there, and `panes` is followed there once and told here to all who follow it."""
+"""The sockets of a near folder that stand for those of the session on the other machine: each connection to `host` is forwarded there, and
+`panes` is followed there once and passed on to all subscribers here."""
 from __future__ import annotations
 
 import os
@@ -28,23 +28,22 @@ MOST_SUBSCRIBERS = 64
 MOST_WAITING = 1 << 16
 
 PANES = "panes"
-FORWARDED = ("bells", HOST)
 
 # What is asked for there once, for all who ask for it here.
 ASKED_HERE = (METADATA, CLIPBOARD)
 
 
-class ForwardedSocket:
-    """A socket of the near folder, whose connections are forwarded to the socket of that name on the other machine.
+class ForwardedHost:
+    """The socket `host` of the near folder, whose connections are forwarded to that of the other machine.
 
     A connection that arrives while nothing carries it is kept until something does, so that it counts as present during an outage. A
     connection for which there is no room is closed.
     """
 
-    def __init__(self, folder: str, name: str, loop: Loop, forwards: Forwards, leads: str = "") -> None:
-        self.name, self.forwards = leads + name, forwards
+    def __init__(self, folder: str, loop: Loop, forwards: Forwards, leads: str = "") -> None:
+        self.name, self.forwards = leads + HOST, forwards
         self.waiting: list[socket.socket] = []
-        self.listener = Listener(loop, os.path.join(folder, name), self.take, lambda: len(self.waiting) < MOST_SUBSCRIBERS,
+        self.listener = Listener(loop, os.path.join(folder, HOST), self.take, lambda: len(self.waiting) < MOST_SUBSCRIBERS,
                                  lambda fault: None)
 
     def take(self, peer: socket.socket) -> None:
@@ -263,7 +262,7 @@ class NearSockets:
         # What leads their names at the other machine, where they are those of another window than the relay's own.
         self.leads = leads
         self.panes: SharedPanes | None = None
-        self.others: list[ForwardedSocket] = []
+        self.host: ForwardedHost | None = None
         # What forwarded connections when that was seen last.
         self.carrier: Streams[Any] | None = None
 
@@ -273,27 +272,25 @@ class NearSockets:
             return
         try:
             self.panes = SharedPanes(self.folder, self.loop, self.forwards, self.leads)
-            for name in FORWARDED:
-                self.others.append(ForwardedSocket(self.folder, name, self.loop, self.forwards, self.leads))
+            self.host = ForwardedHost(self.folder, self.loop, self.forwards, self.leads)
         except (Fault, OSError) as fault:
-            say(f"no panes and no bells are told: {reason(fault)}")
+            say(f"the panes or the pty host cannot be reached from here: {reason(fault)}")
 
     def wake(self) -> None:
         """Goes on where something else forwards connections than before."""
         before, self.carrier = self.carrier, self.forwards()
         if self.panes and self.carrier and self.carrier is not before:
             self.panes.wake()
-        for other in self.others if self.carrier else ():
-            other.wake()
+        if self.host and self.carrier:
+            self.host.wake()
 
     def is_used(self) -> bool:
         """Return True if a front end is connected, or waits until something carries its connection."""
-        return any(other.is_used() for other in self.others if other.name.endswith(HOST))
+        return self.host is not None and self.host.is_used()
 
     def close(self) -> None:
         """Removes the sockets."""
-        for other in self.others:
-            other.close()
-        if self.panes:
-            self.panes.close()
-        self.panes, self.others = None, []
+        for one in (self.host, self.panes):
+            if one:
+                one.close()
+        self.panes = self.host = None

@@ -19,7 +19,7 @@ TYPE_CHECKING = False
 if TYPE_CHECKING:
     from roam_live.relay.near_sockets import Forwards
 
-# So many windows are made at once, and then so many a second: each has a folder and four sockets, and the other machine may name others
+# So many windows are made at once, and then so many a second: each has a folder and three sockets, and the other machine may name others
 # without end.
 MADE_AT_ONCE = 99
 MADE_EACH_SECOND = 2.0

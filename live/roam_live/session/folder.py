@@ -42,7 +42,7 @@ MANY_CLIENTS = 32
 # What `mux ls` says of a session that did not say how many terminals it has.
 NO_ANSWER = ", its pty host does not answer"
 
-SOCKETS = ("clients", "panes", "terminals", "bells", "host", *(f"p{pane}" for pane in range(1, 10)))
+SOCKETS = ("clients", "panes", "terminals", "host", *(f"p{pane}" for pane in range(1, 10)))
 
 
 class FolderSession(Processes):
@@ -54,7 +54,7 @@ class FolderSession(Processes):
 
     # What its note is like, and the socket at which the process of each role listens.
     version = VERSION
-    sockets = {"server": "clients", "host": "bells", "client": "terminals"}
+    sockets = {"server": "clients", "host": "host", "client": "terminals"}
 
     def __init__(self, folder: str | os.PathLike[str], name: str | None = None, server: int | None = None) -> None:
         super().__init__(folder, server)

@@ -31,7 +31,7 @@ def relay(folder):
     front_ends = [Outer(tool("attach", *more, str(near))) for more in ([], ["--watch"])]
     outer.type(b"clear; echo thr''ough\r")
     check("two front ends are shown the session through it", all(one.shows("through") for one in front_ends), front_ends[1].rows)
-    # How the keypad is each who comes is told: by it they are known to follow the bells, of which one that has rung isn't told.
+    # A bell is reported once, to those who follow the panes by then.
     outer.type(b"printf '\\033='\r")
     check("and told how its keypad is", all(comes(lambda one=one: b"\x1b=" in one.written) for one in front_ends), front_ends[1].rows)
     outer.type(b"printf '\\a'\r")
@@ -261,7 +261,7 @@ def carried(folder):
     outer.type(b'\x02%\x02"')
     check("a session there is split", outer.status(" 1  2 [3]"), outer.rows)
     here = next(pathlib.Path(os.environ["XDG_RUNTIME_DIR"], "roam").glob("ssh:*"))
-    sockets = [(here / name).is_socket() for name in ("panes", "bells", "host")]
+    sockets = [(here / name).is_socket() for name in ("panes", "host")]
     check("sockets here stand for those there", all(sockets), sockets)
     for number in (1, 2):
         check(f"{number}: ls here counts the panes there", comes(lambda: listed()[4:6] == ["3", "panes"]), listed)
