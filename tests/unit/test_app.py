@@ -94,7 +94,7 @@ class Fronts(Case):
         self.front = FrontEnd(self.place, False, "C-b", "adaptive", lambda places: False, StillLoop())
         self.addCleanup(lambda: closed(self.front.display.outer.end))
         self.addCleanup(lambda: self.front.link.close())
-        self.addCleanup(lambda: self.front.bells.close())
+        self.addCleanup(lambda: self.front.view.host.end())
 
     def give_back(self, kept, slave):
         """Gives this process its own input and output."""
@@ -476,24 +476,26 @@ class Loop(Fronts):
         self.assertEqual((self.place.looks, self.front.loop.due["probe"][0]), (1, self.now + 2.0))
 
     def test_host(self):
-        """What is told of the shells stands three seconds, and bells ring, with what is said beside them."""
-        bells = self.listening(self.place.folder / "bells")
+        """What is told of the shells stands three seconds, and so does a notice of the host; bells of the panes ring."""
         self.connect()
         with mock.patch.object(self.place, "revive_host", return_value=True, create=True):
             self.front.watchdog.revive()
         said = "the shells had ended: new ones are there, and what was typed meanwhile is dropped"
         self.assertEqual((self.front.display.told, self.front.loop.due["told"][0]), (said, 103.0))
         self.shown()
-        self.taken(bells).send(b"bell 2\nsay pane 3 isn't shown\n")
+        self.panes.rings(2)
+        self.front.view.host.take(["say pane 3 isn't shown"])
         self.turn()
         self.assertEqual((self.front.display.told, self.shown().count(b"\x07")), ("pane 3 isn't shown", 1))
+        self.front.view.host.is_draining = True
+        self.front.view.host.take(["say of a window that was left"])
+        self.assertEqual(self.front.display.told, "pane 3 isn't shown")
 
     def test_keypad(self):
         """The keypad goes by the pane in focus, as soon as that is told."""
-        bells = self.listening(self.place.folder / "bells")
         client = self.connect()
         self.paints()
-        self.taken(bells).send(b"keypad 2 application\n")
+        self.front.view.host.take(["keypad 2 application"])
         self.place.told = Places({1: Rect(1, 1, 23, 39), 2: Rect(1, 41, 23, 40)}, 1)
         self.turn()
         client.send(record("paint", data=b"\x1b[1;1Hx"))

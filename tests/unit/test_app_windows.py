@@ -85,7 +85,6 @@ class Windows(Case):
         closed(front.display.outer.end)
         front.windows.link.end()
         for view in (front.view, *front.draining.views.values()):
-            view.bells.close()
             view.close(self.loop)
 
     def add(self, number):

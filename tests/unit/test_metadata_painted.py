@@ -48,11 +48,11 @@ def beside_line(chance):
         b"bell " + hostile, hostile, b"bad line", b"bad line" + hostile)) + b"\n"
 
 
-def bell_line(chance):
-    """A line of the socket `bells`, as it has to be or not."""
+def notice_line(chance):
+    """A notice at the socket `host`, as it has to be or not."""
     hostile, pane = controls(chance), str(chance.randint(1, 2)).encode()
-    return chance.choice((b"bell " + pane, b"keypad " + pane + b" application", b"keypad " + pane + b" numeric", b"say it is well",
-                          b"say " + hostile, b"bell " + hostile, b"keypad " + pane + hostile, hostile)) + b"\n"
+    return chance.choice((b"keypad " + pane + b" application", b"keypad " + pane + b" numeric", b"say it is well", b"say " + hostile,
+                          b"keypad " + pane + hostile, hostile)) + b"\n"
 
 
 class Written(Fronts):
@@ -62,15 +62,15 @@ class Written(Fronts):
         self.environment(TERM="xterm")
         super().setUp()
         self.patch_of(app, "PanesSubscriber", PanesSubscriber)
-        self.tells = {name: self.listening(self.place.folder / name) for name in ("panes", "bells")}
+        self.tells = {name: self.listening(self.place.folder / name) for name in ("panes", "host")}
 
     def begin(self):
-        """A front end that sets the clipboard, at sockets at which panes and bells are told."""
+        """A front end that sets the clipboard, at sockets at which panes and notices are told."""
         self.front = FrontEnd(self.place, False, "C-b", "adaptive", lambda places: False, StillLoop(), has_clips=True)
         self.addCleanup(lambda outer=self.front.display.outer: closed(outer.end))
         self.addCleanup(self.front.link.close)
         self.connect()
-        ends = [self.taken(self.tells[name]) for name in ("panes", "bells")]
+        ends = [self.taken(self.tells[name]) for name in ("panes", "host")]
         ends[0].send(b"1 1 1 23 39 1\n2 1 41 23 40 1\nfocus 1\nclients 1 of 64\nwatchers 0 of 16\n")
         self.paints()
         return ends
@@ -90,13 +90,13 @@ class Written(Fronts):
     def run_one(self, seed):
         """A run by chance, and the names of the forms that were written in it."""
         chance = random.Random(seed)
-        panes, bells = self.begin()
+        panes, host = self.begin()
         self.turn(4)
         self.assertTrue(self.shown().endswith(b"\x1b8"))
         shown = bytearray()
         for _ in range(40):
             panes.send(pane_lines(chance) if chance.random() < 0.2 else b"")
-            for end, line in ((panes, beside_line(chance)), (bells, bell_line(chance))):
+            for end, line in ((panes, beside_line(chance)), (host, notice_line(chance))):
                 for chunk in chunks(chance, line):
                     end.send(chunk)
                     self.front.turn()

@@ -22,7 +22,6 @@ from roam_live.frontend.stalled_input import UntakenLines
 from roam_live.frontend.status_segments import StatusRow
 from roam_live.frontend.window_view import DrainingViews, WindowView, opened_server
 from roam_live.frontend.windows import WindowWishes
-from roam_live.protocol.bells import BellSubscriber
 from roam_live.protocol.client_link import LAST_WAIT, ClientLink, Reconnector
 from roam_live.protocol.host_client import HostClient
 from roam_live.protocol.panes_client import AWAITED, PanesSubscriber
@@ -120,11 +119,6 @@ class FrontEnd:
         return self.view.panes
 
     @property
-    def bells(self) -> BellSubscriber:
-        """What is told of the window's bells."""
-        return self.view.bells
-
-    @property
     def commands(self) -> Commands:
         """What keys mean in the window."""
         return self.view.commands
@@ -152,15 +146,11 @@ class FrontEnd:
     def followed(self, session: AnySession) -> PanesSubscriber:
         """What follows the panes of a window."""
         panes = PanesSubscriber(session.folder, self.loop, lambda: self.commands.panes_changed(), self.untold)
+        panes.rings = lambda pane: self.commands.ring(pane)
         if self.has_clips:
             panes.follow_clips(lambda text, making: self.commands.clip(text, making))
         self.loop.later("untold", AWAITED, lambda: self.commands.show_known())
         return panes
-
-    def heard_bells(self, session: AnySession) -> BellSubscriber:
-        """What follows the bells of a window."""
-        return BellSubscriber(session.folder, self.loop, lambda pane: self.commands.ring(pane),
-                              lambda words: self.display.tell(words, LOSS_TOLD))
 
     def begun(self, session: AnySession) -> WindowView:
         """A view of a window."""
@@ -168,10 +158,11 @@ class FrontEnd:
         link, panes = ClientLink(session.terminals, self.is_read_only, self.prediction), self.followed(session)
         host = HostClient(session.folder, loop, display.outer.size, self.is_read_only, lambda: commands.others_told())
         host.leaves, host.others_left = lambda: self.leave(DETACHED), lambda count: self.commands.others_left(count)
+        host.notices = lambda words: display.tell(words, LOSS_TOLD)
         commands = Commands(session, panes, link, display, loop, self.leave, self.is_new, self.is_whole, host)
         commands.runs = self.run_wish
         commands.synchronizing.remember(self.synchronized, session.number, lambda: self.prediction)
-        return WindowView(session, link, Reconnector(session, link, panes.is_full), panes, host, self.heard_bells(session), commands)
+        return WindowView(session, link, Reconnector(session, link, panes.is_full), panes, host, commands)
 
     # ---- settings
 
@@ -245,7 +236,7 @@ class FrontEnd:
         self.shown_whole[before.number] = before.commands.session_size() if self.display.shows_all() else NO_SIZE
         self.draining.add(before)
         if view:
-            view.take_up(self.followed(session), self.heard_bells(session))
+            view.take_up(self.followed(session))
         else:
             self.is_new = lambda places: False
             view = self.begun(session)
@@ -384,10 +375,10 @@ class FrontEnd:
         except ImportError:
             self.commands.tell_replaced()
         view, outer = self.view, self.display.outer
-        if view.bells.keypads or outer.is_application:
+        if view.host.keypads or outer.is_application:
             # The keypad is an application's, in a pane or at the terminal.
             places = view.panes.places
-            self.display.set_keypad(places is not None and places.focus in view.bells.keypads)
+            self.display.set_keypad(places is not None and places.focus in view.host.keypads)
         if view.link.waiting and view.link.peer:
             self.send()
         if outer.has_more():

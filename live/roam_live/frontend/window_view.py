@@ -11,7 +11,6 @@ from roam_live.common.process import opened_process
 TYPE_CHECKING = False
 if TYPE_CHECKING:
     from roam_live.frontend.commands import Commands
-    from roam_live.protocol.bells import BellSubscriber
     from roam_live.protocol.client_link import ClientLink, Reconnector
     from roam_live.protocol.host_client import HostClient
     from roam_live.protocol.panes_client import PanesSubscriber
@@ -28,9 +27,9 @@ class WindowView:
     """The connections of a front end to one window."""
 
     def __init__(self, session: AnySession, link: ClientLink, reconnector: Reconnector, panes: PanesSubscriber, host: HostClient,
-                 bells: BellSubscriber, commands: Commands) -> None:
+                 commands: Commands) -> None:
         self.session, self.link, self.reconnector, self.panes = session, link, reconnector, panes
-        self.host, self.bells, self.commands = host, bells, commands
+        self.host, self.commands = host, commands
         self.number = session.number
         # What tells of the end of the server, where its process is known.
         self.server: int | None = None
@@ -57,7 +56,6 @@ class WindowView:
         self.commands.part()
         self.watch_no_more(loop)
         self.panes.close()
-        self.bells.close()
         self.host.rename(f"follow host of {self.number}")
         # The connection of the window where the person is tells of it too.
         self.host.is_draining = True
@@ -65,9 +63,9 @@ class WindowView:
         if self.link.peer:
             loop.remove(self.link)
 
-    def take_up(self, panes: PanesSubscriber, bells: BellSubscriber) -> None:
-        """Follows the window again, by others who tell where the panes are, and of bells."""
-        self.panes, self.bells = panes, bells
+    def take_up(self, panes: PanesSubscriber) -> None:
+        """Follow the window again, by another subscription of its panes."""
+        self.panes = panes
         self.commands.follow_panes(panes)
         self.reconnector.is_full = panes.is_full
         self.host.rename(type(self.host).again)
