@@ -6,6 +6,7 @@ import importlib.util
 import io
 import os
 import pathlib
+import re
 import socket
 import subprocess
 import sys
@@ -16,6 +17,7 @@ from unittest import mock
 
 from roam_live.common.event_loop import Loop
 from roam_live.common.process import TOOLS
+from roam_live.protocol.host_client import HostClient, HostLink
 
 
 @functools.lru_cache()
@@ -145,6 +147,57 @@ class Case(unittest.TestCase):
     def words(self, *words: str) -> None:
         """Has a tool be called with these words."""
         self.patch_of(sys, "argv", [*words])
+
+
+def led_text(text: bytes, number: int) -> bytes:
+    """Lines as they are said at the socket `host` of a window, or of the session."""
+    return b"".join(b"%d %s" % (number, line) for line in text.splitlines(True))
+
+
+def parted_text(data: bytes, number: int) -> bytes:
+    """What was told of a window, or of the session, in lines: without their numbers."""
+    lead = b"%d " % number
+    return b"".join(line[len(lead) :] for line in data.splitlines(True) if line.startswith(lead))
+
+
+def unled(data: bytes) -> bytes:
+    """What was told at the socket `host`, in lines: without the numbers that they begin with."""
+    return re.sub(rb"(?m)^\d{1,2} ", b"", data)
+
+
+class Asker:
+    """One who is connected to a socket `host`, and says lines about a window."""
+
+    def __init__(self, case: "Case", folder: "str | os.PathLike[str]", number: int = 0) -> None:
+        self.end, self.number = socket.socket(socket.AF_UNIX, socket.SOCK_STREAM), number
+        case.addCleanup(self.end.close)
+        self.end.connect(os.path.join(folder, "host"))
+        self.end.setblocking(False)
+        self.fileno, self.close, self.recv = self.end.fileno, self.end.close, self.end.recv
+
+    def send(self, text: bytes) -> None:
+        """Says lines."""
+        self.end.send(led_text(text, self.number))
+
+
+def without_numbers(case: "Case") -> None:
+    """Has lines at the socket `host` go without the numbers of windows, for tests of one window that say and read them by hand."""
+    for module in ("host.socket_server", "host.scrollback_queries", "protocol.host_client"):
+        case.patch(f"roam_live.{module}.led", lambda number, line: line)
+    for module in ("host.socket_server", "protocol.scrollback_client"):
+        case.patch(f"roam_live.{module}.parted", lambda line: (0, line))
+
+
+class LinkedClient(HostClient):
+    """What is known of the only window of a session by a connection of its own, and that connection."""
+
+    def __init__(self, folder, loop, size=lambda: (24, 80), is_read_only=False, knows=lambda: None) -> None:
+        link = HostLink(folder, loop, size, is_read_only)
+        super().__init__(link, 0, knows)
+        link.go(self)
+
+    def __getattr__(self, name: str) -> object:
+        return getattr(self.__dict__["link"], name)
 
 
 class PlayedSurvey:

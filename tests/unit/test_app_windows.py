@@ -4,7 +4,7 @@ import pathlib
 import pty
 from unittest import mock
 
-from aids import Case, StillLoop, closed, read_now, record
+from aids import Case, StillLoop, closed, read_now, record, unled
 from emulated import Emulated
 from roam_live.common import tty
 from roam_live.common.errors import Fault
@@ -29,9 +29,9 @@ class PlayedWindow(AnySession):
         folder = case.folder / "w" / str(number)
         folder.mkdir(parents=True)
         super().__init__(folder)
-        self.number, self.all, self.status = number, all_windows, 1
+        self.number, self.all, self.status, self.common = number, all_windows, 1, case.folder
         all_windows[number] = self
-        self.clients, self.host = case.listening(self.terminals), case.listening(folder / "host")
+        self.clients = case.listening(self.terminals)
 
     def windows(self):
         """Those that run."""
@@ -55,6 +55,7 @@ class Windows(Case):
         self.stop_clock()
         self.folder = self.made_folder()
         self.windows, self.clients, self.typed, self.hosts = {}, {}, {}, []
+        self.host = self.listening(self.folder / "host")
         self.place = self.add(1)
         self.add(2)
         self.master, slave = pty.openpty()
@@ -83,7 +84,7 @@ class Windows(Case):
     def close(self, front):
         """Closes what a front end has open."""
         closed(front.display.outer.end)
-        front.windows.link.end()
+        front.host_link.end()
         for view in (front.view, *front.draining.views.values()):
             view.close(self.loop)
 
@@ -125,7 +126,7 @@ class Windows(Case):
                 for client in self.accepted(window.clients):
                     self.clients[client] = number, 0
                     self.send(client, b"\nevents\n")
-                self.hosts += [(peer, number) for peer in self.accepted(window.host)]
+            self.hosts += self.accepted(self.host)
             for client in list(self.clients) if paints else []:
                 self.answer(client)
         self.emulated.fed(read_now(self.master))
@@ -157,16 +158,13 @@ class Windows(Case):
             self.clients.pop(peer, None)
 
     def said(self):
-        """The lines that were said to the host since they were looked at, in the order of who connected."""
-        found = []
-        for peer, _ in self.hosts:
-            found += read_now(peer).decode().split("\n")[:-1]
-        return found
+        """The lines that were said to the host since they were looked at, but for those that say who is where."""
+        found = [line for peer in self.hosts for line in unled(read_now(peer)).decode().split("\n")[:-1]]
+        return [line for line in found if line.split()[0] not in ("here", "who")]
 
     def tell(self, *lines):
         """Has the host tell lines about windows."""
-        peer = self.hosts[1][0]
-        peer.send("".join(f"{line}\n" for line in lines).encode())
+        self.hosts[-1].send("".join(f"0 {line}\n" for line in lines).encode())
         self.turn()
 
     def tell_list(self):
@@ -225,9 +223,8 @@ class Switches(Windows):
         """The connections to a window that was left are closed once what was typed there is taken, and the other is painted."""
         self.type(b"a\x022")
         self.turn()
-        read_now(self.hosts[0][0])
         there = [number for number, _ in self.clients.values()]
-        self.assertEqual((there, self.hosts[0][0].recv(99), self.front.draining.views), ([2], b"", {}))
+        self.assertEqual((there, list(self.front.host_link.clients), self.front.draining.views), ([2], [2], {}))
 
     def test_lost(self):
         """Where the client of a window that was left ends, another has what was typed there and hasn't gone; else nothing is waited for."""
@@ -289,12 +286,12 @@ class Switches(Windows):
 
     def test_paste(self):
         """A paste that is handed over goes where it was pasted, and what is typed behind a switch doesn't wait for it."""
-        self.hosts[0][0].send(b"host 00112233445566aa\nothers 0\n")
+        self.hosts[0].send(b"0 host 00112233445566aa\n1 others 0\n")
         self.turn()
         self.type(b"a\x1b[200~" + LONG.encode() + b"\x1b[201~b\x022c")
         self.assertEqual(self.typed, {1: "a", 2: "c"})
         name = next(line.split()[1] for line in self.said() if line.startswith("paste"))
-        self.hosts[0][0].send(f"stored {name}\n".encode())
+        self.hosts[0].send(f"0 stored {name}\n".encode())
         self.turn(6)
         self.assertEqual((self.typed[1], self.typed[2]), (f"a\x9f{name}\x9cb", "c"))
 
@@ -312,8 +309,8 @@ class Switches(Windows):
         self.turn()
         for number, wanted in ((2, "<size 20 70>"), (3, "")):
             self.type(b"\x02%d" % number)
-            for peer, _ in self.hosts:
-                self.send(peer, b"host 00112233445566aa\nothers 0\n")
+            for peer in self.hosts:
+                self.send(peer, b"0 host 00112233445566aa\n%d others 0\n" % number)
             self.now += 1
             self.turn(8)
             self.assertEqual(self.typed[number], wanted)
@@ -393,13 +390,13 @@ class Opened(Windows):
         self.assertEqual(self.typed[1], "")
         self.now += 0.2
         self.turn()
-        peer = self.hosts[-1][0]
-        self.assertEqual(read_now(peer), b"windows\n")
-        self.send(peer, b"window 1 -\nwindow 2 -\nwindows 2\n")
+        peer = self.hosts[-1]
+        self.assertTrue(read_now(peer).endswith(b"1 who\n0 windows\n"))
+        self.send(peer, b"0 window 1 -\n0 window 2 -\n0 windows 2\n")
         self.turn()
-        self.assertEqual(read_now(peer), b"open 24 80\n")
+        self.assertEqual(read_now(peer), b"1 open 24 80\n")
         self.add(3)
-        self.send(peer, b"window 3 -\nopened 3\n")
+        self.send(peer, b"0 window 3 -\n0 opened 3\n")
         self.turn()
         self.assertEqual(self.typed, {1: "", 2: "", 3: "ab"})
 
@@ -417,7 +414,7 @@ class Opened(Windows):
         """So does the end of the host."""
         self.tell_list()
         self.type(b"\x02cab")
-        self.hosts[1][0].close()
+        self.hosts[0].close()
         self.turn()
         self.assertEqual((self.front.windows.is_opening, self.front.display.told.endswith(DROPPED)), (False, True))
 
@@ -433,10 +430,10 @@ class Opened(Windows):
             self.front.windows.link.lost("cut")
             self.now += 1
             self.turn()
-            self.send(self.hosts[-1][0], b"window 1 -\nwindow 2 -\nwindows 2\n")
+            self.send(self.hosts[-1], b"0 window 1 -\n0 window 2 -\n0 windows 2\n")
             self.turn()
         self.said()
-        self.send(self.hosts[-1][0], b"opened 3\n")
+        self.send(self.hosts[-1], b"0 opened 3\n")
         self.turn()
         self.front.windows.link.lost("cut")
         self.now += 0.02
@@ -453,8 +450,9 @@ class Opened(Windows):
         self.assertTrue(self.front.commands.is_full())
 
     def test_by_hand(self):
-        """A host that doesn't know of windows, and a session without a window's number, can have one alone, which is said."""
-        self.tell("bad line")
+        """A session without a window's number can have one alone, which is said."""
+        self.place.number = 0
+        self.front_of()
         self.type(b"\x02ca")
         self.assertEqual((self.front.display.told, self.typed[1]), (BY_HAND, "a"))
 
@@ -558,10 +556,10 @@ class Told(Windows):
         self.said()
         self.type(b"\x02D")
         self.assertEqual(self.said(), ["leave others"])
-        self.hosts[0][0].send(b"left 2\n")
+        self.hosts[0].send(b"0 left 2\n")
         self.turn()
         self.assertEqual(self.front.display.told, "2 other terminals detached")
-        self.hosts[0][0].send(b"leave\n")
+        self.hosts[0].send(b"0 leave\n")
         self.turn()
         self.assertEqual(self.front.left, "[detached from elsewhere]")
 
@@ -756,7 +754,7 @@ class Hidden(Windows):
     def test_hidden(self):
         """The session has the row then, and a line that is told stands over it."""
         self.place.told = places(24, 80)
-        self.hosts[0][0].send(b"host 00112233445566aa\nothers 0\n")
+        self.hosts[0].send(b"0 host 00112233445566aa\n1 others 0\n")
         self.turn()
         self.type(b"\x02t")
         self.assertIn("<size 25 80>", self.typed[1])

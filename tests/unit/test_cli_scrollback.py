@@ -43,11 +43,14 @@ class Asked(Rows):
 
     def setUp(self):
         super().setUp()
-        self.session = types.SimpleNamespace(name="main", folder=self.folder)
+        self.session = types.SimpleNamespace(name="main", folder=self.folder, common=self.folder, number=0)
         self.generation = 5
         self.filter = []
         self.patch_of(scrollback, "making_of", lambda session, pane: (pane or 1, self.generation))
         self.patch_of(scrollback, "ready", self.ready)
+        self.patch_of(scrollback, "led", lambda number, line: line)
+        self.patch_of(paste, "led", lambda number, line: line)
+        self.patch_of(paste, "parted", lambda line: (0, line))
         self.patch_of(scrollback, "ANSWERS", 0.2)
         self.out = io.TextIOWrapper(io.BytesIO())
         self.patch_of(sys, "stdout", self.out)
@@ -198,12 +201,12 @@ class Buffered(Asked):
             self.patch_of(paste, "ready", self.ready)
             told = "session main: the pty host ended, or takes no buffer, and nothing was typed"
             self.refuses(told, scrollback.put_buffer, "1", 0)
-        with mock.patch.object(self.socket, "take_line", lambda peer, line: self.socket.drop(peer)):
+        with mock.patch.object(self.socket, "take_line", lambda peer, number, line: self.socket.drop(peer)):
             self.refuses(told, scrollback.put_buffer, "1", 0)
         self.socket.close()
         self.refuses("session main: its pty host is not running", paste.paste_buffer, 1, 0)
 
     def test_nonsense(self):
         """A host that tells what can't be."""
-        with mock.patch.object(self.socket, "take_line", lambda peer, line: self.socket.send(peer, ["buffers [2J"])):
+        with mock.patch.object(self.socket, "take_line", lambda peer, number, line: self.socket.send(peer, ["buffers [2J"])):
             self.refuses("session main: the pty host tells what can't be: buffers ?[2J", scrollback.list_buffers)

@@ -182,6 +182,7 @@ class Notes(Case):
     def test_kept(self):
         """A session's folder is kept while one of its front ends is there; what they don't foresee is logged there."""
         self.assertFalse(front_end_lock.has_front_ends(self.folder))
+        self.patch_of(errors, "logs", [])
         (self.folder / "log").touch()
         with front_end_lock.locked_session(self.folder):
             with front_end_lock.locked_session(self.folder):

@@ -1,7 +1,6 @@
 """Copy mode at the host's socket `host`: what it asks and what it makes of the answers, with a filter that is played."""
-from aids import Case
+from aids import Case, LinkedClient
 from roam_live.frontend.copymode.row_requests import GONE
-from roam_live.protocol.host_client import HostClient
 from roam_live.protocol.panes import Places, Rect
 from test_display import Person
 from test_scrollback_queries import Rows
@@ -18,7 +17,7 @@ class Connected(Rows):
         Case.environment(self, VISUAL="vi", EDITOR=None, ROAM_CLIPBOARD=None)
         self.person = Person(24, 80, told=Places({1: Rect(1, 1, 23, 80)}, 1, 1))
         self.person.panes.making = lambda pane: f"{pane} 5"
-        self.link = HostClient(self.folder, self.loop, lambda: (24, 80), False, lambda: None)
+        self.link = LinkedClient(self.folder, self.loop, lambda: (24, 80), False, lambda: None)
         self.addCleanup(self.link.leave)
         self.person.commands.host = self.person.commands.pastes.host = self.link
         self.link.answers = self.person.commands.pastes.answered

@@ -1,10 +1,9 @@
 """Windows of another machine's session over a relay: what the far end tells of them, the near end's folders, and peers' numbers."""
 import os
 import pathlib
-import socket
 import types
 
-from aids import Case, StillLoop, read_now
+from aids import Case, StillLoop, led_text, read_now
 from roam_live.common.listener import Listener
 from roam_live.relay.far_windows import FarWindows, windows_in, windows_text
 from roam_live.relay.forwarding import ForwardedConnection, Streams
@@ -43,22 +42,22 @@ class Far(Case):
 
     def test_asked(self):
         """Nothing is told before it is asked; then all, the relay's own first, and each change once."""
-        listener = self.listening(self.window(1).folder / "host")
+        listener = self.listening(self.folder / "host")
         self.windows.tell()
-        self.assertEqual((self.told, self.windows.folder(1), self.windows.path("w/1/host")), ([], str(self.place.folder), ""))
+        self.assertEqual((self.told, self.windows.folder(1), self.windows.path("w/1/panes")), ([], str(self.place.folder), ""))
         self.windows.use()
         self.assertEqual(self.told, [b"n3 a3 1 a1"])
         host = self.taken(listener)
         self.loop.turns(2)
-        self.assertEqual(read_now(host), b"windows\n")
+        self.assertEqual(read_now(host), b"0 windows\n")
         self.here[2] = "a2"
-        host.send(b"window 2 -\nopened 2\nactivity 2\n")
+        host.send(led_text(b"window 2 -\nopened 2\nactivity 2\n", 0) + b"2 window 9 -\nwindow 8 -\n")
         self.loop.turns(2)
-        host.send(b"activity 2\nbell 2 1\nwindow 2 6162\n")
+        host.send(led_text(b"activity 2\nbell 2 1\nwindow 2 6162\n", 0))
         self.loop.turns(2)
         self.assertEqual(self.told[1:], [b"n3 a3 1 a1 2 a2"])
-        self.assertEqual([self.windows.path(name) for name in ("w/2/host", "panes")],
-                         [str(self.folder / "w/2/host"), str(self.place.folder / "panes")])
+        self.assertEqual([self.windows.path(name) for name in ("w/2/panes", "panes", "host")],
+                         [str(self.folder / "w/2/panes"), str(self.place.folder / "panes"), str(self.folder / "host")])
         # A relay that comes again is told anew.
         self.windows.use()
         self.assertEqual(len(self.told), 3)
@@ -66,7 +65,7 @@ class Far(Case):
     def test_gone(self):
         """One that is told to be gone, or isn't named anew where the connection was cut, is told no more, though its server hasn't ended
         yet; the relay's own is until then. What is no number changes nothing."""
-        listener = self.listening(self.window(1).folder / "host")
+        listener = self.listening(self.folder / "host")
         self.here.update({2: "a2", 4: "a4"})
         self.windows.use()
         self.assertEqual(self.told, [b"n3 a3 1 a1 2 a2 4 a4"])
@@ -83,7 +82,7 @@ class Far(Case):
                 self.loop.turns(2)
                 host = self.taken(listener)
                 continue
-            host.send(text)
+            host.send(led_text(text, 0))
             self.loop.turns(2)
             self.assertEqual(self.told, [wanted] if wanted else [], text)
 
@@ -126,7 +125,7 @@ class Near(Case):
         (self.folder / "w/9").mkdir(parents=True)
         pathlib.Path(self.folder, "w/9/session").touch()
         self.windows.take({1: "a", 2: "b"})
-        names = ("clients", "host", "panes", "session")
+        names = ("clients", "panes", "session")
         self.assertEqual(self.there(), [f"w/{number}/{name}" for number in (1, 2) for name in names])
         self.assertEqual((self.folder / "w/2/session").read_text(encoding="ascii"), "b\n")
         self.windows.take({1: "c"})
@@ -134,16 +133,6 @@ class Near(Case):
                          ([1, 2], [f"w/1/{name}" for name in names], "c\n"))
         self.windows.close()
         self.assertEqual(os.listdir(self.folder), [])
-
-    def test_used(self):
-        """A front end that waits at any window is there."""
-        self.windows.take({1: "a", 2: "b"})
-        self.assertFalse(self.windows.is_used())
-        with socket.socket(socket.AF_UNIX, socket.SOCK_STREAM) as one:
-            one.connect(str(self.folder / "w/2/host"))
-            self.loop.turns(2)
-            self.assertTrue(self.windows.is_used())
-        self.assertFalse(self.windows.is_used())
 
     def test_churn(self):
         """Other windows without end are made at a bounded rate; the same, told again, cost nothing; in the end those are there that were
@@ -188,7 +177,7 @@ class Names(Case):
     """Names of sockets that are carried."""
 
     def test_names(self):
-        """Those of windows are of two names too, and are ended by these."""
+        """Of windows `panes` alone can be had; the host is the session's."""
         opened = []
 
         def opens(name):
@@ -196,7 +185,7 @@ class Names(Case):
             raise FileNotFoundError(name)
 
         streams = Streams(StillLoop(), opens)
-        for name in ("panes", "w/2/host", "w/99/host", "w/2/bells", "w/0/panes", "w/100/panes", "w/2/clients", "w/2/../panes",
+        for name in ("panes", "w/2/panes", "host", "w/99/host", "w/2/bells", "w/0/panes", "w/100/panes", "w/2/clients", "w/2/../panes",
                      "w/2/w/3/panes", "clients"):
             streams.opened(ForwardedConnection(1), name)
-        self.assertEqual(opened, ["panes", "w/2/host", "w/99/host"])
+        self.assertEqual(opened, ["panes", "w/2/panes", "host"])

@@ -11,7 +11,7 @@ from roam_live.common.fault_log import FaultLog, SoonFaults
 from roam_live.host import pane as host_pane, scrollback_process, scrollback_store, window_commands
 from roam_live.host.pending_pastes import PendingPastes
 from roam_live.host.scrollback_store import RowsRoom
-from roam_live.host.socket_server import HostServer
+from roam_live.host.socket_server import HostSocket
 from test_pty_host import Host
 
 
@@ -90,18 +90,19 @@ class Kept(Host):
         self.addCleanup(one.close)
         one.connect(str(self.folder / "host"))
         one.setblocking(False)
-        one.send("".join(f"{line}\n" for line in lines).encode())
+        one.send("".join(f"0 {line}\n" for line in lines).encode())
         return one
 
     def test_peer(self):
         """An exception in a peer's line ends that connection only."""
         panes = self.begin()
         other = self.asker("who")
-        take_line = HostServer.take_line
-        with mock.patch.object(HostServer, "take_line", lambda one, peer, line: 1 / 0 if line == "zero" else take_line(one, peer, line)):
+        take_line = HostSocket.take_line
+        with mock.patch.object(HostSocket, "take_line",
+                               lambda one, peer, number, line: 1 / 0 if line == "zero" else take_line(one, peer, number, line)):
             one = self.asker("zero", "who")
             self.turn(4)
-        self.assertEqual((one.recv(9), [peer.asks for peer in self.host.socket.peers], self.host.common.faults.count), (b"", [True], 1))
+        self.assertEqual((one.recv(9), [peer.asks for peer in self.host.channel.peers], self.host.common.faults.count), (b"", [True], 1))
         self.assertIn(b"host ", read_now(other))
         self.made[0].send(b"goes on")
         self.turn()
@@ -200,14 +201,13 @@ class Sizes(Case):
         """A size is cut to the largest that a session may have; what isn't a size is a bad line."""
         asked = []
         table = mock.Mock(open=lambda size, beside, told, begins: asked.append(size))
-        lines = window_commands.WindowLines(table, [])
+        lines = window_commands.WindowLines(table, mock.Mock(channels={}))
         peer = mock.Mock(is_read_only=lambda: False, opening=0, asks_windows=False)
-        one = mock.Mock(window=1)
         words = ("24 80", "1 1", "24 65536", "99999 99999", "65537 80", "200 500", "201 501", "0 80", "100000 80", "24", "-1 80")
         taken = []
         for word in words:
             peer.opening = 0
-            taken.append(lines.take(one, peer, f"open {word}"))
+            taken.append(lines.take(peer, 1, f"open {word}"))
         self.assertEqual(asked, [(24, 80), (1, 1), (24, 500), (200, 500), (200, 80), (200, 500), (200, 500)])
         self.assertEqual(taken, [True] * 7 + [False] * 4)
 

@@ -5,8 +5,8 @@ import unittest
 
 from aids import Case, StillLoop, read_now
 from roam_live.relay import forwarding, path_forwarding
-from roam_live.relay.forwarding import (BYTES, CREDIT, END, MOST_FORWARDED, NAMES, NUMBER, OPEN, TAKEN, TAKEN_AFTER, TAKEN_COUNT, BadStream,
-                                        PipeStreams)
+from roam_live.relay.forwarding import (BYTES, CREDIT, END, HOST, MOST_FORWARDED, NUMBER, OPEN, PANES, TAKEN, TAKEN_AFTER, TAKEN_COUNT,
+                                        BadStream, PipeStreams)
 from roam_live.relay.path_forwarding import LONGEST_CHUNK, MOST_CHUNKS, STREAM, STREAM_KIND, TAKEN_KIND, PathStreams, StreamChunk
 
 ROOM = 1137
@@ -23,7 +23,7 @@ class Both(Case):
     def opens(self, name):
         """A connection to a socket of the far folder; its other end is the server's."""
         self.names.append(name)
-        if name == "w/3/host":
+        if name == "w/3/panes":
             raise ConnectionRefusedError("nobody keeps shells")
         ours, theirs = self.pair()
         self.servers.append(theirs)
@@ -73,10 +73,10 @@ class Carries:
 
     def test_names(self):
         """Two names are known, and no other, nor a path; where nobody listens the connection ends."""
-        self.assertEqual(NAMES, ("panes", "host"))
-        clients = [self.client(name) for name in ("clients", "p1", "terminals", "../panes", "panes\0", "w/3/host", "x" * 32)]
+        self.assertEqual((HOST, PANES), ("host", "panes"))
+        clients = [self.client(name) for name in ("clients", "p1", "terminals", "../panes", "panes\0", "w/3/host", "w/3/panes", "x" * 32)]
         self.turn(6)
-        self.assertEqual((self.names, self.servers), (["w/3/host"], []))
+        self.assertEqual((self.names, self.servers), (["w/3/panes"], []))
         for client in clients:
             self.assertEqual(client.recv(1), b"")
         self.assertEqual((self.near.all, self.far.all), ({}, {}))

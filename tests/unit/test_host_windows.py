@@ -7,7 +7,8 @@ import signal
 import socket
 from unittest import mock
 
-from aids import Case, StillLoop, read_now
+import aids
+from aids import Asker, Case, StillLoop, unled
 from roam_live.common import process as common_process
 from roam_live.common.errors import Fault
 from roam_live.common.process import begun
@@ -19,6 +20,11 @@ from roam_live.protocol.panes import Rect
 from roam_live.protocol.spawn_request import Begins
 from roam_live.protocol.window_lines import MOST_WINDOWS, name_in, name_word
 from roam_live.session.window_state import is_spare_server, note_ends, numbers_in
+
+
+def read_now(one):
+    """What one was told now, in lines without their numbers, or what was written elsewhere."""
+    return unled(aids.read_now(one)) if isinstance(one, Asker) else aids.read_now(one)
 
 
 class Played(Case):
@@ -105,10 +111,7 @@ class Played(Case):
 
     def asker(self, number, text=b"windows\n"):
         """One who is connected at a window, and says this."""
-        one = socket.socket(socket.AF_UNIX, socket.SOCK_STREAM)
-        self.addCleanup(one.close)
-        one.connect(str(self.path(number, "host")))
-        one.setblocking(False)
+        one = Asker(self, self.folder, number)
         one.send(text)
         self.turns(3)
         return one
@@ -140,8 +143,7 @@ class Fronts(Played):
         self.assertIn(b"runs 1 sh\n", read_now(one))
 
     def test_leave_others(self):
-        """All terminals are told to leave, of each window, but the one that says it; a terminal that is on its way to another window is
-        there twice, and one who watches has nobody leave."""
+        """All terminals are told to leave, of each window, but the one that says it; one who watches has nobody leave."""
         self.opened()
         self.opened((24, 80))
         there = ((1, "a", "read-write"), (2, "a", "read-write"), (2, "b", "read-write"), (1, "c", "read-only"))
@@ -149,7 +151,7 @@ class Fronts(Played):
         for one in (own, also, other, watcher):
             read_now(one)
         self.assertEqual(self.said_by(watcher, b"leave others\n"), b"bad line\n")
-        self.assertEqual(self.said_by(own, b"leave others\n"), b"left 2\n")
+        self.assertEqual(self.said_by(own, b"leave others\n"), b"left 3\n")
         self.assertEqual([read_now(one) for one in (also, other, watcher)], [b"leave\n"] * 3)
 
 
@@ -189,7 +191,7 @@ class Opened(Played):
     def test_seen_size(self):
         """The host knows a window's size by its panes, while it follows them."""
         self.opened()
-        zoom = self.windows.windows[1].host.socket.zoom
+        zoom = self.windows.windows[1].host.channel.zoom
         self.assertEqual(zoom.size, (24, 80))
         for text, size in ((b"1 1 1 23 60 4\n", (24, 60)), (b"1 1 1 23 40 4\n2 1 42 23 40 5\n", (24, 81)), (b"2 1 42 23 41 5\n", (24, 82)),
                            (b"1 1 1 20 40 4\n", (24, 82)), (b"2 1 42 20 41 5\n", (21, 82)), (b"2 gone\n", (21, 40))):
@@ -390,15 +392,18 @@ class Told(Played):
         by which nothing was it isn't opened."""
         self.opened()
         name, data = "0123456789abcdef", Begins(["htop", "-d"], "/", "logs").packed()
-        one = self.asker(1, f"windows\nrun {name} window {len(data)}\n".encode() + data + f"open 30 90 {name}\n".encode())
+        one = self.asker(1, b"windows\n")
+        one.end.send(f"1 run {name} window {len(data)}\n".encode() + data + f"1 open 30 90 {name}\n".encode())
+        self.turns(3)
         self.assertIn(f"run {name} ready\nrun {name} done\n".encode(), read_now(one))
         self.comes_up(2)
         self.assertIn(b"window 2 " + b"logs".hex().encode() + b"\nopened 2\n", read_now(one).replace(b"activity 2\n", b""))
         panes = self.windows.windows[2].host.panes
         self.assertEqual([(pane.command, pane.folder) for pane in panes.values()], [(["htop", "-d"], "/")])
         self.assertEqual(self.windows.windows[2].host.handed_to(Rect(1, 1, 9, 9)), None)
-        # It may be handed over at another window's socket.
-        self.asker(2, f"run {'a' * 16} window {len(data)}\n".encode() + data)
+        # It may be handed over by another, at another window.
+        self.asker(2, b"").end.send(f"2 run {'a' * 16} window {len(data)}\n".encode() + data)
+        self.turns(3)
         one.send(f"open 30 90 {'a' * 16}\n".encode())
         self.turns(3)
         self.comes_up(3)
@@ -450,7 +455,7 @@ class Told(Played):
         """Terminals are told of all windows, each with the window where it is; one is told to leave, or all others are."""
         self.opened()
         self.opened((24, 80))
-        self.patch_of(self.common.registry.attended, "clock", lambda: 1000.5)
+        self.patch_of(self.common.socket.attended, "clock", lambda: 1000.5)
         one, two = self.asker(1, b"here a:/dev/pts/1 24 80 read-write\n"), self.asker(2, b"here b:/dev/pts/2 30 90 read-only\n")
         self.assertEqual((self.folder / "w/last").read_text(encoding="ascii"), "2\n")
         self.assertEqual(self.said_by(one, b"clients\n"), b"client 1 a:/dev/pts/1 24 80 1 1000 read-write\n"
@@ -461,7 +466,7 @@ class Told(Played):
         # One that goes to another window stays since when it was there; one that comes later is there anew.
         one.close()
         self.turns()
-        self.patch_of(self.common.registry.attended, "clock", lambda: 1060.5)
+        self.patch_of(self.common.socket.attended, "clock", lambda: 1060.5)
         again = self.asker(2, b"here a:/dev/pts/1 24 80 read-write\n")
         self.assertIn(b" 24 80 2 1000 read-write\n", self.said_by(again, b"clients\n"))
         again.close()
@@ -498,19 +503,86 @@ class Told(Played):
         self.opened((24, 80))
         one, two = self.asker(1, b""), self.asker(2, b"")
         name = "0123456789abcdef"
-        self.assertEqual(self.said_by(one, f"paste {name} 4\ntext".encode()), f"stored {name}\n".encode())
+        one.end.send(f"1 paste {name} 4\ntext".encode())
+        self.turns(3)
+        self.assertEqual(read_now(one), f"stored {name}\n".encode())
         self.assertEqual(self.said_by(two, f"status {name}\n".encode()), f"stored {name}\n".encode())
-        self.assertEqual(self.said_by(one, b"buffer add 2\nab"), b"buffer add 1 2\n")
+        one.end.send(b"1 buffer add 2\nab")
+        self.turns(3)
+        self.assertEqual(read_now(one), b"buffer add 1 2\n")
         self.assertEqual(self.said_by(two, b"buffer show 1\n"), b"buffer show 1 2\nab")
         self.assertEqual(self.said_by(one, b"environment DISPLAY 3a37\n"), b"")
         self.assertIn(b"environment DISPLAY 3a37\n", self.said_by(two, b"environment\n"))
         one.send(b"who\nhere a:/dev/pts/1 24 80 read-write\n")
         two.send(b"who\nhere b:/dev/pts/2 24 80 read-write\n")
         self.turns(2)
-        told = f"host {self.common.registry.name}\nothers 0\n".encode()
+        told = f"host {self.common.socket.name}\nothers 0\n".encode()
         self.assertEqual([read_now(one), read_now(two)], [told, told])
         self.assertEqual(host_pane.surroundings(self.windows.windows[2].host.asked, 3, mock.Mock(set_values=dict))["ROAM_PANE"],
                          f"{self.folder}/w/2:3")
+
+    def test_numbers(self):
+        """A line is about the window that it names; one about a window that isn't there is bad, and so is one without a number."""
+        self.opened()
+        self.opened((24, 80))
+        one = self.asker(2, b"")
+        for line in (b"here a 24 80 read-write", b"", b"x who", b"100 who", b"02 who", b"3 count 1 5", b"3 zoom none",
+                     b"3 run " + b"0" * 16):
+            one.end.send(line + b"\n")
+        self.turns(3)
+        self.assertEqual(aids.read_now(one), b"0 bad line\n" * 5 + b"3 bad line\n" * 3)
+        self.assertEqual(self.common.socket.clients(), ["clients 0"])
+
+    def test_moves(self):
+        """A terminal is at one window, that which it said last; those at each are told of it, with the number that they named."""
+        self.opened()
+        self.opened((24, 80))
+        mover = self.asker(1, b"here a:/dev/pts/1 24 80 read-write\n")
+        first, second = self.asker(1, b"who\ncommands\n"), self.asker(2, b"who\n")
+        for one in (first, second):
+            aids.read_now(one)
+        mover.number = 2
+        mover.send(b"here a:/dev/pts/1 24 80 read-write\nwho\n")
+        self.turns(2)
+        number = self.common.socket.peers[0].number
+        self.assertEqual((aids.read_now(first), aids.read_now(second)),
+                         (b"1 gone %d\n1 others 0\n" % number, b"2 there %d a:/dev/pts/1 24 80 read-write\n2 others 1\n" % number))
+        self.assertTrue(aids.read_now(mover).endswith(b"2 others 0\n"))
+        self.assertEqual(self.windows.last, 2)
+        # What is said of another window doesn't move it.
+        mover.number = 1
+        mover.send(b"zoom 24 80 48 160\n")
+        self.turns(2)
+        self.assertEqual(aids.read_now(first), b"1 zoomed %d 24 80 48 160\n1 others 0\n" % number)
+        mover.close()
+        self.turns(2)
+        self.assertEqual((aids.read_now(first), aids.read_now(second)),
+                         (b"1 zoomed 0 24 80 48 160\n1 others 0\n", b"2 gone %d\n2 others 0\n" % number))
+
+    def test_comes_before(self):
+        """Who is at a window before that is there is so once it is; who names none is at the one where somebody was last."""
+        self.opened()
+        early = self.asker(2, b"here a:/dev/pts/1 24 80 read-write\nwho\n")
+        self.assertEqual(aids.read_now(early), f"0 host {self.common.socket.name}\n".encode())
+        self.opened((24, 80))
+        self.assertTrue(self.windows.windows[2].has_terminals())
+        nameless = self.asker(0, b"here b:/dev/pts/2 24 80 read-write\nwho\n")
+        self.assertIn(b"0 others 1\n", aids.read_now(nameless))
+        self.windows.windows[2].host.channel.tell_keypad(1, True)
+        self.turns(2)
+        self.assertEqual(aids.read_now(nameless), b"0 keypad 1 application\n")
+
+    def test_joined(self):
+        """A window's note tells that it is one; that of a server that stands ready doesn't."""
+        self.opened()
+        self.asker(1)
+        self.now += windows.READY
+        self.turns(2)
+        spare = self.windows.spare
+        spare.note()
+        self.assertNotIn("joined", json.loads(self.path(2, "state.json").read_text()))
+        self.windows.open((24, 80), 1, lambda *words: None)
+        self.assertIs(json.loads(self.path(2, "state.json").read_text())["joined"], True)
 
     def test_names(self):
         """A name is printable, of 64 characters and 119 bytes."""
@@ -743,9 +815,9 @@ class Mended(Played):
         self.assertEqual(self.names(), [told] * 2)
         self.assertEqual(self.said_by(self.one, b"windows\n"), told)
         self.assertIn(host_window.MENDED, self.said.getvalue())
-        before = {window.host.socket.listener.made for window in self.windows.windows.values()}
+        before = self.common.socket.listener.made
         self.minutes(3)
-        self.assertEqual({window.host.socket.listener.made for window in self.windows.windows.values()}, before)
+        self.assertEqual(self.common.socket.listener.made, before)
         self.assertEqual((self.said.getvalue().count(host_window.MENDED), self.common.faults.count), (1, 0))
 
     def test_folder(self):

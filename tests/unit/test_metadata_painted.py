@@ -51,8 +51,10 @@ def beside_line(chance):
 def notice_line(chance):
     """A notice at the socket `host`, as it has to be or not."""
     hostile, pane = controls(chance), str(chance.randint(1, 2)).encode()
-    return chance.choice((b"keypad " + pane + b" application", b"keypad " + pane + b" numeric", b"say it is well", b"say " + hostile,
-                          b"keypad " + pane + hostile, hostile)) + b"\n"
+    line = chance.choice((b"keypad " + pane + b" application", b"keypad " + pane + b" numeric", b"say it is well", b"say " + hostile,
+                          b"keypad " + pane + hostile, hostile))
+    # A line that is led by no number would end the connection.
+    return b"0 " + line.replace(b"\n", b"") + b"\n"
 
 
 class Written(Fronts):

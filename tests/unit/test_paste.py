@@ -2,12 +2,12 @@
 import unittest
 from unittest import mock
 
-from aids import Case, StillLoop
+from aids import Case, LinkedClient, StillLoop
 from roam_live.frontend import paste
 from roam_live.frontend.paste import (BEHIND_IT, COUNTS, DROPPED, DROPS, ENDS, FULL_BEHIND, HANDING, LOST_WORDS, MOST_BEHIND, NOT_TAKEN,
                                       SHORT, TOO_LONG, Pastes, weight)
 from roam_live.input.keys import BRACKETS
-from roam_live.protocol.host_client import LATER, MOST_UNSENT, NO_HOST, STORES_AGAIN, HostClient
+from roam_live.protocol.host_client import LATER, MOST_UNSENT, NO_HOST, STORES_AGAIN
 from roam_live.protocol.panes_client import PAUSES
 from roam_live.protocol.paste_text import FULL, placeholder_acts
 from test_display import ClientLink, Person, PlayedPanes, places
@@ -372,7 +372,7 @@ class Given(Sockets):
     def setUp(self):
         super().setUp()
         self.told = []
-        self.made_link = HostClient(self.folder, StillLoop(lambda: self.now), lambda: (24, 80), False, lambda: None)
+        self.made_link = LinkedClient(self.folder, StillLoop(lambda: self.now), lambda: (24, 80), False, lambda: None)
         self.made_link.answers = lambda *words: self.told.append(words)
         self.addCleanup(self.made_link.leave)
         self.names = [f"{number:016x}" for number in range(5)]
@@ -393,7 +393,8 @@ class Given(Sockets):
         self.socket.texts.placed(self.names[0])
         self.turn()
         self.assertEqual((self.told[1:], link.stored), ([(self.names[0], "inserted", "")], {}))
-        link.take([f"stored {self.names[3]}", f"lost {self.names[0]}", f"inserted {self.names[0]}"])
+        for line in (f"stored {self.names[3]}", f"lost {self.names[0]}", f"inserted {self.names[0]}"):
+            self.assertTrue(link.link.take(line))
         self.assertEqual(len(self.told), 2)
 
     def test_refused(self):
@@ -483,8 +484,7 @@ class Given(Sockets):
         self.made_link.store(self.names[1], b"two")
         self.socket.close()
         self.turn(2)
-        self.socket = type(self.socket)(self.folder, self.loop)
-        self.addCleanup(self.socket.close)
+        self.serve(name="another")
         self.now += PAUSES[0]
         self.turn()
         self.assertEqual(self.told, [(self.names[0], "stored", ""), *((name, "lost", "") for name in self.names[:2])])
@@ -497,7 +497,7 @@ class Given(Sockets):
         """A socket that ends the connection before it tells anything takes no text, which is told at once."""
         folder = self.made_folder()
         listener = self.listening(folder / "host")
-        link = HostClient(folder, StillLoop(lambda: self.now), lambda: (24, 80), False, lambda: None)
+        link = LinkedClient(folder, StillLoop(lambda: self.now), lambda: (24, 80), False, lambda: None)
         link.answers = lambda *words: self.told.append(words)
         self.assertTrue(link.takes_texts())
         link.store(self.names[0], b"one")

@@ -6,7 +6,7 @@ import socket
 import struct
 from unittest import mock
 
-from aids import Case, StillLoop, loaded, read_now
+from aids import Asker, Case, StillLoop, led_text, loaded, read_now, unled
 from filtered import played
 from roam_live.common.errors import Fault
 from roam_live.common.event_loop import READ, WRITE
@@ -55,7 +55,7 @@ class Host(Case):
 
     def leave(self, host):
         """Closes what a host has."""
-        host.socket.close()
+        host.common.socket.close()
         for number in list(host.panes):
             host.drop(number)
         host.rows.close()
@@ -126,26 +126,20 @@ class Panes(Host):
 
     def test_there(self):
         """Who is at the session is told at the socket `host`."""
-        one = socket.socket(socket.AF_UNIX, socket.SOCK_STREAM)
-        self.addCleanup(one.close)
-        one.connect(str(self.folder / "host"))
+        one = Asker(self, self.folder)
         one.send(b"here a:/dev/pts/1 24 80 read-write\nwho\n")
-        one.setblocking(False)
         self.turn()
-        self.assertEqual(read_now(one), f"host {self.host.common.registry.name}\nothers 0\n".encode())
+        self.assertEqual(unled(read_now(one)), f"host {self.host.common.socket.name}\nothers 0\n".encode())
 
     def test_commands(self):
         """What runs in front is told there, and looked up again after something was typed or written."""
         names = {1: "sh", 2: "vi"}
         self.patch_of(window.Fronts, "look", lambda fronts, pane: fronts.tells(pane.number, pane.generation, names[pane.number]))
         panes = self.begin()
-        one = socket.socket(socket.AF_UNIX, socket.SOCK_STREAM)
-        self.addCleanup(one.close)
-        one.connect(str(self.folder / "host"))
-        one.setblocking(False)
+        one = Asker(self, self.folder)
         one.send(b"commands\n")
         self.turn(4)
-        self.assertEqual(read_now(one), b"command 1 4 sh\ncommand 2 5 vi\n")
+        self.assertEqual(unled(read_now(one)), b"command 1 4 sh\ncommand 2 5 vi\n")
         names.update({1: "less", 2: "mc"})
         self.turn()
         panes[0].send(b"x")
@@ -153,16 +147,14 @@ class Panes(Host):
         self.turn()
         self.now += 0.1
         self.turn()
-        self.assertEqual(sorted(read_now(one).splitlines()), [b"command 1 4 less", b"command 2 5 mc"])
+        self.assertEqual(sorted(unled(read_now(one)).splitlines()), [b"command 1 4 less", b"command 2 5 mc"])
 
     def test_pasted(self):
         """A text that was given is put at its mark, between brackets where the server told, before it handed the mark out, that the program
         wants them; of another making, or once it wants them no more, it has none."""
         panes, names = self.begin(), [f"{number:016x}" for number in range(5)]
-        one = socket.socket(socket.AF_UNIX, socket.SOCK_STREAM)
-        self.addCleanup(one.close)
-        one.connect(str(self.folder / "host"))
-        one.send("".join(f"paste {name} 4\ntext" for name in names).encode())
+        one = Asker(self, self.folder)
+        one.end.send("".join(f"0 paste {name} 4\ntext" for name in names).encode())
         self.turn(4)
         plain, bracketed = b"text", b"\x1b[200~text\x1b[201~"
         told = (("", plain), ("modes 1 4 paste\n", bracketed), ("modes 1 4 sgr\n", plain),
@@ -174,15 +166,14 @@ class Panes(Host):
             self.host.panes[1].hear()
             self.turn()
             self.assertEqual(read_now(self.made[0]), b"a" + wanted + b"b", lines)
-        one.setblocking(False)
-        self.assertEqual(read_now(one).decode(),
+        self.assertEqual(unled(read_now(one)).decode(),
                          "".join(f"stored {name}\n" for name in names) + "".join(f"inserted {name}\n" for name in names))
 
     def test_answered(self):
         """What a pane's program asks is answered there, before what the server hands out behind it; a colour once a terminal has told it,
         and never what is asked of another making."""
         panes = self.begin()
-        self.host.common.registry.colours.take("colour foreground ffff/ffff/ffff")
+        self.host.common.socket.colours.take("colour foreground ffff/ffff/ffff")
         told = (("query 1 4 foreground bell\nquery 1 4 background\nquery 1 4 pastes set\n",
                  b"\x1b]10;rgb:ffff/ffff/ffff\x07\x1b[?2004;1$y"),
                 ("query 1 3 version\nquery 9 4 version\nquery 1 4\nquery 1 4 name\n", b""), ("query 1 4 frames\n", b"\x1b[?2026;0$y"))
@@ -230,10 +221,7 @@ class Panes(Host):
         self.begin()
         ends = []
         for line in (b"commands\n", f"here {PERSON}\n".encode()):
-            ends.append(socket.socket(socket.AF_UNIX, socket.SOCK_STREAM))
-            self.addCleanup(ends[-1].close)
-            ends[-1].connect(str(self.folder / "host"))
-            ends[-1].setblocking(False)
+            ends.append(Asker(self, self.folder))
             ends[-1].send(line)
         self.turn()
         read_now(ends[0])
@@ -242,14 +230,14 @@ class Panes(Host):
         self.host.tell("pane 3 isn't sh\u00f6wn\x1b[2J" + "x" * 300)
         self.host.common.tell("of all windows")
         self.turn()
-        self.assertEqual((read_now(ends[0]), read_now(ends[1])), (
+        self.assertEqual((unled(read_now(ends[0])), unled(read_now(ends[1]))), (
             b"", b"keypad 2 application\nsay pane 3 isn't sh?wn?[2J" + b"x" * 178 + b"\nsay of all windows\n"))
-        self.host.socket.standing = "for who comes"
+        self.host.channel.standing = "for who comes"
         ends[0].send(f"here {PERSON}\nhere {PERSON}\n".encode())
         self.turn()
-        self.assertEqual(read_now(ends[0]), b"keypad 2 application\nsay for who comes\n")
+        self.assertEqual(unled(read_now(ends[0])), b"keypad 2 application\nsay for who comes\n")
         self.tell("2 gone")
-        self.assertEqual([read_now(end) for end in ends], [b"keypad 2 numeric\n"] * 2)
+        self.assertEqual([unled(read_now(end)) for end in ends], [b"keypad 2 numeric\n"] * 2)
 
     def test_limits(self):
         """A pane that takes nothing has 16,384 bytes wait, and then its program does; one that reads nothing 65,536."""
@@ -320,11 +308,11 @@ class Panes(Host):
         for _ in range(3):
             self.now += window.LOOKS
             self.turn(1)
-        self.assertEqual(self.said.getvalue().count("sockets of the session were removed and cannot be restored: somebody listens at "), 1)
+        self.assertEqual(self.said.getvalue().count("the session's socket was removed and cannot be restored: somebody listens at "), 1)
         other.close()
         self.now += window.LOOKS
         self.turn(1)
-        self.assertTrue(self.host.is_found())
+        self.assertTrue(self.host.common.socket.is_found())
         self.assertIn(window.MENDED, self.said.getvalue())
 
     def test_terminal_gone(self):
@@ -587,7 +575,7 @@ class Ended(Host):
             self.server = self.taken(self.listeners["panes"])
         self.assertEqual(says.call_count, 1)
         self.assertTrue(says.call_args[0][1].startswith("[no shell: the panes can't be followed: the server lets this go"))
-        self.assertTrue(self.host.socket.standing.startswith("the panes can't be followed: "))
+        self.assertTrue(self.host.channel.standing.startswith("the panes can't be followed: "))
 
 
 class Again(Host):
@@ -699,7 +687,7 @@ class Rows(Host):
         self.host.is_over = True
         self.fake.prints(b"screen 0 2 7\n out\n \n")
         self.assertEqual(self.host.common.run(), 0)
-        self.assertEqual(read_now(one), b"rows 1 4 0 1 5\n out\nlog 1 4 end\n")
+        self.assertEqual(read_now(one), b"0 rows 1 4 0 1 5\n out\n0 log 1 4 end\n")
 
     def test_last_blank(self):
         """Where a pane shows nothing he is told its end, although nothing comes behind the screen that tells so."""
@@ -710,7 +698,7 @@ class Rows(Host):
         self.host.is_over = True
         self.fake.prints(b"screen 0 2 4\n \n \n")
         self.assertEqual(self.host.common.run(), 0)
-        self.assertEqual(read_now(one), b"log 1 4 end\n")
+        self.assertEqual(read_now(one), b"0 log 1 4 end\n")
 
     def test_last_waits(self):
         """For what a filter doesn't tell then it isn't waited long."""
@@ -733,7 +721,7 @@ class Rows(Host):
         one = socket.socket(socket.AF_UNIX, socket.SOCK_STREAM)
         self.addCleanup(one.close)
         one.connect(str(self.folder / name))
-        one.send(text)
+        one.send(led_text(text, 0))
         self.turn()
         return one
 

@@ -1,8 +1,7 @@
 """What a front end asks of scrollback rows and buffers: its lines, what is told, cut anywhere, and what can't be an answer."""
 import socket
 
-from aids import Case, StillLoop
-from roam_live.protocol.host_client import HostClient
+from aids import Case, LinkedClient, StillLoop, without_numbers
 from roam_live.protocol.scrollback_client import MOST_ANSWER, MOST_LISTED, AnswerReader, BadAnswer, BufferNote, ScrollbackClient, Snapshot
 
 TOLD = (b"host 00\nrows 2 5 10 2 9 \nrows 2 5 10 2 9\n +ab\n+c\x1b\nothers 0\nsnapshot 2 5 0 7 1 3\n x\nbuffers 2\n4 5 a b\n3 1 \n"
@@ -13,6 +12,7 @@ class Asked(Case):
     """Questions, and what was told."""
 
     def setUp(self):
+        without_numbers(self)
         self.said, self.told, self.is_connected = [], [], True
         self.link = ScrollbackClient(self.ask)
 
@@ -110,8 +110,19 @@ class Asked(Case):
 class Read(Case):
     """What is told, however it is cut."""
 
+    def test_numbers(self):
+        """Each answer is about a window, or the session; a line that isn't led by such a number is no answer."""
+        data = b"12 rows 1 5 0 1 3\n a\n0 buffers 1\n9: x y\n3 others 0\n"
+        found = AnswerReader().fed(data)
+        self.assertEqual([(answer.window, answer.words[0], answer.data, answer.lines) for answer in found],
+                         [(12, "rows", b" a\n", []), (0, "buffers", b"", ["9: x y"]), (3, "others", b"", [])])
+        for line in (b"others 0\n", b"03 others 0\n", b"100 others 0\n", b"-1 others 0\n", b"\xd9\xa1 others 0\n", b"\n"):
+            with self.assertRaises(BadAnswer, msg=line):
+                AnswerReader().fed(line)
+
     def test_cut(self):
         """Each cut gives the same answers."""
+        without_numbers(self)
         def shown(answers):
             return [(answer.words, answer.data, answer.lines) for answer in answers]
 
@@ -131,8 +142,9 @@ class Linked(Case):
     """The same over a front end's connection to a host."""
 
     def setUp(self):
+        without_numbers(self)
         self.loop = StillLoop(lambda: self.now)
-        self.link = HostClient(None, self.loop, lambda: (24, 80), False, lambda: None)
+        self.link = LinkedClient(None, self.loop, lambda: (24, 80), False, lambda: None)
         ours, self.host = socket.socketpair()
         for end in (ours, self.host):
             end.setblocking(False)

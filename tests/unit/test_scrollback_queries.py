@@ -8,8 +8,8 @@ from roam_live.host import scrollback, socket_server
 from roam_live.host.paste_buffers import (EMPTY, MOST_BUFFER, MOST_BUFFERS, MOST_COMING, READ_ONLY, TOO_LONG, TOO_MUCH, UNKNOWN, Buffers,
                                           sample)
 from roam_live.host.scrollback import SCREEN_WAIT, Scrollback
-from roam_live.host.socket_server import MOST_WAITING, UNREAD, HostRegistry, HostServer
-from test_socket_server import NAMED, Sockets
+from roam_live.host.socket_server import MOST_WAITING, UNREAD
+from test_socket_server import Sockets
 
 NAME = "00112233445566aa"
 
@@ -24,9 +24,7 @@ class Rows(Sockets):
         with mock.patch.object(scrollback, "program", lambda: "/roam"):
             self.scrollback = Scrollback(self.loop, self.fail, 100)
         self.addCleanup(self.scrollback.close)
-        self.socket = HostServer(self.folder, self.loop, lambda: None, HostRegistry(self.loop, self.scrollback))
-        self.socket.common.name = NAMED
-        self.addCleanup(self.socket.close)
+        self.serve(self.scrollback)
         self.scrollback.begin(1, 5, (23, 80))
         self.scrollback.feed(1, b"a")
         self.prints(b"rows 0 3 15\n Alpha\n+be\n ta\n")
@@ -186,7 +184,7 @@ class Asked(Rows):
         one.setsockopt(socket.SOL_SOCKET, socket.SO_RCVBUF, 4096)
         rows, printed, found = b"".join(b" %04d\n" % number for number in range(100)), 0, b""
         for _ in range(2000):
-            if self.socket.common.has_full_log():
+            if self.socket.has_full_log():
                 break
             self.prints(b"rows 0 100 600\n" + rows)
             printed += 1
@@ -198,7 +196,7 @@ class Asked(Rows):
             self.loop.turns()
         self.assertTrue(self.scrollback.reads())
         self.assertEqual(found.count(rows), printed + 1)
-        while not self.socket.common.has_full_log():
+        while not self.socket.has_full_log():
             self.prints(b"rows 0 100 600\n" + rows)
         self.now += socket_server.LOG_WAIT
         self.loop.turns(2)

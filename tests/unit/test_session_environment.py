@@ -8,10 +8,11 @@ import types
 import unittest
 from unittest import mock
 
-from aids import Case, StillLoop, read_now
+from aids import Case, StillLoop, led_text, read_now, unled
 from roam_live.common.errors import Fault
 from roam_live.host.pane import Options, surroundings
-from roam_live.host.socket_server import HostServer
+from roam_live.host.socket_server import HostSocket
+from roam_live.host.window_channel import WindowChannel
 from roam_live.session import environment
 from roam_live.session.environment import (ENVIRONMENT, LONGEST_VALUE, PaneEnvironment, agent_in, asked_values, begin_agent,
                                            environment_lines, renew_agent, send_environment, shell_lines)
@@ -158,7 +159,9 @@ class Brings(Case):
 
     def host(self):
         """A host's socket there."""
-        one = HostServer(self.folder, self.loop)
+        one = HostSocket(self.loop)
+        WindowChannel(one)
+        one.listen(self.folder)
         self.addCleanup(one.close)
         return one
 
@@ -193,10 +196,10 @@ class Brings(Case):
         send_environment(self.session)
         self.assertTrue(self.has_link())
         host = self.host()
-        host.common.pane_environment.values = dict.fromkeys(environment.NAMES, "old")
+        host.pane_environment.values = dict.fromkeys(environment.NAMES, "old")
         send_environment(self.session)
         self.loop.turns(4)
-        self.assertEqual((host.common.pane_environment.set_values(), host.peers), ({"DISPLAY": ":7"}, []))
+        self.assertEqual((host.pane_environment.set_values(), host.peers), ({"DISPLAY": ":7"}, []))
 
     def told(self, *host_lines):
         """What a shell is told where a host says this to who connects."""
@@ -248,10 +251,10 @@ class Brings(Case):
                               f"{ENVIRONMENT} DISPLAY 3a37\n{ENVIRONMENT} WAYLAND_DISPLAY none\n{ENVIRONMENT} SSH_CONNECTION none\n"),
                              ("environment WAYLAND_DISPLAY 3a38\n", ""), ("here a 24 80 read-write\nenvironment DISPLAY none\n", ""),
                              ("here a 24 80 read-only\nenvironment DISPLAY 3a39\n", "bad line\n"), ("environment PATH 3a\n", "bad line\n")):
-            one.send(text.encode())
+            one.send(led_text(text.encode(), 0))
             self.loop.turns(3)
-            self.assertEqual(read_now(one).decode(), answer, text)
-        self.assertEqual(host.common.pane_environment.set_values(), {"WAYLAND_DISPLAY": ":8"})
+            self.assertEqual(unled(read_now(one)).decode(), answer, text)
+        self.assertEqual(host.pane_environment.set_values(), {"WAYLAND_DISPLAY": ":8"})
 
     def test_pane(self):
         """A new pane has what was brought, in place of what the host's own environment has."""

@@ -102,7 +102,7 @@ class Listed(Sessions):
     def test_followed(self):
         """While a front end is there that reads how it ended, that stays; then all goes."""
         (self.folder / "ended").touch()
-        with locked_session(self.folder), locked_session(self.folder):
+        with mock.patch("roam_live.common.errors.logs", []), locked_session(self.folder), locked_session(self.folder):
             lookup.sweep()
             self.assertEqual(self.names(), ["ended", "front_ends", "lock", "log"])
         lookup.sweep()

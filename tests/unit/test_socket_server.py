@@ -5,11 +5,12 @@ import time
 import unittest
 from unittest import mock
 
-from aids import Case, StillLoop, read_now
+from aids import Case, LinkedClient, StillLoop, read_now, without_numbers
 from roam_live.host import foreground_watch
-from roam_live.host.socket_server import LONGEST_LINE, MOST_PEERS, MOST_WAITING, RECONNECTS, HostServer
+from roam_live.host.socket_server import LONGEST_LINE, MOST_PEERS, MOST_WAITING, RECONNECTS, HostSocket
+from roam_live.host.window_channel import WindowChannel
 from roam_live.protocol import presence
-from roam_live.protocol.host_client import KNOWS, HostClient
+from roam_live.protocol.host_client import KNOWS
 from roam_live.protocol.panes_client import PAUSES
 from roam_live.protocol.presence import MOST_OTHERS, OtherTerminals, Presence, presence_said, terminal_name
 from roam_live.protocol.zoom_record import OVER, ZoomNote
@@ -26,8 +27,15 @@ class Sockets(Case):
     def setUp(self):
         self.folder = self.made_folder()
         self.loop = StillLoop(lambda: self.now)
-        self.socket = HostServer(self.folder, self.loop)
-        self.socket.common.name = NAMED
+        without_numbers(self)
+        self.serve()
+
+    def serve(self, rows=None, name=NAMED):
+        """Has a host listen in the folder, of one window."""
+        self.socket = HostSocket(self.loop, rows)
+        self.channel = WindowChannel(self.socket)
+        self.socket.listen(self.folder)
+        self.socket.name = name
         self.addCleanup(self.socket.close)
 
     def connect(self, text=b""):
@@ -110,7 +118,7 @@ class Commands(Sockets):
     def setUp(self):
         super().setUp()
         self.asked = []
-        self.socket.asked_commands = lambda: self.asked.append(self.socket.has_asked_commands())
+        self.channel.asked_commands = lambda: self.asked.append(self.channel.has_asked_commands())
 
     def test_told(self):
         """Who asks is told, each name of a making once; others aren't."""
@@ -118,23 +126,23 @@ class Commands(Sockets):
         read_now(other)
         self.assertEqual((self.asked, read_now(first)), ([True], b""))
         for told in ((1, 4, "sh"), (2, 9, "vi"), (1, 4, "sh"), (1, 4, "less a"), (1, 5, "less a")):
-            self.socket.tell_command(*told)
+            self.channel.tell_command(*told)
         self.loop.turn()
         self.assertEqual(read_now(first), b"command 1 4 sh\ncommand 2 9 vi\ncommand 1 4 less a\ncommand 1 5 less a\n")
         late = self.connect(b"commands\n")
-        self.socket.tell_command(1, 5, "less a")
+        self.channel.tell_command(1, 5, "less a")
         self.loop.turns(2)
         self.assertEqual((read_now(late), read_now(first), read_now(other), len(self.asked)), (b"command 1 5 less a\n", b"", b"", 2))
 
     def test_wanted(self):
         """It isn't wanted where nobody asked, nor once those have left."""
         one = self.connect(b"who\n")
-        self.assertFalse(self.socket.has_asked_commands())
+        self.assertFalse(self.channel.has_asked_commands())
         self.say(one, b"commands\n")
-        self.assertTrue(self.socket.has_asked_commands())
+        self.assertTrue(self.channel.has_asked_commands())
         one.close()
         self.loop.turns(2)
-        self.assertFalse(self.socket.has_asked_commands())
+        self.assertFalse(self.channel.has_asked_commands())
 
 
 class Fronts(Case):
@@ -198,7 +206,7 @@ class Replaced(Sockets):
 
     def test_reconnect(self):
         """Nobody is told who else is there before the terminals had time to come again; all is told then."""
-        self.socket.common.await_terminals()
+        self.socket.await_terminals()
         one = self.connect(f"here {A}\nwho\n".encode())
         self.assertEqual(read_now(one), f"host {NAMED}\n".encode())
         self.now += RECONNECTS - 0.01
@@ -216,10 +224,10 @@ class Bounds(Sockets):
 
     def test_numbers(self):
         """As docs/LIVE.md has them."""
-        self.assertEqual((MOST_PEERS, LONGEST_LINE, MOST_WAITING), (64, 256, 65536))
+        self.assertEqual((MOST_PEERS, LONGEST_LINE, MOST_WAITING), (256, 256, 65536))
 
     def test_most(self):
-        """64 are connected; one more waits, which costs nobody anything, until another has left."""
+        """256 are connected; one more waits, which costs nobody anything, until another has left."""
         there = [self.connect(f"here {A}\n".encode()) for _ in range(MOST_PEERS)]
         late = self.connect(b"who\n")
         found = self.loop.found
@@ -227,7 +235,7 @@ class Bounds(Sockets):
         self.assertEqual((read_now(late), len(self.socket.peers), self.loop.found), (b"", MOST_PEERS, found))
         there[0].close()
         self.loop.turns(4)
-        self.assertTrue(read_now(late).endswith(b"others 63\n"))
+        self.assertTrue(read_now(late).endswith(b"others 255\n"))
 
     def test_unread(self):
         """Who never reads is let go once 65,536 bytes wait, and the others are told all the same."""
@@ -273,8 +281,9 @@ class Bounds(Sockets):
     def test_taken(self):
         """Where another listens there it is left to it, which is told, and nobody is known to be there."""
         said = self.heard()
-        other = HostServer(self.folder, StillLoop())
-        self.assertIn("who is at the session isn't told: somebody listens at ", said.getvalue())
+        other = HostSocket(StillLoop())
+        other.listen(self.folder)
+        self.assertIn("nobody can connect to this pty host: somebody listens at ", said.getvalue())
         other.loop.turns(2)
         other.close()
         self.assertTrue((self.folder / "host").exists())
@@ -286,8 +295,8 @@ class Links(Sockets):
     def link(self, is_read_only=False, folder=None, size=(24, 80)):
         """One of a terminal."""
         sizes = [size]
-        one = HostClient(folder or self.folder, StillLoop(lambda: self.now), lambda: sizes[-1], is_read_only,
-                         lambda: self.known.append(one))
+        one = LinkedClient(folder or self.folder, StillLoop(lambda: self.now), lambda: sizes[-1], is_read_only,
+                           lambda: self.known.append(one))
         one.sizes = sizes
         self.addCleanup(one.leave)
         return one
@@ -336,8 +345,7 @@ class Links(Sockets):
         self.socket.close()
         self.turn(one, other)
         self.assertEqual((one.has_others(), one.is_awaited(), one.peer), (None, True, None))
-        self.socket = HostServer(self.folder, self.loop)
-        self.addCleanup(self.socket.close)
+        self.serve(name="another")
         self.now += PAUSES[0]
         self.turn(one, other)
         self.assertEqual((one.has_others(), other.has_others()), (True, True))
@@ -373,21 +381,21 @@ class Links(Sockets):
         for size, told in (((24, 80), b"zoomed none\nothers 0\n"), ((48, 160), b""), (None, b"")):
             one, other = self.connect(f"here {A}\n".encode()), self.connect(f"here {B}\nwho\n".encode())
             self.say(one, b"zoom 24 80 48 160\n")
-            self.socket.sized(size)
+            self.channel.sized(size)
             one.close()
             self.loop.turns(3)
             self.assertIn(b"zoomed 0 24 80 48 160\nothers 0\n", read_now(other))
-            self.socket.sized((24, 90))
-            self.socket.sized(size)
+            self.channel.sized((24, 90))
+            self.channel.sized(size)
             self.loop.turns(3)
             self.assertEqual(read_now(other), b"")
             self.now += OVER
             self.loop.turns(3)
             self.assertEqual(read_now(other), told, size)
-            self.socket.sized((48, 160))
-            self.socket.sized((24, 80))
+            self.channel.sized((48, 160))
+            self.channel.sized((24, 80))
             self.loop.turns(3)
-            self.assertEqual((read_now(other), self.socket.zoom.note), (b"" if told else b"zoomed none\nothers 0\n", None))
+            self.assertEqual((read_now(other), self.channel.zoom.note), (b"" if told else b"zoomed none\nothers 0\n", None))
             other.close()
             self.loop.turns(3)
         one = self.connect(f"here {A}\nzoom 24 80 48 160\n".encode())
@@ -401,20 +409,21 @@ class Links(Sockets):
         """Who watches makes none, and neither do lines that tell of none."""
         for text in (f"here {B}\nzoom 24 80 48 160\n", "zoom\n", "zoom 24 80\n", "zoom 24 80 48 999\n", "zoom 24 80 \x1b[c 160\n"):
             one = self.connect(text.encode())
-            self.assertEqual((read_now(one), self.socket.zoom.note), (b"bad line\n", None), text)
+            self.assertEqual((read_now(one), self.channel.zoom.note), (b"bad line\n", None), text)
         link = self.link()
-        link.take(["zoomed 0 24 80 48 160", "zoomed 1 \x1b[c 80 48 160", "zoomed", "zoomed none none", "zoomed -1 24 80 48 160"])
+        for line in ("zoomed 0 24 80 48 160", "zoomed 1 \x1b[c 80 48 160", "zoomed", "zoomed none none", "zoomed -1 24 80 48 160"):
+            link.take(line)
         self.assertEqual(link.zoomed, (0, ZoomNote((24, 80), ((48, 160),))))
 
     def test_environment_sent(self):
         """What a terminal brings is brought once to each host, and not again where a connection to the same one comes again."""
         one = self.link()
-        one.environment = ["environment DISPLAY 3a37", "environment SSH_CONNECTION none"]
+        one.link.environment = ["environment DISPLAY 3a37", "environment SSH_CONNECTION none"]
         self.turn(one)
-        values = self.socket.common.pane_environment.values
+        values = self.socket.pane_environment.values
         self.assertEqual((values["DISPLAY"], values["SSH_CONNECTION"]), (":7", ""))
         for name, wanted in ((NAMED, "later"), ("another", ":7")):
-            self.socket.common.name, values["DISPLAY"] = name, "later"
+            self.socket.name, values["DISPLAY"] = name, "later"
             one.lost("ended")
             self.now += PAUSES[-1]
             self.turn(one)
@@ -430,20 +439,20 @@ class Links(Sockets):
             one.tell_colour(text)
         self.assertEqual(one.waiting, b"colour background 1e1e/1e1e/2e2e\n")
         self.turn(one, watcher)
-        self.assertEqual(self.socket.common.colours.known, {"foreground": "ffff/ffff/ffff", "background": "1e1e/1e1e/2e2e"})
-        self.socket.common.name, self.socket.common.colours.known = "another", {}
+        self.assertEqual(self.socket.colours.known, {"foreground": "ffff/ffff/ffff", "background": "1e1e/1e1e/2e2e"})
+        self.socket.name, self.socket.colours.known = "another", {}
         one.lost("ended")
         self.now += PAUSES[-1]
         self.turn(one)
-        self.assertEqual(len(self.socket.common.colours.known), 2)
+        self.assertEqual(len(self.socket.colours.known), 2)
         one.lost("ended")
         one.tell_colour("\x1b]10;rgb:0/0/0\x07")
         self.now += PAUSES[-1]
         self.turn(one)
-        self.assertEqual(self.socket.common.colours.known["foreground"], "0000/0000/0000")
-        self.socket.common.colours.known["foreground"] = "ffff/ffff/ffff"
+        self.assertEqual(self.socket.colours.known["foreground"], "0000/0000/0000")
+        self.socket.colours.known["foreground"] = "ffff/ffff/ffff"
         rude = self.connect(f"here {B}\ncolour foreground 0000/0000/0000\n".encode())
-        self.assertEqual((read_now(rude), self.socket.common.colours.known["foreground"]), (b"bad line\n", "ffff/ffff/ffff"))
+        self.assertEqual((read_now(rude), self.socket.colours.known["foreground"]), (b"bad line\n", "ffff/ffff/ffff"))
 
     def test_none(self):
         """Where nobody knows the socket, or tells nothing, nothing is known, and that isn't awaited for long; no folder has none."""
@@ -461,7 +470,7 @@ class Links(Sockets):
         self.now += KNOWS
         self.assertEqual((one.has_others(), one.is_awaited()), (None, False))
         self.assertTrue(listener)
-        nowhere = HostClient(None, StillLoop(), lambda: (24, 80), False, list)
+        nowhere = LinkedClient(None, StillLoop(), lambda: (24, 80), False, list)
         self.assertEqual((nowhere.loop.due, nowhere.is_connecting(), nowhere.is_awaited()), ({}, False, False))
 
     def test_ended_at_once(self):

@@ -39,8 +39,8 @@ class AtHost(Sockets):
 
     def setUp(self):
         super().setUp()
-        self.socket.handed.rect_of = lambda pane, generation: FIRST if (pane, generation) == (1, 7) else None
-        self.socket.handed.folder_beside = lambda pane: str(self.folder)
+        self.channel.handed.rect_of = lambda pane, generation: FIRST if (pane, generation) == (1, 7) else None
+        self.channel.handed.folder_beside = lambda pane: str(self.folder)
 
     def hand(self, beside, begins, name=NAME, one=None):
         """Hands one over, and tells who did and what he is told."""
@@ -59,20 +59,20 @@ class AtHost(Sockets):
             self.assertEqual(told, f"run {NAME} refused the folder isn't there\n")
             os.makedirs(self.folder / "src", exist_ok=True)
             self.assertEqual(self.hand("1 7", Begins(["htop"], "src"), one=one)[1], f"run {NAME} ready\n")
-            self.assertIsNone(self.socket.handed.for_pane(ELSEWHERE))
-            self.assertEqual(self.socket.handed.for_pane(rect), Begins(["htop"], str(self.folder / "src")))
+            self.assertIsNone(self.channel.handed.for_pane(ELSEWHERE))
+            self.assertEqual(self.channel.handed.for_pane(rect), Begins(["htop"], str(self.folder / "src")))
             self.loop.turns(2)
             self.assertEqual(read_now(one).decode(), f"run {NAME} done\n")
-            self.assertIsNone(self.socket.handed.for_pane(rect))
+            self.assertIsNone(self.channel.handed.for_pane(rect))
             os.rmdir(self.folder / "src")
 
     def test_scroll_paint(self):
         """So has one along a side that the pane has got since, as where a zoom ended."""
         self.hand("1 7", Begins(["htop"]))
         beside = Rect(1, 101, 40, 50)
-        self.assertIsNone(self.socket.handed.for_pane(beside))
-        self.socket.handed.moved(1, Rect(1, 50, 40, 50))
-        self.assertTrue(self.socket.handed.for_pane(beside))
+        self.assertIsNone(self.channel.handed.for_pane(beside))
+        self.channel.handed.moved(1, Rect(1, 50, 40, 50))
+        self.assertTrue(self.channel.handed.for_pane(beside))
 
     def test_late(self):
         """Where none comes in two seconds that is told, and a later one hasn't it."""
@@ -80,17 +80,17 @@ class AtHost(Sockets):
         self.now += 2.1
         self.loop.turns(3)
         self.assertEqual(read_now(one).decode(), f"run {NAME} late\n")
-        self.assertIsNone(self.socket.handed.for_pane(RIGHT))
+        self.assertIsNone(self.channel.handed.for_pane(RIGHT))
 
     def test_window(self):
         """One for a window is that of its name, and of no pane."""
         one, told = self.hand("window", Begins(["htop"], "", "logs"))
         self.assertEqual(told, f"run {NAME} ready\n")
-        self.assertIsNone(self.socket.handed.for_pane(RIGHT))
-        self.assertIsNone(self.socket.handed.for_window(OTHER))
-        self.assertEqual(self.socket.handed.for_window(NAME), Begins(["htop"], "", "logs"))
+        self.assertIsNone(self.channel.handed.for_pane(RIGHT))
+        self.assertIsNone(self.channel.handed.for_window(OTHER))
+        self.assertEqual(self.channel.handed.for_window(NAME), Begins(["htop"], "", "logs"))
         self.hand("1 7", Begins(["htop"]), one=one)
-        self.assertIsNone(self.socket.handed.for_window(NAME))
+        self.assertIsNone(self.channel.handed.for_window(NAME))
 
     def test_refused(self):
         """A pane that isn't there, too many, too long ones, and those of who only watches; one who has left has none any more."""
@@ -111,7 +111,7 @@ class AtHost(Sockets):
         self.assertEqual(told, f"run {7:016x} refused 8 commands wait for their panes\n")
         one.close()
         self.loop.turns(3)
-        self.assertFalse(self.socket.handed.waiting)
+        self.assertFalse(self.channel.handed.waiting)
 
 
 class AtFrontEnd(Case):

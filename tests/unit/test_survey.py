@@ -49,17 +49,17 @@ class Surveys(Case):
 
     def test_answers(self):
         """Each is asked at its own sockets, in any chunks; a session without a host is known by its panes."""
-        one = self.serve("one", [LINES[:20], LINES[20:]], [b"client 3 a:/b 24 80 1 5 read-write\ncli", b"ents 1\n"])
+        one = self.serve("one", [LINES[:20], LINES[20:]], [b"0 client 3 a:/b 24 80 1 5 read-write\n0 cli", b"ents 1\n"])
         two = self.serve("two", [LINES], None)
         found = Survey([one, two], [one, two], 5)
         self.assertEqual((found.places(one).focus, found.terminals(one), found.terminals(two)), (1, 1, None))
-        self.assertEqual((found.places(two).size(), self.asked), ((24, 80), {"one/host": b"clients\n"}))
+        self.assertEqual((found.places(two).size(), self.asked), ((24, 80), {"one/host": b"0 clients\n"}))
         self.assertEqual((found.places(self.base / "three"), found.terminals(self.base / "three")), (None, None))
 
     def test_silent(self):
         """Those that don't answer take so many seconds in all, however many they are; what others answered is known."""
-        silent = [self.serve(f"silent{number}", [b""], [b"clients\n"]) for number in range(4)]
-        good = self.serve("good", [LINES], [b"clients 7\n"])
+        silent = [self.serve(f"silent{number}", [b""], [b"0 clients\n"]) for number in range(4)]
+        good = self.serve("good", [LINES], [b"0 clients 7\n"])
         none = self.serve("none", [LINES[:9]])
         before = time.monotonic()
         found = Survey([*silent, good, none], [*silent, good], 0.05)
@@ -70,7 +70,8 @@ class Surveys(Case):
 
     def test_hostile(self):
         """What can't be an answer is none, and one who ends at once isn't waited for."""
-        odd = self.serve("odd", None, [b"clients 99999\nclients x\nclients -1\nclients 1 2\n\xff\n" + b"9" * 70000 + b"\nclients 2\n"])
+        odd = self.serve("odd", None, [
+            b"0 clients 99999\n0 clients x\n1 clients 1\nclients 1\n0 clients 1 2\n\xff\n" + b"9" * 70000 + b"\n0 clients 2\n"])
         self.assertEqual(Survey([], [odd], 5).terminals(odd), 2)
         ended = self.base / "ended"
         ended.mkdir()

@@ -187,7 +187,9 @@ class Given(Sockets):
     def setUp(self):
         super().setUp()
         self.stop_clock()
-        self.session = mock.Mock(folder=self.folder, places=lambda: PLACES)
+        self.session = mock.Mock(folder=self.folder, common=self.folder, number=0, places=lambda: PLACES)
+        self.patch_of(paste, "led", lambda number, line: line)
+        self.patch_of(paste, "parted", lambda line: (0, line))
         self.session.name = "main"
         self.patch_of(paste, "opened")
         self.typed, self.texts, self.wants = [], [], True

@@ -91,7 +91,8 @@ class Found(Sessions):
         folder = self.noted("main", 7, server=[server.pid, begun(server.pid)])
         while not is_spare_server(server.pid):
             time.sleep(0.01)
-        for mark, numbers in (("spare", [2]), (None, [2]), ("host", [2, 7]), ("terminals", [2, 7])):
+        for mark, numbers in (("spare", [2]), (None, [2]), ("joined", [2, 7]), ("terminals", [2, 7])):
+            self.noted("main", 7, server=[server.pid, begun(server.pid)], **({"joined": True} if mark == "joined" else {}))
             if mark:
                 (folder / mark).touch()
             self.assertEqual([window.number for window in session.windows()], numbers, mark)
@@ -297,7 +298,7 @@ class Launched(Sessions):
             self.noted("main", host=[1, 1], command=["vi"])
             session.read()
         self.assertEqual([(role, test()) for role, test in self.waits], [("host", False)] * 2)
-        self.listening(self.base / "main/w/7/host")
+        self.listening(self.base / "main/host")
         self.assertTrue(self.waits[0][1]())
         self.new.own = {"host": mock.Mock()}
         for ended, is_over in ((None, False), (1, False), (0, True)):
@@ -318,12 +319,12 @@ class Launched(Sessions):
         self.assertEqual((session.revive_host(), self.spawned), (False, []))
 
     def test_answers(self):
-        """Where its note is lost it is known by who answers at the socket of a window."""
+        """Where its note is lost it is known by who answers at its socket."""
         session = self.session()
         self.noted("main")
         session.read()
         self.patch_of(windowed, "command_of", return_value=["vi"])
-        self.listening(self.base / "main/w/7/host")
+        self.listening(self.base / "main/host")
         self.assertTrue(session.find() and session.is_found)
         self.assertEqual(session.state, {"version": WINDOWS_VERSION, "command": ["vi"], "host": self.own})
 
@@ -416,7 +417,9 @@ class Asked(Sessions):
     def setUp(self):
         super().setUp()
         self.window = self.session().window(2)
-        self.listener = self.listening(self.window.folder / "host")
+        self.listener = self.listening(self.window.common / "host")
+        self.patch_of(cli_windows, "led", lambda number, line: line)
+        self.patch_of(cli_windows, "parted", lambda line: (0, line))
         self.patch_of(cli_windows, "comes", self.comes)
         self.answers = []
         self.host = None

@@ -1,6 +1,7 @@
 """What a front end is told of windows, whatever a host, also one of another machine, says."""
 from aids import Case, StillLoop, read_now
-from roam_live.frontend.windows_client import WindowsLink, WindowsState
+from roam_live.frontend.windows_client import WindowsState
+from roam_live.protocol.host_client import HostClient, HostLink
 
 LIST = ("window 1 -", "window 2 68c3a920", "window 10 1b5b324a0a", "windows 3")
 
@@ -58,23 +59,50 @@ class Linked(Case):
     """The connection."""
 
     def test_asks(self):
-        """It says the word at each connection; one who doesn't know it isn't asked again."""
+        """It asks for the windows at each connection, and hands on what is told of the session together."""
         folder, loop, heard, begun, lost = self.made_folder(), StillLoop(lambda: self.now), [], [], []
-        path = str(folder / "host")
-        listener = self.listening(path)
-        link = WindowsLink(lambda: path, loop, heard.extend, lambda: begun.append(1), lambda: lost.append(1))
-        link.connect()
+        listener = self.listening(folder / "host")
+        link = HostLink(folder, loop, lambda: (24, 80), False)
+        link.go(HostClient(link, 3, lambda: None))
+        link.follow_windows(heard.append, lambda: begun.append(1), lambda: lost.append(1))
         peer = self.taken(listener)
         loop.turns(2)
-        self.assertEqual(read_now(peer), b"windows\n")
-        peer.send(b"window 1 -\nwindows 1\n")
+        here = f"3 here {link.name} 24 80 read-write\n3 who\n"
+        self.assertEqual(read_now(peer).decode(), f"{here}0 windows\n")
+        peer.send(b"0 window 1 -\n3 others 0\n0 windows 1\n4 others 0\n")
         loop.turns(2)
+        self.assertEqual((link.here.has_others(), heard), (False, [["window 1 -", "windows 1"]]))
         peer.close()
         loop.turns(2)
-        self.assertEqual((heard, len(begun), len(lost)), (["window 1 -", "windows 1"], 1, 1))
+        self.assertEqual((link.here.has_others(), len(begun), len(lost)), (None, 1, 1))
         self.now += 0.2
         loop.turns(2)
         peer = self.taken(listener)
-        peer.send(b"bad line\n")
         loop.turns(2)
-        self.assertEqual((link.is_refused, link.peer, len(begun), [name for name in loop.due if name == link.again]), (True, None, 2, []))
+        self.assertEqual((read_now(peer).decode(), len(begun)), (f"{here}0 windows\n", 2))
+        link.end()
+
+    def test_goes(self):
+        """Who goes to another window is there, and knows nothing of the others at the one before; its zoom is told of still."""
+        folder, loop = self.made_folder(), StillLoop(lambda: self.now)
+        listener = self.listening(folder / "host")
+        link = HostLink(folder, loop, lambda: (24, 80), False)
+        first, second = (HostClient(link, number, lambda: None) for number in (1, 2))
+        link.go(first)
+        peer = self.taken(listener)
+        peer.send(b"0 host 00\n1 others 0\n1 keypad 2 application\n1 zoomed 0 24 80 48 160\n")
+        loop.turns(2)
+        read_now(peer)
+        self.assertEqual((first.has_others(), first.keypads, first.zoomed[0]), (False, {2}, 0))
+        link.go(second)
+        first.say_here()
+        first.note_zoom(None)
+        loop.turns(2)
+        self.assertEqual(read_now(peer).decode(), f"2 here {link.name} 24 80 read-write\n2 who\n1 zoom none\n")
+        self.assertEqual((first.has_others(), first.keypads, second.is_awaited(), link.clients), (None, set(), True, {1: first, 2: second}))
+        peer.send(b"1 others 0\n2 others 0\n2 keypad 3 application\nnone\n")
+        loop.turns(2)
+        self.assertEqual((link.peer, second.has_others()), (None, None))
+        first.end()
+        self.assertEqual(link.clients, {2: second})
+        link.end()

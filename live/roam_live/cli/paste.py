@@ -14,6 +14,7 @@ from roam_live.common.text import printable
 from roam_live.common.unix_socket import connected_in
 from roam_live.input.keys import pasted_acts
 from roam_live.protocol.host_client import INSERTED, REFUSED, STORED
+from roam_live.protocol.host_lines import SESSION, led, parted
 from roam_live.protocol.paste_text import MOST_BYTES, cleaned, placeholder_acts, random_name, without_brackets
 from roam_live.protocol.scrollback_client import BAD_LINE
 
@@ -31,7 +32,7 @@ class PasteClient:
 
     def __init__(self, session: FolderSession) -> None:
         self.session = session
-        self.peer = connected_in(session.folder / "host", CONNECTS)
+        self.peer = connected_in(session.common / "host", CONNECTS)
         self.lines = Lines()
         self.waiting = bytearray()
         self.name = random_name()
@@ -52,7 +53,7 @@ class PasteClient:
             chunk = read(self.fileno()) if events & READ else None
             if chunk == b"":
                 return False
-            for line in self.lines.fed(chunk or b""):
+            for line in (parted(one)[1] for one in self.lines.fed(chunk or b"")):
                 if line == BAD_LINE:
                     return False
                 told, _, rest = line.partition(" ")
@@ -65,12 +66,13 @@ class PasteClient:
 
     def is_buffer_stored(self, number: int) -> bool:
         """Gives a buffer of the host's, and tells whether it holds that as a text."""
-        self.waiting += f"paste {self.name} buffer {number}\n".encode()
+        self.waiting += f"{led(SESSION, f'paste {self.name} buffer {number}')}\n".encode()
         return self.answer(STORED)
 
     def is_stored(self, data: bytes, is_plain: bool) -> bool:
         """Gives a text, and tells whether the host holds it; False where none is there that takes any."""
-        self.waiting += f"paste {self.name} {len(data)}{' plain' if is_plain else ''}\n".encode() + data
+        line = f"paste {self.name} {len(data)}{' plain' if is_plain else ''}"
+        self.waiting += f"{led(SESSION, line)}\n".encode() + data
         return self.answer(STORED)
 
 

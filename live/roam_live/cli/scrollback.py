@@ -15,6 +15,7 @@ from roam_live.common.io import read, write
 from roam_live.common.text import printable
 from roam_live.common.unix_socket import connected_in
 from roam_live.host.paste_buffers import EMPTY, MOST_BUFFER, TOO_LONG
+from roam_live.protocol.host_lines import led
 from roam_live.protocol.scrollback_client import (LOG, MOST_ROWS, Answer, AnswerReader, BadAnswer, BufferNote, ScrollbackClient, Snapshot,
                                                   number_at, rows_in)
 
@@ -45,7 +46,7 @@ class RowsAsked:
     def __init__(self, session: FolderSession) -> None:
         self.session = session
         try:
-            self.peer = connected_in(session.folder / "host", CONNECTS)
+            self.peer = connected_in(session.common / "host", CONNECTS)
         except OSError as fault:
             raise Fault(f"session {session.name}: its pty host is not running") from fault
         self.reader, self.link = AnswerReader(), ScrollbackClient(self.take)
@@ -57,7 +58,7 @@ class RowsAsked:
 
     def take(self, line: str, data: bytes) -> bool:
         """Has a question wait for the host."""
-        self.waiting += f"{line}\n".encode() + data
+        self.waiting += f"{led(self.session.number, line)}\n".encode() + data
         return True
 
     def heard(self, seconds: float | None) -> list[Answer] | None:

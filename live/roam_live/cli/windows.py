@@ -9,6 +9,7 @@ from roam_live.common.event_loop import comes
 from roam_live.common.io import Lines, read
 from roam_live.common.text import printable
 from roam_live.common.unix_socket import connected_in
+from roam_live.protocol.host_lines import led, parted
 from roam_live.protocol.paste_text import random_name
 from roam_live.protocol.presence import CLIENT, CLIENTS, MOST_ATTENDED, number_in, presence_in
 from roam_live.protocol.spawn_request import RAN, READY
@@ -46,14 +47,14 @@ class WindowsAsked:
         self.session, self.lines = session, Lines()
         self.told: list[str] = []
         try:
-            self.peer: socket.socket = connected_in(session.folder / "host", CONNECTS)
+            self.peer: socket.socket = connected_in(session.common / "host", CONNECTS)
         except OSError as fault:
             raise Fault(f"session {session.name}: its pty host is not running: {reason(fault)}") from fault
 
     def say(self, line: str, data: bytes = b"") -> None:
         """Says a line, and bytes behind it."""
         try:
-            self.peer.sendall(f"{line}\n".encode() + data)
+            self.peer.sendall(f"{led(self.session.number, line)}\n".encode() + data)
         except OSError as fault:
             raise Fault(f"session {self.session.name}: the pty host has ended") from fault
 
@@ -73,7 +74,7 @@ class WindowsAsked:
             chunk = read(self.peer.fileno())
             if chunk == b"":
                 raise Fault(f"session {self.session.name}: the pty host has ended")
-            self.told += self.lines.fed(chunk or b"")
+            self.told += [parted(line)[1] for line in self.lines.fed(chunk or b"")]
 
     def hand(self, beside: str, begins: Begins) -> str:
         """Hands over what a new pane or window begins with, beside that making of a pane or as a window, and tells its name; Fault where it

@@ -23,7 +23,7 @@ from roam_live.frontend.status_segments import StatusRow
 from roam_live.frontend.window_view import DrainingViews, WindowView, opened_server
 from roam_live.frontend.windows import WindowWishes
 from roam_live.protocol.client_link import LAST_WAIT, ClientLink, Reconnector
-from roam_live.protocol.host_client import HostClient
+from roam_live.protocol.host_client import HostClient, HostLink
 from roam_live.protocol.panes_client import AWAITED, PanesSubscriber
 from roam_live.session.environment import environment_lines
 from roam_live.session.front_end_lock import locked_session
@@ -82,9 +82,13 @@ class FrontEnd:
         # In which of them keys were switched to go to all panes, or not.
         self.synchronized: dict[int, bool] = {}
         server = opened_server(session)
+        self.host_link = HostLink(session.common, self.loop, self.display.outer.size, is_read_only)
+        self.host_link.environment = environment_lines(session, is_read_only)
+        self.host_link.leaves = lambda: self.leave(DETACHED)
+        self.host_link.others_left = lambda count: self.commands.others_left(count)
         self.view = self.begun(session)
+        self.host_link.go(self.view.host)
         self.watch_server(server)
-        self.view.host.environment = environment_lines(session, is_read_only)
         self.windows = WindowWishes(self, self.loop)
         self.status_row, self.runner = StatusRow(self, self.loop), CommandRunner(self, self.loop)
         self.commands.has_windows(self.windows)
@@ -156,8 +160,7 @@ class FrontEnd:
         """A view of a window."""
         loop, display = self.loop, self.display
         link, panes = ClientLink(session.terminals, self.is_read_only, self.prediction), self.followed(session)
-        host = HostClient(session.folder, loop, display.outer.size, self.is_read_only, lambda: commands.others_told())
-        host.leaves, host.others_left = lambda: self.leave(DETACHED), lambda count: self.commands.others_left(count)
+        host = HostClient(self.host_link, session.number, lambda: commands.others_told())
         host.notices = lambda words: display.tell(words, LOSS_TOLD)
         commands = Commands(session, panes, link, display, loop, self.leave, self.is_new, self.is_whole, host)
         commands.runs = self.run_wish
@@ -240,9 +243,9 @@ class FrontEnd:
         else:
             self.is_new = lambda places: False
             view = self.begun(session)
-            view.host.follow_on(before.host)
             view.commands.has_windows(self.windows)
         self.view = view
+        self.host_link.go(view.host)
         self.watch_server(server)
         view.commands.follow_on(before.commands, self.shown_whole.get(number, NO_SIZE))
         self.display.begin_window()

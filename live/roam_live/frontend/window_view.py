@@ -56,9 +56,6 @@ class WindowView:
         self.commands.part()
         self.watch_no_more(loop)
         self.panes.close()
-        self.host.rename(f"follow host of {self.number}")
-        # The connection of the window where the person is tells of it too.
-        self.host.is_draining = True
         loop.drop("connect")
         if self.link.peer:
             loop.remove(self.link)
@@ -68,8 +65,6 @@ class WindowView:
         self.panes = panes
         self.commands.follow_panes(panes)
         self.reconnector.is_full = panes.is_full
-        self.host.rename(type(self.host).again)
-        self.host.is_draining = False
 
     def is_over(self) -> bool:
         """Whether nothing that was typed there has to be taken still."""

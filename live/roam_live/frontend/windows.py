@@ -3,7 +3,6 @@ what is asked of the host. What is typed for a window that is being opened waits
 from __future__ import annotations
 
 import contextlib
-import os
 import re
 
 from roam_live.common.errors import Fault, reason
@@ -11,7 +10,7 @@ from roam_live.common.event_loop import Loop
 from roam_live.common.text import printable
 from roam_live.common.tty import LEAST, is_large_enough, largest
 from roam_live.frontend.line_editor import AskedLine
-from roam_live.frontend.windows_client import WindowsLink, WindowsState
+from roam_live.frontend.windows_client import WindowsState
 from roam_live.input.extended_keys import ANSWERED
 from roam_live.input.mouse_reports import MOUSE
 from roam_live.protocol.colours import COLOUR
@@ -25,6 +24,7 @@ if TYPE_CHECKING:
     from roam_live.frontend.commands import Commands
     from roam_live.frontend.display import Display
     from roam_live.input.keys import Key
+    from roam_live.protocol.host_client import HostLink
     from roam_live.protocol.session_interface import AnySession
 
     class AtWindow(Protocol):
@@ -32,6 +32,7 @@ if TYPE_CHECKING:
 
         session: AnySession
         display: Display
+        host_link: HostLink
 
         @property
         def commands(self) -> Commands:
@@ -111,16 +112,12 @@ class WindowWishes:
         self.opens = self.unsaid = ""
         # Whether the person stays where he is once a window is opened.
         self.stays = False
-        self.link = WindowsLink(self.path, loop, self.take, self.told.begin, self.lose)
-
-    def path(self) -> str:
-        """The socket that tells of the windows: that of the window where the person is."""
-        return os.path.join(self.front.commands.session.folder or "", "host")
+        self.link = front.host_link
 
     def begin(self) -> None:
         """Follows them, where there may be some."""
         if self.front.number:
-            self.link.connect()
+            self.link.follow_windows(self.take, self.told.begin, self.lose)
             self.show()
 
     # ---- which there are
@@ -153,14 +150,14 @@ class WindowWishes:
         """Why no other window can be had here; nothing where one can."""
         if not self.front.number:
             return FAR if self.front.session.served == "relay" else BY_HAND
-        return BY_HAND if self.link.is_refused else ""
+        return ""
 
     # ---- what is told
 
     def take(self, lines: list[str]) -> None:
         """Takes what the host told."""
         if self.unsaid:
-            self.link.ask(self.unsaid)
+            self.link.ask(self.unsaid, self.here())
             self.unsaid = ""
         for line in lines:
             opened = OPENED.fullmatch(line)
@@ -315,7 +312,7 @@ class WindowWishes:
             return
         self.opens = "open {} {}".format(*largest(size)) + (f" {handed}" if handed else "")
         if self.link.peer:
-            self.link.ask(self.opens)
+            self.link.ask(self.opens, self.here())
         else:
             self.unsaid = self.opens
         self.loop.later("window opens", OPENS, lambda: self.end_opening(LATE))

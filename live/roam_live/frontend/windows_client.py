@@ -3,14 +3,10 @@ there, and where something happened."""
 from __future__ import annotations
 
 import re
-from collections.abc import Callable
 
-from roam_live.common.event_loop import Loop
 from roam_live.common.text import printable
-from roam_live.common.unix_socket import connected_now
 from roam_live.frontend.status_line import cut, window_label
-from roam_live.protocol.panes_client import BAD_LINE, Subscription
-from roam_live.protocol.window_lines import LONGEST_NAME, WINDOWS, name_in
+from roam_live.protocol.window_lines import LONGEST_NAME, name_in
 
 # What is told of the windows to who asked for them: it may be told from another machine.
 TOLD = re.compile(r"window (?P<window>[1-9]\d?) (?P<name>-|(?:[0-9a-f]{2}){1,256})|gone (?P<gone>[1-9]\d?)|windows (?P<count>\d{1,2})"
@@ -82,29 +78,3 @@ class WindowsState:
         flags = "#" * (number in self.wrote) + "!" * (number in self.rung) + ("*" if number == here else "-" * (number == last))
         name = self.names.get(number, "") or self.runs.get(number, "")
         return window_label(number, cut(name, MOST_COLUMNS), flags)
-
-
-class WindowsLink(Subscription):
-    """A front end's connection to the pty host about windows, beside the one that tells of the terminal: at any window's socket.
-    The host of a session that was begun by hand doesn't know the word, and isn't asked again."""
-
-    again = "follow windows"
-
-    def __init__(self, path: Callable[[], str], loop: Loop, hears: Callable[[list[str]], object], begins: Callable[[], object],
-                 loses: Callable[[], object]) -> None:
-        super().__init__(lambda: connected_now(path()), loop, self.take, loses)
-        self.takes, self.begins = hears, begins
-        self.words = [WINDOWS]
-        self.is_refused = False
-
-    def connect(self) -> None:
-        """Connects, and knows nothing of what was told before."""
-        self.begins()
-        super().connect()
-
-    def take(self, lines: list[str]) -> None:
-        """Takes what was told."""
-        if BAD_LINE in lines:
-            self.is_refused = True
-            self.leave()
-        self.takes([line for line in lines if line != BAD_LINE])

@@ -1,4 +1,4 @@
-"""Restores what a cleaner of old files removed of a session with windows: the sockets of the pty host, and the notes of its processes.
+"""Restores what a cleaner of old files removed of a session with windows: the socket of the pty host, and the notes of its processes.
 
 Without them the session would run on, but nobody could find it or end it.
 """
@@ -56,7 +56,7 @@ class Mending:
 
     def look(self) -> None:
         """Restore what is missing, unless somebody holds the session's lock, as one who launches something there."""
-        if all(window.host.is_found() for window in self.there() if window.host):
+        if self.windows.common.socket.is_found():
             return
         from roam_live.session.windowed import WindowedSession
 
@@ -90,8 +90,9 @@ class Mending:
             window.processes.note()
             if window.name:
                 window.processes.note_name(window.name)
-            if window.host:
-                window.host.listen_in(window.processes.folder)
+            if window.host and window.processes.folder == window.host.asked.dir:
+                window.host.lasting.own = window.host.lasting.found()
+        self.windows.common.socket.listen_again(common)
         self.windows.common.tell(told)
 
     @staticmethod

@@ -5,6 +5,7 @@ from collections.abc import Callable
 
 from roam_live.host.scrollback import PaneScrollback, Scrollback, pane_key, pane_of_key
 from roam_live.host.scrollback_store import ScrollbackRange, Search, Snapshot
+from roam_live.protocol.host_lines import led
 
 # So many seconds are spent at once on what is looked for, and so many pass between two lines that tell how many rows came.
 SEARCHES = 0.01
@@ -30,10 +31,10 @@ class RowAsker:
     it didn't ask for, and one is for an answer that came later than the question, behind which its next question is taken."""
 
     def __init__(self, scrollback: Scrollback, answer: Callable[[bytes], object], tells: Callable[[str], object],
-                 goes_on: Callable[[], object], window: int = 0) -> None:
+                 goes_on: Callable[[], object]) -> None:
         self.scrollback, self.answer, self.tells, self.goes_on = scrollback, answer, tells, goes_on
-        # The window whose panes are meant.
-        self.window = window
+        # The window whose panes are meant by the last question, and the number by which it was named there.
+        self.window = self.said = 0
         self.snapshot: Snapshot | None = None
         # How many rows are known to have come since, and when that may be told again.
         self.more, self.more_due = 0, 0.0
@@ -55,8 +56,9 @@ class RowAsker:
 
     # ---- questions
 
-    def take(self, line: str) -> bool:
-        """Takes a line, and tells whether it is one of these."""
+    def take(self, line: str, window: int = 0, said: int = 0) -> bool:
+        """Take a line about the panes of a window, and return True if it is one of these."""
+        self.window, self.said = window, said
         word, *words = line.split(" ")
         counts = {"count": 2, "snapshot": 2, "release": 2, "log": 3, "rows": 4}
         if word == "find":
@@ -69,9 +71,13 @@ class RowAsker:
         asks[word](*numbers)
         return True
 
-    def say(self, line: str, data: bytes = b"") -> None:
-        """Answers with a line, and bytes behind it."""
-        self.answer(f"{line}\n".encode() + data)
+    def say(self, line: str, data: bytes = b"", said: int | None = None) -> None:
+        """Answer with a line, about the window of the last question or another, and bytes behind it."""
+        self.answer(f"{led(self.said if said is None else said, line)}\n".encode() + data)
+
+    def said_of(self, key: int) -> int:
+        """Return the number by which the window of a pane is named."""
+        return pane_of_key(key)[0] if self.said else 0
 
     def key(self, pane: int) -> int:
         """The number of a pane among those of all windows."""
@@ -98,10 +104,10 @@ class RowAsker:
         else:
             self.say(f"rows {pane} {generation} {NONE}")
 
-    def say_rows(self, pane: int, generation: int, first: int, found: list[bytes]) -> None:
+    def say_rows(self, pane: int, generation: int, first: int, found: list[bytes], said: int | None = None) -> None:
         """Answers with rows."""
         data = b"".join([row + b"\n" for row in found])
-        self.say(f"rows {pane} {generation} {first} {len(found)} {len(data)}", data)
+        self.say(f"rows {pane} {generation} {first} {len(found)} {len(data)}", data, said)
 
     def find(self, words: list[str]) -> bool:
         """Looks for a text, which is told later; whether these are such words."""
@@ -201,7 +207,7 @@ class RowAsker:
         if now < self.more_due:
             return self.more_due
         self.more, self.more_due = pane_scrollback.rows.end - held.scrollback_end, now + TELLS_MORE
-        self.tells(f"more {pane_of_key(held.pane)[1]} {held.generation} {self.more}")
+        self.tells(led(self.said_of(held.pane), f"more {pane_of_key(held.pane)[1]} {held.generation} {self.more}"))
         return None
 
     def tell_logged(self) -> bool:
@@ -213,12 +219,12 @@ class RowAsker:
         first, found = rows.newest(self.next_row).rows(self.next_row, rows.end) if rows.end > self.next_row else (0, [])
         if found:
             self.next_row = first + len(found)
-            self.say_rows(pane_of_key(rows.pane)[1], rows.generation, first, found)
+            self.say_rows(pane_of_key(rows.pane)[1], rows.generation, first, found, self.said_of(rows.pane))
             return True
         self.is_late = False
         if logged.is_gone or logged.has_last and self.next_row == rows.end:
             self.unlog()
-            self.say(f"log {pane_of_key(rows.pane)[1]} {rows.generation} {END}")
+            self.say(f"log {pane_of_key(rows.pane)[1]} {rows.generation} {END}", said=self.said_of(rows.pane))
         return False
 
     def close(self) -> None:

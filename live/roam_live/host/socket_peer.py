@@ -9,6 +9,7 @@ from roam_live.protocol.zoom_record import NO_ZOOM
 TYPE_CHECKING = False
 if TYPE_CHECKING:
     from roam_live.host.scrollback_queries import RowAsker
+    from roam_live.host.window_channel import WindowChannel
 
 # So many bytes at most wait for one who is told something that he didn't ask for: who takes them not is let go. While more of answers wait
 # nothing more is heard of him.
@@ -45,6 +46,10 @@ class HostPeer:
     def __init__(self, end: socket.socket, number: int) -> None:
         self.end, self.number = end, number
         self.came, self.waiting = bytearray(), bytearray()
+        # What its last line was about; the number of the window where it is, as it said, and that window.
+        self.said = 0
+        self.at: int | None = None
+        self.channel: WindowChannel | None = None
         self.presence: Presence | None = None
         # Since when that is so, in seconds since the epoch.
         self.since = 0
@@ -66,6 +71,11 @@ class HostPeer:
         self.answers = 0
         # Until when it is waited for, where it writes rows down and doesn't take them.
         self.awaited_until = 0.0
+
+    def leave_channel(self) -> None:
+        """Be at no window: what was asked of one isn't told any more."""
+        self.channel, self.asks, self.asks_commands, self.told, self.told_zoom = None, False, False, None, NO_ZOOM
+        self.commands.clear()
 
     def is_busy(self) -> bool:
         """Whether what it asks isn't answered, or not taken, so that its next line is taken later."""

@@ -19,7 +19,8 @@ from roam_live.host.foreground_watch import Fronts
 from roam_live.host.input_queue import TypedQueue
 from roam_live.host.pane import Options, PaneCommand, Spare, has_ended, say_in
 from roam_live.host.scrollback import Scrollback, pane_key, pane_of_key
-from roam_live.host.socket_server import HostRegistry, HostServer
+from roam_live.host.socket_server import HostSocket
+from roam_live.host.window_channel import WindowChannel
 from roam_live.protocol.panes import BRACKETED, FOCUS, OTHER, PanesState, Rect
 from roam_live.protocol.panes_client import PROBE, HostSubscription
 from roam_live.protocol.queries import QUERY, holds_frames, query_in
@@ -41,9 +42,9 @@ AGAIN = 0.25
 CLIENTS = "clients"
 ROUSED, ROUSED_EACH = 2, 1.0
 
-# Messages after the host's sockets were removed.
-MENDED = "sockets of the session were removed, as by a cleaner of old files, and have been restored"
-UNMENDED = "sockets of the session were removed and cannot be restored: {}"
+# Messages after the host's socket was removed.
+MENDED = "the session's socket was removed, as by a cleaner of old files, and has been restored"
+UNMENDED = "the session's socket was removed and cannot be restored: {}"
 
 UNREAD = "{} isn't shown: the server doesn't read it, as where no descriptor is left for it"
 
@@ -82,7 +83,7 @@ class Common:
             self.spare.keep()
         self.rows = Scrollback(self.loop, self.tell)
         self.rows.is_other = self.shows_other
-        self.registry = HostRegistry(self.loop, self.rows)
+        self.socket = HostSocket(self.loop, self.rows)
         self.loop.faults = self.take_fault
         self.rows.hears_changed = self.see_to_panes
         # Called once a minute to look after folders.
@@ -121,7 +122,7 @@ class Common:
         """Log what a person has to know, and send it to the terminals at all windows."""
         say(text)
         for window in list(self.windows.values()):
-            window.socket.notify(text)
+            window.channel.notify(text)
 
     def shows_other(self, key: int) -> bool:
         """Whether a pane's program is known to show the other screen."""
@@ -188,7 +189,7 @@ class Common:
         self.end_logs()
         for window in windows:
             window.close()
-        self.registry.close()
+        self.socket.close()
         self.rows.close()
 
 
@@ -223,7 +224,7 @@ class WindowHost:
         self.folder = folder
         # What its first pane begins with, where somebody asked for that.
         self.first = first
-        # True once it was reported that its sockets can't be restored; and once the server's socket for clients was there.
+        # True once it was reported that its socket can't be restored; and once the server's socket for clients was there.
         self.has_missed = self.had_clients = False
         common.see_to(self.last)
         self.subscription = HostSubscription(f"{asked.dir}/panes", self.loop, self.hear, self.lost, self.tell, peer)
@@ -231,9 +232,10 @@ class WindowHost:
         self.server = asked.server or self.subscription.server or None
         self.server_began = begun(self.server) if self.server else None
         if asked.again and not asked.window:
-            common.registry.await_terminals()
-        self.socket = HostServer(asked.dir, self.loop, self.look_at_fronts, common.registry, asked.window)
-        self.socket.handed.rect_of, self.socket.handed.folder_beside = self.rect_of, self.folder_beside
+            common.socket.await_terminals()
+        self.channel = WindowChannel(common.socket, asked.window, self.look_at_fronts)
+        common.socket.listen(asked.common)
+        self.channel.handed.rect_of, self.channel.handed.folder_beside = self.rect_of, self.folder_beside
         # What runs in front in panes, as far as that was looked up.
         self.in_front: dict[int, str] = {}
         self.fronts = Fronts(self.loop, self.tell_front, f"window {asked.window} " if asked.window else "")
@@ -245,8 +247,8 @@ class WindowHost:
     def tell(self, text: str) -> None:
         """Log what a person has to know, and send it to the terminals at this window."""
         say(f"window {self.asked.window}: {text}" if self.asked.window else text)
-        self.socket.standing = self.subscription.told
-        self.socket.notify(text)
+        self.channel.standing = self.subscription.told
+        self.channel.notify(text)
 
     def told(self, line: str) -> None:
         """Takes a line of D/panes: where a pane is, that it is gone, the focus, or pane metadata; counts of clients
@@ -278,7 +280,7 @@ class WindowHost:
         query = query_in(line)
         pane = self.panes.get(query.pane) if query else None
         if query and pane and pane.generation == query.generation and pane.is_typed_into():
-            pane.type(query.answer(self.common.registry.colours, holds_frames(self.server)))
+            pane.type(query.answer(self.common.socket.colours, holds_frames(self.server)))
 
     def report_focus(self, before: int) -> None:
         """Reports to the programs of the pane that had the focus before, and of that which has it now, that it went, where they asked for
@@ -293,17 +295,17 @@ class WindowHost:
         pane, size = self.panes.get(number), self.awaited_size((rect.rows, rect.cols))
         self.untold.discard(number)
         if pane and pane.generation == generation:
-            self.socket.handed.moved(number, rect)
+            self.channel.handed.moved(number, rect)
             pane.resize(size)
             self.rows.resize(self.key(number), size)
         else:
             folder, begins = self.folder_of_new(), self.handed_to(rect)
             self.drop(number)
-            typed = TypedQueue(self.common.registry.texts, lambda: self.panes_state.has_set(number, BRACKETED))
+            typed = TypedQueue(self.common.socket.texts, lambda: self.panes_state.has_set(number, BRACKETED))
             self.panes[number] = PaneCommand(self.asked, self.loop, number, generation, size, self.is_again,
                                               begins and begins.folder or folder, typed)
             self.panes[number].command = begins.command() if begins else []
-            self.panes[number].follows, self.panes[number].pane_environment = self.follow_now, self.common.registry.pane_environment
+            self.panes[number].follows, self.panes[number].pane_environment = self.follow_now, self.common.socket.pane_environment
             self.panes[number].gives_up = functools.partial(self.give_up, self.panes[number])
             self.panes[number].touches = functools.partial(self.note, self.panes[number])
             key = self.key(number)
@@ -346,7 +348,7 @@ class WindowHost:
     def handed_to(self, rect: Rect) -> Begins | None:
         """What a new pane begins with, where that was handed over for it."""
         if self.panes or not self.first:
-            return self.socket.handed.for_pane(rect)
+            return self.channel.handed.for_pane(rect)
         first, self.first = self.first, None
         return first
 
@@ -384,7 +386,7 @@ class WindowHost:
         pane = self.panes.pop(number, None)
         self.history = [other for other in self.history if other != number]
         if pane:
-            self.socket.tell_keypad(number, False)
+            self.channel.tell_keypad(number, False)
             self.fronts.drop(number)
             self.in_front.pop(number, None)
             self.rows.drop(self.key(number))
@@ -410,7 +412,7 @@ class WindowHost:
         self.loop.soon(self.tend)
         places = self.panes_state.places() if any(line[:1].isdigit() for line in lines) else None
         if places and places.is_covered():
-            self.socket.sized(places.size())
+            self.channel.sized(places.size())
 
     def follow_now(self) -> None:
         """Takes what came from D/panes so far."""
@@ -420,7 +422,7 @@ class WindowHost:
     def lost(self) -> None:
         """Goes on without D/panes, which is connected to again; where the server's process has ended the session has."""
         self.untold, self.is_new = set(self.panes), True
-        self.socket.sized(None)
+        self.channel.sized(None)
         self.goes_on()
 
     def has_server(self) -> bool:
@@ -494,24 +496,13 @@ class WindowHost:
         self.touched[pane.number] = pane
         self.loop.soon(self.tend)
 
-    def is_found(self) -> bool:
-        """Return True if the socket by which others find this window is where it was bound."""
-        return self.socket.listener is None or self.socket.listener.is_found()
-
-    def listen_in(self, folder: str) -> None:
-        """Bind the socket anew in a folder if it was removed; Fault or OSError if that fails."""
-        if self.socket.listener and not self.is_found():
-            self.socket.listener.move(os.path.join(folder, os.path.basename(self.socket.listener.path)))
-        if folder == self.asked.dir:
-            self.lasting.own = self.lasting.found()
-
     def listen_again(self) -> None:
-        """Restore removed sockets in this session's own folder, unless somebody else listens there."""
-        if self.is_found():
+        """Restore the removed socket in this session's own folder, unless somebody else listens there."""
+        if self.common.socket.is_found():
             return
         try:
             self.lasting.demand()
-            self.listen_in(self.asked.dir)
+            self.common.socket.listen_again(self.asked.dir)
         except (Fault, OSError) as fault:
             if not self.has_missed:
                 say(UNMENDED.format(reason(fault)))
@@ -529,7 +520,7 @@ class WindowHost:
         touched, self.touched = self.touched, {}
         for pane in touched.values():
             if self.panes.get(pane.number) is pane:
-                self.socket.tell_keypad(pane.number, pane.keypad.is_application)
+                self.channel.tell_keypad(pane.number, pane.keypad.is_application)
                 self.touch(pane)
         if self.asked.close and not self.is_over and self.is_followed():
             self.close_ended()
@@ -543,7 +534,7 @@ class WindowHost:
     def tell_front(self, number: int, generation: int, name: str) -> None:
         """Tells what runs in front in that making of a pane."""
         self.in_front[number] = name
-        self.socket.tell_command(number, generation, name)
+        self.channel.tell_command(number, generation, name)
         self.loop.soon(self.tend)
 
     def look_at_fronts(self) -> None:
@@ -556,7 +547,7 @@ class WindowHost:
         """Has it looked up what runs in front in a pane where something was typed or written, while somebody wants to know."""
         self.has_news, pane.has_news = self.has_news or pane.has_news, False
         if pane.is_touched:
-            pane.is_touched, self.fronts.is_wanted = False, self.socket.has_asked_commands() or self.common.registry.has_asked_windows()
+            pane.is_touched, self.fronts.is_wanted = False, self.channel.has_asked_commands() or self.common.socket.has_asked_windows()
             self.fronts.touched(pane)
 
     def hang_up(self) -> None:
@@ -567,7 +558,7 @@ class WindowHost:
 
     def close(self) -> None:
         """Closes the sockets, and forgets the window."""
-        self.socket.close()
+        self.channel.close()
         for lasts in (self.last, self.listen_again):
             self.common.see_no_more(lasts)
         self.common.windows.pop(self.asked.window, None)

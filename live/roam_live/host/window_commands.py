@@ -2,6 +2,7 @@
 from __future__ import annotations
 
 from roam_live.common.tty import largest
+from roam_live.protocol.host_lines import SESSION
 from roam_live.protocol.window_lines import GONE, NAME, OPEN, OPENED, RUNS, SHUT, WINDOW, WINDOWS, name_in, name_word
 
 TYPE_CHECKING = False
@@ -11,11 +12,14 @@ if TYPE_CHECKING:
 
     from roam_live.common.tty import Size
     from roam_live.host.socket_peer import HostPeer
-    from roam_live.host.socket_server import HostServer
+    from roam_live.host.socket_server import HostSocket
     from roam_live.protocol.spawn_request import Begins
 
     class WindowTable(Protocol):
         """Who has the windows of a session."""
+
+        # The window where somebody was last; 0 if that is unknown.
+        last: int
 
         def named(self) -> dict[int, str]:
             """The windows that are there, and their names."""
@@ -48,41 +52,37 @@ NOT_HANDED = "its command isn't there"
 
 
 class AskedWindow:
-    """A window that one who is at another asked for, of a size; and its number, and since when it is there."""
+    """A window that somebody asked for, of a size, beside another; and its number, and since when it is there."""
 
-    def __init__(self, socket: HostServer, peer: HostPeer, size: Size) -> None:
-        self.socket, self.peer, self.size = socket, peer, size
+    def __init__(self, peer: HostPeer, beside: int, size: Size) -> None:
+        self.peer, self.beside, self.size = peer, beside, size
         self.number, self.since = 0, 0.0
-
-    def is_left(self) -> bool:
-        """Whether he isn't connected any more, so that he may not know of it."""
-        return self.peer not in self.socket.peers
 
 
 class WindowLines:
-    """The lines, at the sockets of all windows, for a table that has them: what one who only watches asks for isn't done."""
+    """The lines about windows, for a table that has them: what one who only watches asks for isn't done."""
 
-    def __init__(self, table: WindowTable, sockets: list[HostServer]) -> None:
-        self.table, self.sockets = table, sockets
+    def __init__(self, table: WindowTable, socket: HostSocket) -> None:
+        self.table, self.socket = table, socket
         # The windows that front ends asked for, and where no terminal was yet.
         self.asked: list[AskedWindow] = []
 
-    def take(self, socket: HostServer, peer: HostPeer, line: str) -> bool:
-        """Takes a line of one who is at a window, and tells whether it is one of these."""
+    def take(self, peer: HostPeer, beside: int, line: str) -> bool:
+        """Take a line of one who is at a window, and return True if it is one of these."""
         opens, names, shuts = OPEN.fullmatch(line), NAME.fullmatch(line), SHUT.fullmatch(line)
         if line == WINDOWS:
             peer.asks_windows = True
             told = [self.line(number) for number in sorted(self.table.named())]
             runs = [f"{RUNS} {number} {name}" for number, name in self.table.in_front().items()]
-            socket.send(peer, [*told, f"{WINDOWS} {len(told)}", *runs])
+            self.socket.send(peer, [*told, f"{WINDOWS} {len(told)}", *runs], SESSION)
         elif opens:
-            self.open(socket, peer, largest((int(opens[1]), int(opens[2]))), opens[3] or "")
+            self.open(peer, beside, largest((int(opens[1]), int(opens[2]))), opens[3] or "")
         elif peer.is_read_only():
             return False
         elif names and name_in(names[2]) is not None:
-            self.answer_gone(socket, peer, int(names[1]), self.table.rename(int(names[1]), name_in(names[2]) or ""))
+            self.answer_gone(peer, int(names[1]), self.table.rename(int(names[1]), name_in(names[2]) or ""))
         elif shuts:
-            self.answer_gone(socket, peer, int(shuts[1]), self.table.shut(int(shuts[1])))
+            self.answer_gone(peer, int(shuts[1]), self.table.shut(int(shuts[1])))
         else:
             return False
         return True
@@ -91,20 +91,20 @@ class WindowLines:
         """The line that tells a window."""
         return f"{WINDOW} {number} {name_word(self.table.named().get(number, ''))}"
 
-    def answer_gone(self, socket: HostServer, peer: HostPeer, number: int, is_there: bool) -> None:
+    def answer_gone(self, peer: HostPeer, number: int, is_there: bool) -> None:
         """Tells one that the window isn't there of which he asked something."""
         if not is_there:
-            socket.send(peer, [f"{GONE} {number}"])
+            self.socket.send(peer, [f"{GONE} {number}"], SESSION)
 
-    def open(self, socket: HostServer, peer: HostPeer, size: Size, name: str = "") -> None:
+    def open(self, peer: HostPeer, beside: int, size: Size, name: str = "") -> None:
         """Has a window opened, by a command of this name where there is one, and answers once it is there, or can't be. A front end whose
         connection was cut asks again, and is told of the same."""
         refusal = READ_ONLY if peer.is_read_only() else TOO_MANY if peer.opening >= MOST_OPENING else ""
         if refusal:
-            socket.send(peer, [f"{OPENED} none {refusal}"])
+            self.socket.send(peer, [f"{OPENED} none {refusal}"], SESSION)
             return
         peer.opening += 1
-        left = self.left(socket, size)
+        left = self.left(beside, size)
         if left:
             left.peer = peer
             if left.number:
@@ -113,43 +113,46 @@ class WindowLines:
         begins = self.handed(name) if name else None
         if name and not begins:
             peer.opening -= 1
-            socket.send(peer, [f"{OPENED} none {NOT_HANDED}"])
+            self.socket.send(peer, [f"{OPENED} none {NOT_HANDED}"], SESSION)
             return
-        asked = AskedWindow(socket, peer, size)
+        asked = AskedWindow(peer, beside, size)
         if peer.asks_windows:
             self.asked.append(asked)
-        self.table.open(size, socket.window, lambda number, why: self.opened(asked, number, why), begins)
+        self.table.open(size, beside, lambda number, why: self.opened(asked, number, why), begins)
 
     def handed(self, name: str) -> Begins | None:
-        """What was handed over under this name, at any window: who asks may be connected at another than he is."""
-        return next((found for found in (one.handed.for_window(name) for one in self.sockets) if found), None)
+        """What was handed over under this name, at any window."""
+        return next((found for found in (one.handed.for_window(name) for one in self.socket.channels.values()) if found), None)
 
-    def left(self, socket: HostServer, size: Size) -> AskedWindow | None:
+    def is_left(self, asked: AskedWindow) -> bool:
+        """Return True if the one who asked isn't connected any more, so that he may not know of his window."""
+        return asked.peer not in self.socket.peers
+
+    def left(self, beside: int, size: Size) -> AskedWindow | None:
         """A window of this size that was asked for here by one who has left; None where there is none."""
-        now, named = socket.loop.clock(), self.table.named()
+        now, named = self.socket.loop.clock(), self.table.named()
         self.asked = [one for one in self.asked if not one.number or one.number in named and now < one.since + ASKED_AGAIN]
-        return next((one for one in self.asked if one.is_left() and (one.socket, one.size) == (socket, size)), None)
+        return next((one for one in self.asked if self.is_left(one) and (one.beside, one.size) == (beside, size)), None)
 
     def opened(self, asked: AskedWindow, number: int, why: str = "") -> None:
         """Tells who asked for a window that it is there, or why it can't be."""
-        asked.number, asked.since = number, asked.socket.loop.clock()
+        asked.number, asked.since = number, self.socket.loop.clock()
         if not number and asked in self.asked:
             self.asked.remove(asked)
-        if not asked.is_left():
+        if not self.is_left(asked):
             asked.peer.opening -= 1
-            asked.socket.send(asked.peer, [f"{OPENED} {number}" if number else f"{OPENED} none {why}"])
+            self.socket.send(asked.peer, [f"{OPENED} {number}" if number else f"{OPENED} none {why}"], SESSION)
 
     def has_asked(self) -> bool:
         """Whether somebody is there who asked for windows."""
-        return any(peer.asks_windows for socket in self.sockets for peer in socket.peers)
+        return any(peer.asks_windows for peer in self.socket.peers)
 
     # ---- what is told
 
     def tell(self, line: str) -> None:
         """Tells a line to all who asked for windows."""
-        for socket in list(self.sockets):
-            for peer in [peer for peer in socket.peers if peer.asks_windows]:
-                socket.send(peer, [line])
+        for peer in [peer for peer in self.socket.peers if peer.asks_windows]:
+            self.socket.send(peer, [line], SESSION)
 
     def tell_window(self, number: int) -> None:
         """Tells that a window is there, or has another name."""

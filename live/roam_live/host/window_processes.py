@@ -13,7 +13,7 @@ from roam_live.common.unix_socket import SocketPeer, connected_now
 from roam_live.protocol.window_lines import NO_NAME, name_in, name_word
 from roam_live.session.foreground import PANE
 from roam_live.session.processes import is_note
-from roam_live.session.window_state import SPARE, SPARE_VARIABLE, WINDOWS_VERSION, window_folder, windows_folder
+from roam_live.session.window_state import JOINED, SPARE, SPARE_VARIABLE, WINDOWS_VERSION, window_folder, windows_folder
 
 TYPE_CHECKING = False
 if TYPE_CHECKING:
@@ -105,6 +105,7 @@ class WindowProcesses:
             with open(self.path(SPARE), "w", encoding="ascii"):
                 return
         os.unlink(self.path(SPARE))
+        self.note()
 
     def is_spare(self) -> bool:
         """Whether it only stands ready."""
@@ -162,7 +163,7 @@ class WindowProcesses:
 
     def note(self) -> None:
         """Notes the processes that are known."""
-        state: State = {"version": WINDOWS_VERSION}
+        state: State = {"version": WINDOWS_VERSION, **({} if self.is_spare() else {JOINED: True})}
         for role, one in self.noted.items():
             state[role] = list(one)
         replace_text(self.path("state.json"), json.dumps(state))

@@ -79,7 +79,7 @@ class HostedWindow:
 
     def has_terminals(self) -> bool:
         """Whether somebody is there."""
-        return self.host is not None and self.host.socket.has_terminals()
+        return self.host is not None and self.host.channel.has_terminals()
 
 
 class Windows:
@@ -98,7 +98,7 @@ class Windows:
         self.lasting = Lasting(asked.common)
         common.see_to(Mending(self).look)
         common.see_to(self.make_last)
-        self.lines = common.registry.lines = WindowLines(self, common.registry.sockets)
+        self.lines = common.socket.lines = WindowLines(self, common.socket)
         if asked.is_first:
             self.await_first()
         else:
@@ -244,7 +244,7 @@ class Windows:
                 continue
             window = self.windows[number] = HostedWindow(number, processes, self.taken)
             window.is_again, window.has_client = True, False
-            self.common.registry.await_terminals()
+            self.common.socket.await_terminals()
             self.await_(window, OPENS)
 
     def await_first(self) -> None:

@@ -1,4 +1,4 @@
-"""A front end's connection to the pty host."""
+"""A front end's connection to the pty host, and what it knows by it of each window."""
 from __future__ import annotations
 
 import os
@@ -10,11 +10,13 @@ from roam_live.common.event_loop import Loop
 from roam_live.common.io import read, write
 from roam_live.common.unix_socket import connected_now
 from roam_live.protocol.colours import COLOUR, Colours, told_in
+from roam_live.protocol.host_lines import SESSION, led
 from roam_live.protocol.panes_client import LET_GO, Subscription
 from roam_live.protocol.paste_text import FULL, MOST_BYTES
 from roam_live.protocol.presence import HERE, LEAVE, WHO, OtherTerminals, Presence, terminal_name
 from roam_live.protocol.scrollback_client import BUFFER, AnswerReader, BadAnswer, ScrollbackClient
 from roam_live.protocol.spawn_request import RAN
+from roam_live.protocol.window_lines import WINDOWS
 from roam_live.protocol.zoom_record import NONE, ZOOM, ZOOMED, ZoomNote, zoomed_in
 
 TYPE_CHECKING = False
@@ -47,97 +49,92 @@ KEYPAD = re.compile(r"keypad ([1-9]) (application|numeric)")
 KNOWS = 2.0
 
 
-class HostClient(Subscription):
-    """The connection, while a host is there that knows of it: it tells of this terminal, and is told who else is at the session. A call
-    is for when that is known."""
+class HostLink(Subscription):
+    """The connection, while a host is there: it reports this terminal, and receives what is new of the session and its windows."""
 
     again = "follow host"
 
-    def __init__(self, folder: str | os.PathLike[str] | None, loop: Loop, size: Callable[[], Size], is_read_only: bool,
-                 knows: Callable[[], object]) -> None:
+    def __init__(self, folder: str | os.PathLike[str] | None, loop: Loop, size: Callable[[], Size], is_read_only: bool) -> None:
         path = self.path = os.path.join(folder, "host") if folder else ""
-        super().__init__(lambda: connected_now(path), loop, self.take, self.forget)
-        self.name, self.size, self.kind, self.knows = terminal_name(), size, "read-only" if is_read_only else "read-write", knows
-        # What was said of this terminal, and what was told of the others.
-        self.said = ""
-        self.others = OtherTerminals()
+        super().__init__(lambda: connected_now(path), loop, lambda lines: None, self.forget)
+        self.name, self.size, self.kind = terminal_name(), size, "read-only" if is_read_only else "read-write"
+        # What is known of each window where the person is or was, and the one where he is.
+        self.clients: dict[int, HostClient] = {}
+        self.here: HostClient | None = None
         # Whether a host was there that tells so much, by which name it is known, and whether it is there now.
         self.is_known = False
         self.host_name = ""
         self.is_there = False
-        # What is told comes here, and scrollback rows, and buffers, are asked for by this.
-        self.reader, self.scrollback = AnswerReader(), ScrollbackClient(self.ask_with)
-        # Texts that aren't held yet, by their names, and those that are, and aren't known to be put; a call tells what becomes of one, as
-        # by the word of the host, with more words or none. A number is that of a buffer of the host's.
+        self.reader = AnswerReader()
+        # Texts that aren't held yet, by their names, and those that are, and aren't known to be put; and who gave each. A number is that of
+        # a buffer of the host's.
         self.unstored: dict[str, bytes | int] = {}
         self.stored: dict[str, None] = {}
+        self.givers: dict[str, HostClient] = {}
         # Those of which the host has to tell what becomes of them; and whether it had no room for one, so that one after the other is
         # given.
         self.asked: set[str] = set()
         self.is_full = False
-        self.answers: Callable[[str, str, str], object] = lambda name, word, more: None
         # What is called where this terminal is to leave, and with how many others do, where it had them do so.
         self.leaves: Callable[[], object] = lambda: None
-        # Whether its window was left, of which what was typed goes on.
-        self.is_draining = False
         self.others_left: Callable[[str], object] = lambda count: None
-        # What is called with a notice for the person; and the panes whose programs asked for application codes of the keypad.
-        self.notices: Callable[[str], object] = lambda words: None
-        self.keypads: set[int] = set()
-        # What is called with what becomes of a command that was handed over.
-        self.ran: Callable[[str], object] = lambda told: None
         # The lines by which this terminal brings what new panes have, once to each host: behind a cut another may have brought since.
         self.environment: list[str] = []
         # The colours of this terminal, as far as it told them, and what of that the host wasn't told: each is told them once.
         self.colours = Colours()
         self.untold: list[str] = []
-        # The zoom of this terminal, and the one that was told of, with the number of who made it, 0 where that has left.
-        self.zoom: ZoomNote | None = None
-        self.zoomed: tuple[int, ZoomNote | None] = (0, None)
-        if folder:
-            self.connect()
+        # What takes lines about windows, and is called as they begin, and once the connection is lost; None while nobody asks.
+        self.windows: tuple[Callable[[list[str]], object], Callable[[], object], Callable[[], object]] | None = None
+
+    # ---- the connection
 
     def begin(self, peer: socket.socket) -> None:
         """Follows a connection that is there."""
         super().begin(peer)
-        self.said, self.reader = "", AnswerReader()
-        self.say_here()
-        self.ask(WHO)
+        self.reader = AnswerReader()
+        if self.here:
+            self.here.come()
+        if self.windows:
+            self.ask_windows()
 
-    def follow_on(self, before: HostClient) -> None:
-        """Knows what the host was told by an earlier connection of this terminal, which brings nothing twice to one."""
-        self.host_name, self.environment, self.colours, self.untold = before.host_name, before.environment, before.colours, before.untold
-        self.is_known = before.is_known
+    def go(self, client: HostClient) -> None:
+        """Be at a window from now on, and report that once connected."""
+        before, self.here = self.here, client
+        if before and before is not client:
+            before.left()
+        self.clients[client.number] = client
+        if self.peer:
+            client.come()
+        elif self.path and self.again not in self.loop.due:
+            self.connect()
 
-    def leave_now(self) -> None:
-        """Leaves, as another terminal has it."""
-        if not self.is_draining:
-            self.leaves()
+    def follow_windows(self, hears: Callable[[list[str]], object], begins: Callable[[], object], loses: Callable[[], object]) -> None:
+        """Ask for the windows, now and at each connection."""
+        self.windows = hears, begins, loses
+        if self.peer:
+            self.ask_windows()
 
-    def rename(self, again: str) -> None:
-        """Calls the moment otherwise at which the connection is had again."""
-        if self.again in self.loop.due:
-            self.loop.due[again] = self.loop.due.pop(self.again)
-        self.again = again
+    def ask_windows(self) -> None:
+        """Ask for the windows anew."""
+        if self.windows:
+            self.windows[1]()
+            self.ask(WINDOWS)
+
+    def ask(self, line: str, number: int = SESSION) -> None:
+        """Says a line about a window, or about the session, while a host is connected."""
+        super().ask(led(number, line))
+
+    def ask_with(self, line: str, data: bytes, number: int) -> bool:
+        """Says a line with bytes behind it, and tells whether a host is connected that takes them."""
+        if not self.peer or not self.has_room(len(line) + len(data)):
+            return False
+        self.ask(line, number)
+        self.waiting += data
+        return True
 
     def is_connecting(self) -> bool:
         """Whether a connection may be there soon: none is, as where the host was launched just before, and few were tried in a row."""
         return bool(self.path) and self.peer is None and self.faults <= FEW
-
-    def say_here(self) -> None:
-        """Says that this terminal is there, where that, or its size, wasn't said."""
-        line = f"{HERE} {Presence(self.name, *self.size(), self.kind)}"
-        if line != self.said:
-            self.said = line
-            self.ask(line)
-
-    def ask_with(self, line: str, data: bytes) -> bool:
-        """Says a line with bytes behind it, and tells whether a host is connected that takes them."""
-        if not self.peer or not self.has_room(len(line) + len(data)):
-            return False
-        self.ask(line)
-        self.waiting += data
-        return True
 
     def hear(self) -> None:
         """Takes what came; what can't be an answer ends the connection."""
@@ -146,12 +143,73 @@ class HostClient(Subscription):
             self.lost(LET_GO)
             return
         try:
+            lines: list[str] = []
             for answer in self.reader.fed(chunk or b""):
                 self.faults = 0
-                if not self.scrollback.take(answer):
-                    self.take([" ".join(answer.words)])
+                client, line = self.clients.get(answer.window), " ".join(answer.words)
+                if client and client.scrollback.take(answer) or self.take(line):
+                    continue
+                if client:
+                    client.take(line)
+                elif answer.window == SESSION:
+                    lines.append(line)
+            if lines and self.windows:
+                self.windows[0](lines)
         except BadAnswer as fault:
             self.lost(str(fault))
+
+    def take(self, line: str) -> bool:
+        """Take a line about the session or a text, and return True if it is one."""
+        word, _, rest = line.partition(" ")
+        if word in ANSWERS:
+            name, _, more = rest.partition(" ")
+            self.answered(name, word, more)
+        elif word == HOST:
+            self.meet(rest)
+        elif line == LEAVE:
+            self.leaves()
+        elif word == LEFT:
+            self.others_left(rest)
+        elif word == RAN:
+            for client in list(self.clients.values()):
+                client.ran(rest)
+        else:
+            return False
+        return True
+
+    def forget(self) -> None:
+        """Knows no more who is there. Where no host was known before, none is there that takes texts."""
+        self.is_there = False
+        for client in list(self.clients.values()):
+            client.forget()
+        if not self.is_known:
+            self.lose(NO_HOST)
+        if self.windows:
+            self.windows[2]()
+
+    def meet(self, name: str) -> None:
+        """Goes on with a host: what it doesn't hold yet is given again. To another one all is lost that was given before: what was pasted
+        into a program isn't put into the shell that is in its place."""
+        is_other = self.host_name not in ("", name)
+        for line in self.environment if name != self.host_name else ():
+            self.ask(line)
+        if name != self.host_name:
+            self.untold = self.colours.lines()
+        self.host_name, self.is_there = name, True
+        self.tell_colours()
+        for client in self.clients.values():
+            if client.zoom:
+                self.ask(f"{ZOOM} {client.zoom}", client.number)
+        if is_other:
+            self.lose(LOST)
+        self.asked.clear()
+        self.is_full = False
+        for text, data in self.unstored.items():
+            self.ask_to_take(text, data)
+        for text in self.stored:
+            self.ask(f"status {text}")
+
+    # ---- colours
 
     def tell_colour(self, text: str) -> None:
         """Takes an answer of the terminal: what colour it has, which the host is told where this terminal edits."""
@@ -168,75 +226,7 @@ class HostClient(Subscription):
             self.ask(line)
         self.untold = [] if self.is_there else self.untold
 
-    def note_zoom(self, note: ZoomNote | None) -> None:
-        """Tells the host of this terminal's zoom, or that it is over: at once, where it can, since what comes of it goes elsewhere."""
-        self.zoom = note
-        if self.is_there and self.peer:
-            self.ask(f"{ZOOM} {note or NONE}")
-            write(self.peer.fileno(), self.waiting)
-
-    def take(self, lines: list[str]) -> None:
-        """Takes what was told."""
-        for line in lines:
-            word, _, rest = line.partition(" ")
-            if word in ANSWERS:
-                name, _, more = rest.partition(" ")
-                self.answered(name, word, more)
-            elif word == HOST:
-                self.meet(rest)
-            elif line == LEAVE:
-                self.leave_now()
-            elif word == LEFT:
-                self.others_left(rest)
-            elif word == RAN:
-                self.ran(rest)
-            elif word == ZOOMED:
-                self.zoomed = zoomed_in(rest.split(" ")) or self.zoomed
-            elif not self.take_notice(line):
-                self.others.take(line)
-        if self.others.is_whole:
-            self.is_known = True
-            self.knows()
-
-    def take_notice(self, line: str) -> bool:
-        """Take a notice of the host, and return True if the line is one."""
-        notice, keypad = NOTICE.fullmatch(line), KEYPAD.fullmatch(line)
-        if notice and not self.is_draining:
-            self.notices(notice[1])
-        elif keypad:
-            (self.keypads.add if keypad[2] == "application" else self.keypads.discard)(int(keypad[1]))
-        return bool(notice or keypad)
-
-    def forget(self) -> None:
-        """Knows no more who is there. Where no host was known before, none is there that takes texts."""
-        self.others, self.is_there, self.zoomed = OtherTerminals(), False, (0, None)
-        self.scrollback.forget()
-        self.keypads.clear()
-        if not self.is_known:
-            self.lose(NO_HOST)
-
     # ---- texts
-
-    def meet(self, name: str) -> None:
-        """Goes on with a host: what it doesn't hold yet is given again. To another one all is lost that was given before: what was pasted
-        into a program isn't put into the shell that is in its place."""
-        is_other = self.host_name not in ("", name)
-        for line in self.environment if name != self.host_name else ():
-            self.ask(line)
-        if name != self.host_name:
-            self.untold = self.colours.lines()
-        self.host_name, self.is_there = name, True
-        self.tell_colours()
-        if self.zoom:
-            self.ask(f"{ZOOM} {self.zoom}")
-        if is_other:
-            self.lose(LOST)
-        self.asked.clear()
-        self.is_full = False
-        for text, data in self.unstored.items():
-            self.ask_to_take(text, data)
-        for text in self.stored:
-            self.ask(f"status {text}")
 
     def lose(self, word: str) -> None:
         """Gives no more of what was to be given, and tells why."""
@@ -244,20 +234,24 @@ class HostClient(Subscription):
         self.stored.clear()
         self.unstored.clear()
         for name in names:
-            self.answers(name, word, "")
+            self.tell_giver(name, word, "")
 
-    def takes_texts(self) -> bool:
-        """Whether a host takes texts, as far as is known: one was there, or is connected and may tell soon."""
-        return self.is_known or self.peer is not None and self.is_awaited()
+    def tell_giver(self, name: str, word: str, more: str) -> None:
+        """Report what becomes of a text to who gave it, who is forgotten once nothing more comes."""
+        giver = self.givers.get(name)
+        if name not in self.stored and name not in self.unstored:
+            self.givers.pop(name, None)
+        if giver:
+            giver.answers(name, word, more)
 
     def has_room(self, length: int) -> bool:
         """Whether a text of so many bytes may wait here: where a host is stopped nothing goes, not even what isn't wanted any more."""
         return len(self.waiting) + length <= MOST_UNSENT
 
-    def store(self, name: str, data: bytes | int) -> None:
+    def store(self, name: str, data: bytes | int, giver: HostClient) -> None:
         """Has the host hold a text, or a buffer of its own as one, of which one that it hasn't is refused: it is given again, where the
         connection is lost or the host has no room, until it is held."""
-        self.unstored[name] = data
+        self.unstored[name], self.givers[name] = data, giver
         if self.is_there and not self.is_full:
             self.ask_to_take(name, data)
 
@@ -279,12 +273,13 @@ class HostClient(Subscription):
         """Gives a text no more. One that is half given is given whole, since its bytes are awaited."""
         data = self.unstored.pop(name, None)
         self.stored.pop(name, None)
+        self.givers.pop(name, None)
         if data is not None:
             self.drop_waiting(name, data)
 
     def drop_waiting(self, name: str, data: bytes | int) -> None:
         """Take a text out of what waits for the host, where nothing of it was sent: no other line has its name, which is random."""
-        line = f"{paste_line(name, data)}\n".encode()
+        line = f"{led(SESSION, paste_line(name, data))}\n".encode()
         begin = self.waiting.find(line)
         if begin >= 0:
             del self.waiting[begin : begin + len(line) + (0 if isinstance(data, int) else len(data))]
@@ -299,7 +294,7 @@ class HostClient(Subscription):
             self.is_full = True
             self.loop.later(f"paste {name} again", STORES_AGAIN, self.store_first)
             if name in self.unstored:
-                self.answers(name, LATER, more)
+                self.tell_giver(name, LATER, more)
             return
         if name in self.unstored or name in self.stored:
             self.take_answer(name, word, more)
@@ -312,15 +307,151 @@ class HostClient(Subscription):
             del self.stored[name]
         if word == STORED:
             self.stored[name] = None
-        self.answers(name, word, more)
+        self.tell_giver(name, word, more)
+
+
+class HostClient:
+    """What a front end knows by its connection of one window, and says of itself there. A call is for when it is known who else is there."""
+
+    def __init__(self, link: HostLink, number: int, knows: Callable[[], object]) -> None:
+        self.link, self.number, self.knows = link, number, knows
+        # What was said of this terminal, since when it is awaited who else is there, and what was told of the others.
+        self.said, self.since = "", 0.0
+        self.others = OtherTerminals()
+        # Scrollback rows, and buffers, are asked for by this.
+        self.scrollback = ScrollbackClient(self.ask_with)
+        # What is called with what becomes of a text that was given here: the word of the host, with more words or none; with what becomes
+        # of a command that was handed over; and with a notice for the person.
+        self.answers: Callable[[str, str, str], object] = lambda name, word, more: None
+        self.ran: Callable[[str], object] = lambda told: None
+        self.notices: Callable[[str], object] = lambda words: None
+        # The panes whose programs asked for application codes of the keypad.
+        self.keypads: set[int] = set()
+        # The zoom of this terminal, and the one that was told of, with the number of who made it, 0 where that has left.
+        self.zoom: ZoomNote | None = None
+        self.zoomed: tuple[int, ZoomNote | None] = (0, None)
+
+    # ---- the connection
+
+    @property
+    def peer(self) -> socket.socket | None:
+        """The connection; None while none is there."""
+        return self.link.peer
+
+    @property
+    def is_there(self) -> bool:
+        """Whether a host is there."""
+        return self.link.is_there
+
+    @property
+    def is_known(self) -> bool:
+        """Whether a host was there that told who is at a session."""
+        return self.link.is_known
+
+    @property
+    def waiting(self) -> bytearray:
+        """What waits for the host."""
+        return self.link.waiting
+
+    def is_connecting(self) -> bool:
+        """Whether a connection may be there soon."""
+        return self.link.is_connecting()
+
+    def ask(self, line: str) -> None:
+        """Says a line about this window."""
+        self.link.ask(line, self.number)
+
+    def ask_with(self, line: str, data: bytes) -> bool:
+        """Says a line with bytes behind it, and tells whether a host is connected that takes them."""
+        return self.link.ask_with(line, data, self.number)
+
+    def come(self) -> None:
+        """Report that this terminal is at the window, and ask who else is."""
+        self.said, self.since = "", self.link.loop.clock()
+        self.say_here()
+        self.ask(WHO)
+
+    def left(self) -> None:
+        """Know no more who is at the window, since the person has gone to another."""
+        self.others, self.zoomed = OtherTerminals(), (0, None)
+        self.keypads.clear()
+
+    def end(self) -> None:
+        """Know nothing of the window any more."""
+        if self.link.clients.get(self.number) is self:
+            del self.link.clients[self.number]
+
+    def forget(self) -> None:
+        """Know nothing of it while no host is connected."""
+        self.left()
+        self.scrollback.forget()
+
+    def say_here(self) -> None:
+        """Says that this terminal is there, where that, or its size, wasn't said."""
+        line = f"{HERE} {Presence(self.link.name, *self.link.size(), self.link.kind)}"
+        if line != self.said and self.link.here is self:
+            self.said = line
+            self.ask(line)
+
+    def take(self, line: str) -> None:
+        """Takes a line about the window."""
+        word, _, rest = line.partition(" ")
+        if word == ZOOMED:
+            self.zoomed = zoomed_in(rest.split(" ")) or self.zoomed
+        elif not self.take_notice(line):
+            self.others.take(line)
+        if self.others.is_whole:
+            self.link.is_known = True
+            self.knows()
+
+    def take_notice(self, line: str) -> bool:
+        """Take a notice of the host, and return True if the line is one."""
+        notice, keypad = NOTICE.fullmatch(line), KEYPAD.fullmatch(line)
+        if notice:
+            self.notices(notice[1])
+        elif keypad:
+            (self.keypads.add if keypad[2] == "application" else self.keypads.discard)(int(keypad[1]))
+        return bool(notice or keypad)
+
+    # ---- the zoom, and the others
+
+    def note_zoom(self, note: ZoomNote | None) -> None:
+        """Tells the host of this terminal's zoom, or that it is over: at once, where it can, since what comes of it goes elsewhere."""
+        self.zoom = note
+        if self.is_there and self.peer:
+            self.ask(f"{ZOOM} {note or NONE}")
+            write(self.peer.fileno(), self.waiting)
 
     def is_awaited(self) -> bool:
         """Whether it isn't known yet who else is there, and may be soon: the host is about to tell it, or to be connected."""
-        return self.is_connecting() or self.peer is not None and not self.others.is_whole and self.loop.clock() < self.since + KNOWS
+        is_asked = self.peer is not None and self.link.loop.clock() < self.since + KNOWS
+        return self.is_connecting() or is_asked and not self.others.is_whole
 
     def has_others(self) -> bool | None:
         """Whether somebody else types at the session; None where that isn't known."""
         return self.others.has_typing()
+
+    # ---- what is one for all windows
+
+    def tell_colour(self, text: str) -> None:
+        """Takes an answer of the terminal: what colour it has."""
+        self.link.tell_colour(text)
+
+    def takes_texts(self) -> bool:
+        """Whether a host takes texts, as far as is known: one was there, or is connected and may tell soon."""
+        return self.is_known or self.peer is not None and self.is_awaited()
+
+    def has_room(self, length: int) -> bool:
+        """Whether a text of so many bytes may wait here."""
+        return self.link.has_room(length)
+
+    def store(self, name: str, data: bytes | int) -> None:
+        """Has the host hold a text, or a buffer of its own as one."""
+        self.link.store(name, data, self)
+
+    def cancel(self, name: str) -> None:
+        """Gives a text no more."""
+        self.link.cancel(name)
 
 
 def paste_line(name: str, data: bytes | int) -> str:

@@ -5,6 +5,8 @@ from __future__ import annotations
 from collections import deque, namedtuple
 from collections.abc import Callable
 
+from roam_live.protocol.host_lines import SESSION, parted
+
 TYPE_CHECKING = False
 if TYPE_CHECKING:
     from typing import Protocol, Union
@@ -85,10 +87,10 @@ if TYPE_CHECKING:
 
 
 class Answer:
-    """An answer: its words, the bytes behind them, and lines where it is a list."""
+    """An answer: the window that it is about, its words, the bytes behind them, and lines where it is a list."""
 
-    def __init__(self, words: list[str]) -> None:
-        self.words = words
+    def __init__(self, words: list[str], window: int = SESSION) -> None:
+        self.words, self.window = words, window
         self.data = b""
         self.lines: list[str] = []
 
@@ -151,7 +153,10 @@ class AnswerReader:
             self.answer.lines.append(line)
             self.lines_missing -= 1
             return True
-        self.answer = Answer(line.split(" "))
+        number, line = parted(line)
+        if number is None:
+            raise BadAnswer(line[:80])
+        self.answer = Answer(line.split(" "), number)
         words = self.answer.words
         if len(words) == self.LENGTHS.get(words[0]) or words[:2] == [BUFFER, SHOW] and words[3:] != [NONE]:
             self.missing = number_at(words, len(words) - 1)

@@ -11,7 +11,8 @@ from collections.abc import Callable, Sequence
 from roam_live.common.errors import Fault
 from roam_live.common.event_loop import Loop
 from roam_live.common.unix_socket import connected_now
-from roam_live.protocol.panes_client import Subscription
+from roam_live.protocol.host_lines import SESSION, led, parted
+from roam_live.protocol.panes_client import HOST, Subscription
 from roam_live.protocol.presence import number_in
 from roam_live.protocol.server_address import is_id
 from roam_live.protocol.window_lines import GONE, MOST_WINDOWS, WINDOW, WINDOWS
@@ -80,7 +81,7 @@ class FarWindows:
         if not self.following:
             self.following = Subscription(self.connected, self.loop, self.hear, self.lose)
             self.following.again = "follow windows"
-            self.following.want(WINDOWS)
+            self.following.want(led(SESSION, WINDOWS))
             self.following.connect()
         self.tell()
 
@@ -97,14 +98,15 @@ class FarWindows:
         return self.place.number if self.place else 0
 
     def connected(self) -> socket.socket:
-        """A connection to the host, at the socket of any window."""
-        for window in self.running():
-            return connected_now(window.folder / "host")
-        raise ConnectionRefusedError("no window is there")
+        """Return a connection to the session's host."""
+        if not self.place:
+            raise ConnectionRefusedError("no session is there")
+        return connected_now(self.place.common / "host")
 
     def hear(self, lines: list[str]) -> None:
         """Tells what is new of the windows."""
-        told = [line.split(" ") for line in lines if line.split(" ")[0] in (WINDOW, WINDOWS, GONE)]
+        found = [parted(line)[1].split(" ") for line in lines if parted(line)[0] == SESSION]
+        told = [words for words in found if words[0] in (WINDOW, WINDOWS, GONE)]
         for word, *rest in told:
             number = number_in(rest[0], MOST_WINDOWS) if rest else 0
             self.is_whole = self.is_whole or word == WINDOWS
@@ -136,10 +138,12 @@ class FarWindows:
 
     def path(self, name: str) -> str:
         """The path of a socket by the name that it is forwarded under."""
-        led = LED.match(name)
-        if led and not self.is_used:
+        of_window = LED.match(name)
+        if of_window and not self.is_used:
             return ""
-        return os.path.join(self.folder(int(led[1])), name[led.end() :]) if led else os.path.join(self.folder(0), name)
+        if of_window:
+            return os.path.join(self.folder(int(of_window[1])), name[of_window.end() :])
+        return os.path.join(self.place.common if self.place and name == HOST else self.folder(0), name)
 
     def heir(self) -> FolderSession | None:
         """Another window of the session, once the relay's own has ended; None where there is none, or the near end knows of none."""

@@ -26,8 +26,7 @@ if TYPE_CHECKING:
 LED = re.compile(r"^w/[1-9]\d?/", re.ASCII)
 
 # The sockets to which connections are forwarded, that by which a terminal is known to be there, and how many connections at most.
-HOST = "host"
-NAMES = ("panes", HOST)
+HOST, PANES = "host", "panes"
 LONGEST_NAME = 32
 MOST_FORWARDED = 64
 
@@ -200,8 +199,8 @@ class Streams(Generic[One]):
         return any(one.socket_name == name and not (one.has_ended or one.is_over) for one in self.all.values())
 
     def end_named(self, name: str) -> None:
-        """Ends those that were connected here to a socket of a name, of any window: the other end is told."""
-        for one in [one for one in self.all.values() if LED.sub("", one.socket_name, count=1) == name and not one.has_ended]:
+        """Ends those that were connected here to a socket of a name: the other end is told."""
+        for one in [one for one in self.all.values() if one.socket_name == name and not one.has_ended]:
             one.going.clear()
             self.end(one)
 
@@ -215,7 +214,7 @@ class Streams(Generic[One]):
     def opened(self, one: One, name: str) -> None:
         """Connects a connection that the other end began to a socket of a name; where that can't be it is ended."""
         try:
-            if LED.sub("", name, count=1) not in NAMES or not self.opens:
+            if name != HOST and LED.sub("", name, count=1) != PANES or not self.opens:
                 raise FileNotFoundError(name)
             self.join(one, self.opens(name))
             one.socket_name = name

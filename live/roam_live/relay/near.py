@@ -352,14 +352,10 @@ class Near:
         if self.asked.alone is None or now < self.looked_at + LOOKS:
             return
         self.looked_at = now
-        if self.is_used():
+        if self.sockets and self.sockets.is_used():
             self.used_at = now
         elif now > self.used_at + self.asked.alone:
             raise Ended(0)
-
-    def is_used(self) -> bool:
-        """Return True if a front end is connected here, at any window."""
-        return bool(self.sockets and self.sockets.is_used() or self.windows and self.windows.is_used())
 
     def answered(self, link: RunningCommand, session: str) -> None:
         """Takes a command as the one that carries, now that its other end has answered for a session."""

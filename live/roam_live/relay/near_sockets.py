@@ -34,14 +34,14 @@ ASKED_HERE = (METADATA, CLIPBOARD)
 
 
 class ForwardedHost:
-    """The socket `host` of the near folder, whose connections are forwarded to that of the other machine.
+    """The socket `host` of a near session, whose connections are forwarded to that of the session on the other machine.
 
     A connection that arrives while nothing carries it is kept until something does, so that it counts as present during an outage. A
     connection for which there is no room is closed.
     """
 
-    def __init__(self, folder: str, loop: Loop, forwards: Forwards, leads: str = "") -> None:
-        self.name, self.forwards = leads + HOST, forwards
+    def __init__(self, folder: str, loop: Loop, forwards: Forwards) -> None:
+        self.forwards = forwards
         self.waiting: list[socket.socket] = []
         self.listener = Listener(loop, os.path.join(folder, HOST), self.take, lambda: len(self.waiting) < MOST_SUBSCRIBERS,
                                  lambda fault: None)
@@ -51,7 +51,7 @@ class ForwardedHost:
         streams = self.forwards()
         if not streams:
             self.waiting.append(peer)
-        elif not streams.begin(self.name, peer):
+        elif not streams.begin(HOST, peer):
             peer.close()
 
     def wake(self) -> None:
@@ -70,7 +70,7 @@ class ForwardedHost:
         """Return True if somebody is connected here."""
         self.drop_gone()
         streams = self.forwards()
-        return bool(self.waiting) or streams is not None and streams.has_named(self.name)
+        return bool(self.waiting) or streams is not None and streams.has_named(HOST)
 
     def close(self) -> None:
         """Remove the socket."""
@@ -272,7 +272,8 @@ class NearSockets:
             return
         try:
             self.panes = SharedPanes(self.folder, self.loop, self.forwards, self.leads)
-            self.host = ForwardedHost(self.folder, self.loop, self.forwards, self.leads)
+            if not self.leads:
+                self.host = ForwardedHost(self.folder, self.loop, self.forwards)
         except (Fault, OSError) as fault:
             say(f"the panes or the pty host cannot be reached from here: {reason(fault)}")
 

@@ -19,7 +19,7 @@ TYPE_CHECKING = False
 if TYPE_CHECKING:
     from roam_live.relay.near_sockets import Forwards
 
-# So many windows are made at once, and then so many a second: each has a folder and three sockets, and the other machine may name others
+# So many windows are made at once, and then so many a second: each has a folder and two sockets, and the other machine may name others
 # without end.
 MADE_AT_ONCE = 99
 MADE_EACH_SECOND = 2.0
@@ -99,10 +99,6 @@ class NearWindows:
         """Removes a window."""
         self.windows.pop(number).close()
         self.parts(number)
-
-    def is_used(self) -> bool:
-        """Return True if a front end is connected at a window."""
-        return any(window.sockets.is_used() for window in self.windows.values())
 
     def wake(self) -> None:
         """Goes on where something else forwards connections than before."""

@@ -12,6 +12,7 @@ from roam_live.common.event_loop import comes
 from roam_live.common.files import is_own_folder
 from roam_live.common.io import Lines, read
 from roam_live.common.unix_socket import SocketPeer, connected_in, connected_now
+from roam_live.protocol.host_lines import SESSION, led, parted
 from roam_live.protocol.panes import ASKED
 
 TYPE_CHECKING = False
@@ -178,19 +179,19 @@ def environment_lines(session: AnySession, is_read_only: bool) -> list[str]:
 def send_environment(session: FolderSession) -> None:
     """Brings what this process has to a session, whose host reads it once it can; one that isn't there yet is spawned with that."""
     lines = environment_lines(session, False)
-    with contextlib.suppress(OSError), connected_now(session.folder / "host") as peer:
+    with contextlib.suppress(OSError), connected_now(session.common / "host") as peer:
         peer.send(joined(lines))
 
 
 def joined(lines: Iterable[str]) -> bytes:
-    """Lines as bytes."""
-    return "".join(f"{line}\n" for line in lines).encode()
+    """Return lines about the session as bytes."""
+    return "".join(f"{led(SESSION, line)}\n" for line in lines).encode()
 
 
 def asked_values(session: FolderSession) -> dict[str, str]:
     """The values that new panes of a session have, by its host; Fault tells why they aren't known."""
     try:
-        with connected_in(session.folder / "host", ASKED) as peer:
+        with connected_in(session.common / "host", ASKED) as peer:
             peer.send(joined([ENVIRONMENT]))
             told = read_environment(peer, time.monotonic() + ASKED)
     except OSError as fault:
@@ -207,7 +208,7 @@ def read_environment(peer: socket.socket, end: float) -> PaneEnvironment | None:
         chunk = read(peer.fileno())
         if chunk == b"":
             break
-        left -= {line.split(" ")[1] for line in lines.fed(chunk or b"") if told.take(line, ENVIRONMENT)}
+        left -= {line.split(" ")[1] for line in (parted(one)[1] for one in lines.fed(chunk or b"")) if told.take(line, ENVIRONMENT)}
     return None if left else told
 
 

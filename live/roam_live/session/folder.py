@@ -344,7 +344,7 @@ class FolderSession(Processes):
         shown = survey.places(self.shown_window(windows).folder) if windows else None
         size = "{} by {}".format(*shown.size()) if shown else "-"
         panes = None if None in places or not places else sum(len(one.rects) for one in places if one)
-        terminals = survey.terminals(windows[0].folder) if windows else None
+        terminals = survey.terminals(self.folder)
         named = " ".join(f"{window.number}:{window.title()}" if window.title() else f"{window.number}" for window in windows)
         more = f", {len(windows)} windows: {named}" if len(windows) > 1 else ""
         lacking = self.lacking() or (NO_ANSWER if terminals is None else "")

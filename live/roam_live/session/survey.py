@@ -9,6 +9,7 @@ import time
 
 from roam_live.common.io import Lines, read
 from roam_live.common.unix_socket import connected_now
+from roam_live.protocol.host_lines import SESSION, led
 from roam_live.protocol.panes import PanesState
 from roam_live.protocol.presence import CLIENTS
 
@@ -21,7 +22,7 @@ if TYPE_CHECKING:
 ANSWERS = 0.3
 
 # The last line of the answer to `clients`.
-CLIENT_COUNT = re.compile(rf"{CLIENTS} (\d{{1,4}})", re.ASCII)
+CLIENT_COUNT = re.compile(rf"{SESSION} {CLIENTS} (\d{{1,4}})", re.ASCII)
 
 
 class PanesQuestion:
@@ -42,7 +43,7 @@ class PanesQuestion:
 class ClientsQuestion:
     """Asks the socket `host` of a folder how many terminals are at the session."""
 
-    words = f"{CLIENTS}\n".encode()
+    words = f"{led(SESSION, CLIENTS)}\n".encode()
 
     def __init__(self, folder: str | os.PathLike[str]) -> None:
         self.path = os.path.join(folder, "host")
@@ -124,5 +125,5 @@ class Survey:
 def surveyed(sessions: list[tuple[FolderSession, list[FolderSession]]]) -> list[str]:
     """Return the lines of `mux ls` for sessions that run, each with its windows. Their sockets are asked side by side."""
     survey = Survey([str(window.folder) for _, windows in sessions for window in windows],
-                    [str(windows[0].folder) for _, windows in sessions if windows])
+                    [str(session.folder) for session, _ in sessions])
     return [session.line(survey, windows) for session, windows in sessions]

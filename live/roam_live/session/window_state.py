@@ -11,6 +11,9 @@ from roam_live.common.files import replace_text
 # What lies in a window's folder while its server only stands ready.
 SPARE = "spare"
 
+# What is noted of a window's processes once it is one, so that it is known where that mark was lost.
+JOINED = "joined"
+
 # What the environment of such a server has, also once it is a window's.
 SPARE_VARIABLE = "ROAM_SPARE"
 

@@ -12,7 +12,7 @@ from roam_live.protocol.window_lines import MOST_WINDOWS, name_in
 from roam_live.session.folder import FolderSession, command_of
 from roam_live.session.names import LONGEST_PATH
 from roam_live.session.processes import end_left
-from roam_live.session.window_state import SPARE, WINDOWS, WINDOWS_VERSION, is_spare_server, note_ends, numbers_in
+from roam_live.session.window_state import JOINED, SPARE, WINDOWS, WINDOWS_VERSION, is_spare_server, note_ends, numbers_in
 
 TYPE_CHECKING = False
 if TYPE_CHECKING:
@@ -76,14 +76,6 @@ class WindowedSession(FolderSession):
         """Whether the process of a role runs; where none is named, whether a window does, or the pty host."""
         return super().runs(role) or role is None and any(window.runs() for window in self.all_windows())
 
-    def listener(self, name: str) -> int | None:
-        """The process that listens at a socket of this name of any window; None where none does."""
-        for number in numbers_in(str(self.folder_of_windows)):
-            found = super().listener(f"{WINDOWS}/{number}/{name}")
-            if found is not None:
-                return found
-        return None
-
     def find(self) -> bool:
         """Whether it runs: as is noted, or else as the processes tell that answer at its sockets, which are known again from then on."""
         if self.process(self.served):
@@ -105,7 +97,7 @@ class WindowedSession(FolderSession):
 
     def is_ready(self) -> bool:
         """Whether a window is there, with the pty host."""
-        return any(is_listened(window.folder / "host") for window in self.windows())
+        return is_listened(self.folder / "host") and bool(self.windows())
 
     # ---- what belongs to it
 
@@ -252,7 +244,7 @@ class Window(FolderSession):
         """Whether its server only stands ready, and it is no window: the mark in its folder may be lost, as to a cleaner of old files."""
         if (self.folder / SPARE).exists():
             return True
-        is_joined = any(os.path.lexists(self.folder / name) for name in ("host", "terminals"))
+        is_joined = (self.state or {}).get(JOINED) or os.path.lexists(self.terminals)
         return not is_joined and is_spare_server(self.process("server"))
 
     def title(self) -> str:

@@ -44,11 +44,11 @@ def has_word(folder, word):
 
 
 def is_known(folder):
-    """Whether the host of a session's folder knows of a terminal there: until then it is told no colour of it."""
+    """Whether the host of a session knows of a terminal at the window of a folder: until then it is told no colour of it."""
     try:
         with socket.socket(socket.AF_UNIX) as peer:
-            peer.connect(str(folder / "host"))
-            peer.sendall(b"who\n")
+            peer.connect(str(folder.parents[1] / "host"))
+            peer.sendall(f"{folder.name} who\n".encode())
             time.sleep(0.2)
             return b"there " in peer.recv(65536)
     except OSError:

@@ -1,0 +1,152 @@
+"""What a pty host knows and reports of one window at the socket `host`: its terminals, its zoom, what runs in its panes, and notices."""
+from __future__ import annotations
+
+from collections.abc import Callable
+
+from roam_live.host.pending_spawns import HandedCommands
+from roam_live.host.socket_server import COMMANDS
+from roam_live.protocol.host_lines import SESSION
+from roam_live.protocol.zoom_record import OVER, NotedZoom
+
+TYPE_CHECKING = False
+if TYPE_CHECKING:
+    from roam_live.common.tty import Size
+    from roam_live.host.socket_peer import HostPeer
+    from roam_live.host.socket_server import HostSocket
+
+# The longest text of a notice.
+LONGEST_NOTICE = 200
+
+
+def notice_line(text: str) -> str:
+    """Return the line of a notice: printable ASCII, of bounded length."""
+    return "say " + "".join(letter if " " <= letter <= "~" else "?" for letter in text[:LONGEST_NOTICE])
+
+
+class WindowChannel:
+    """A window at the socket. `asked_commands` is called when one more connection asks what runs in the panes."""
+
+    def __init__(self, socket: HostSocket, window: int = SESSION, asked_commands: Callable[[], object] = lambda: None) -> None:
+        self.socket, self.loop, self.window, self.asked_commands = socket, socket.loop, window, asked_commands
+        self.peers: list[HostPeer] = []
+        # Commands for new panes.
+        self.handed = HandedCommands(self.loop, lambda peer, line: socket.send(peer, [line], SESSION))
+        # The notice that each terminal gets when it comes, and the panes whose programs asked for application codes of the keypad.
+        self.standing = ""
+        self.keypads: set[int] = set()
+        # What is noted of a zoom of this window.
+        self.zoom = NotedZoom()
+        socket.add(self)
+
+    # ---- who is here
+
+    def take_up(self, peer: HostPeer) -> None:
+        """Have a connection be here."""
+        peer.channel = self
+        self.peers.append(peer)
+        if peer.presence:
+            self.welcome(peer)
+        self.renew()
+
+    def leave(self, peer: HostPeer) -> None:
+        """Have a connection be here no more."""
+        self.peers.remove(peer)
+        peer.leave_channel()
+        self.renew()
+
+    def forget(self, peer: HostPeer) -> None:
+        """Forget a connection that has ended: its commands, and that a zoom is its own."""
+        self.handed.drop(peer)
+        if self.zoom.leave(peer.number):
+            self.loop.later(f"zoom left in {self.window}", OVER, self.end_zoom)
+            self.renew()
+
+    def said(self, peer: HostPeer, line: str) -> None:
+        """Take note that a connection said something of who is here."""
+        self.renew()
+        if line == COMMANDS:
+            self.asked_commands()
+
+    def welcome(self, peer: HostPeer) -> None:
+        """Report to a terminal that comes what it has to know."""
+        if self.socket.lines:
+            self.socket.lines.comes(self.window)
+        notices = [notice_line(self.standing)] if self.standing else []
+        self.send(peer, [f"keypad {pane} application" for pane in sorted(self.keypads)] + notices)
+
+    def has_terminals(self) -> bool:
+        """Whether a terminal is here."""
+        return any(peer.presence for peer in self.peers)
+
+    def renew(self) -> None:
+        """Report before the next wait what is new about who is there."""
+        self.loop.soon(self.tell_news)
+
+    def tell_news(self) -> None:
+        """Send each peer that asked what is new of the others, once it is known who they are."""
+        asked = [peer for peer in self.peers if peer.asks]
+        if self.loop.clock() < self.socket.knows_at:
+            self.loop.at(f"others of {self.window}", self.socket.knows_at, self.renew)
+            return
+        there = {peer.number: peer.presence for peer in self.peers if peer.presence}
+        for peer in asked:
+            self.send(peer, peer.news({number: one for number, one in there.items() if number != peer.number}, self.zoom.line()))
+
+    # ---- the zoom
+
+    def take_zoom(self, peer: HostPeer, line: str) -> bool:
+        """Take a line about a zoom of this window, and return True if it is one."""
+        if not self.zoom.take(peer.number, line):
+            return False
+        self.renew()
+        return True
+
+    def sized(self, size: Size | None) -> None:
+        """Takes note of the size that the window has; None where it isn't known."""
+        if self.zoom.sized(size):
+            self.renew()
+
+    def end_zoom(self) -> None:
+        """Notes no zoom any more whose maker has left, where the window hasn't a size of it."""
+        if self.zoom.end_left():
+            self.renew()
+
+    # ---- what runs, and notices
+
+    def has_asked_commands(self) -> bool:
+        """Whether somebody is there who asked what runs in front in the panes."""
+        return any(peer.asks_commands for peer in self.peers)
+
+    def tell_command(self, pane: int, generation: int, name: str) -> None:
+        """Tells those who asked what runs in front in that making of a pane, where it wasn't told so yet."""
+        for peer in [peer for peer in self.peers if peer.asks_commands and peer.commands.get(pane) != (generation, name)]:
+            peer.commands[pane] = generation, name
+            self.send(peer, [f"command {pane} {generation} {name}"])
+
+    def notify(self, text: str) -> None:
+        """Send each terminal a notice for its person."""
+        self.tell_terminals(notice_line(text))
+
+    def tell_keypad(self, pane: int, is_application: bool) -> None:
+        """Report the mode of a pane's keypad to each terminal, if it has changed."""
+        if is_application != (pane in self.keypads):
+            self.keypads ^= {pane}
+            self.tell_terminals(f"keypad {pane} {'application' if is_application else 'numeric'}")
+
+    def tell_terminals(self, line: str) -> None:
+        """Send a line to each terminal."""
+        for peer in [peer for peer in self.peers if peer.presence]:
+            self.send(peer, [line])
+
+    def send(self, peer: HostPeer, lines: list[str]) -> None:
+        """Send lines about this window, under the number by which a connection is here."""
+        self.socket.send(peer, lines, peer.at)
+
+    def close(self) -> None:
+        """End the window's part of the socket."""
+        for peer in list(self.peers):
+            self.leave(peer)
+        for moment in ("others of", "zoom left in"):
+            self.loop.drop(f"{moment} {self.window}")
+        self.loop.next.pop(self.tell_news, None)
+        self.socket.channels.pop(self.window, None)
