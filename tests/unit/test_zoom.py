@@ -4,7 +4,7 @@ import unittest
 
 from lived import Attached, Lived, by_chance
 from roam_live.common.tty import MOST
-from roam_live.frontend import zoom
+from roam_live.frontend import sizes, zoom
 from roam_live.frontend.commands import REFUSES
 from roam_live.frontend.split_math import above, size_at, size_for
 from roam_live.protocol.display_records import DisplayRecord
@@ -275,7 +275,7 @@ class Ends(Zoomed):
         person = Person(24, 80)
         person.paints(24, 80)
         person.types(b"\x02z")
-        self.assertEqual(person.display.told, zoom.UNTOLD)
+        self.assertEqual(person.display.told, sizes.UNTOLD)
         watcher = Person(24, 80, is_read_only=True, told=self.grid().places())
         watcher.types(b"\x02z\x02 \x02;\x02\x1b[1;5C")
         self.assertEqual((watcher.sizes(), [line for line in watcher.link.lines if "size" in line]), ([], []))

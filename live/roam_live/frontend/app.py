@@ -16,8 +16,9 @@ from roam_live.config.user_file import OWN
 from roam_live.frontend.bindings import NEWEST, OWN as KEY
 from roam_live.frontend.command_line import CommandRunner
 from roam_live.frontend.commands import Commands
-from roam_live.frontend.display import NO_SIZE, Display
+from roam_live.frontend.display import Display
 from roam_live.frontend.preload import Preloading
+from roam_live.frontend.sizes import NO_SIZE
 from roam_live.frontend.stalled_input import UntakenLines
 from roam_live.frontend.status_segments import StatusRow
 from roam_live.frontend.window_view import DrainingViews, WindowView, opened_server

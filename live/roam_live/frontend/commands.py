@@ -9,16 +9,18 @@ from collections.abc import Callable
 from roam_live.common import tty
 from roam_live.common.event_loop import Loop
 from roam_live.config.environment import ESCAPE_TIME, follows_latest, number_of
+from roam_live.frontend import sizes
 from roam_live.frontend.bindings import NEWEST, OWN, PICKS, Typing, help_with
 from roam_live.frontend.choose_list import Choosing, ChoosingWindow, Listing
 from roam_live.frontend.copymode.controller import INTERRUPT, CopyEvent, Copying
-from roam_live.frontend.display import NO_SIZE, Display
+from roam_live.frontend.display import Display
 from roam_live.frontend.key_help import Helping
 from roam_live.frontend.mouse import Pointing
 from roam_live.frontend.paste import Pastes
 from roam_live.frontend.preload import REPLACED
 from roam_live.frontend.prompt import Prompts
 from roam_live.frontend.resize_keys import BorderKeys
+from roam_live.frontend.sizes import NO_SIZE, Fitting
 from roam_live.frontend.spawn_commands import Handing
 from roam_live.frontend.synchronize_panes import Synchronizing
 from roam_live.frontend.zoom import Zooming
@@ -491,8 +493,7 @@ class Commands:
         """Gives the session this terminal's size, where somebody types here and it is to have that, whatever that cuts."""
         if not follows_latest() or self.link.is_read_only or self.requested_size or self.paused or self.zooming.is_on():
             return
-        size = self.display.room()
-        if self.session_size() not in (NO_SIZE, tty.largest(size)) and tty.is_large_enough(size):
+        if sizes.takes_latest(self.session_size(), self.display.room()):
             self.ask_size()
             self.display.tell(LATEST_TOLD, SIZED_TOLD)
 
@@ -625,9 +626,10 @@ class Commands:
         """Fits the session to this terminal, once something is known of it: a new one has nothing yet that could be cut."""
         if self.is_fitted:
             return
-        if self.is_new(self.panes.places):
+        step = sizes.first_step(self.is_new(self.panes.places), self.panes.is_awaited())
+        if step == sizes.IS_NEW:
             self.is_fitted, self.new_until = True, time.monotonic() + NEW
-        elif self.panes.is_awaited():
+        elif step == sizes.LATER:
             # What is told soon may be another size than what was painted so far.
             self.loop.later("fit", FITS_AGAIN, self.fit_first)
             return
@@ -654,10 +656,6 @@ class Commands:
         is_unknown = self.session.served == "relay" or self.host is not None and (self.host.is_known or self.host.is_there)
         return told if told is not None or is_unknown else False
 
-    def is_alone(self) -> bool:
-        """Return True if the pty host reports that nobody else types."""
-        return self.host is not None and self.host.has_others() is False
-
     def fit(self) -> None:
         """Fits the session to this terminal, as far as that may be: a new session goes by each size. Who else is there has to be known for
         the rest, and may be told soon."""
@@ -665,14 +663,16 @@ class Commands:
         self.showed_all = self.showed_all or size == self.left_size != NO_SIZE
         if self.host:
             self.host.say_here()
-        if self.zooming.is_on():
+        awaits_others = self.host is not None and self.host.is_awaited()
+        step = Fitting(size, own, self.link.is_read_only, self.zooming.is_on(), self.is_fresh(), awaits_others).step()
+        if step == sizes.ZOOMS:
             self.zooming.resized()
-        elif self.is_fresh():
+        elif step == sizes.TAKES:
             self.ask_size()
-        elif not (self.link.is_read_only or size in (NO_SIZE, own) or not tty.is_large_enough(own)):
-            if self.host and self.host.is_awaited():
-                self.loop.later("others", FITS_AGAIN, self.fit)
-                return
+        elif step == sizes.WAITS:
+            self.loop.later("others", FITS_AGAIN, self.fit)
+            return
+        elif step == sizes.FOLLOWS:
             if not self.zooming.mend():
                 self.follow(size, own)
                 return
@@ -692,15 +692,13 @@ class Commands:
         """Has the session follow this terminal from its size to another, where it does."""
         if self.follows(size, own, self.showed_all):
             self.ask_size()
-        elif own[0] >= size[0] and own[1] >= size[1]:
+        elif not sizes.is_smaller(own, size):
             self.display.tell(f"{size[0]} by {size[1]}, as another terminal has it; {self.prefix} r fits this one", FITS_TOLD)
         self.showed_all, self.left_size = False, NO_SIZE
 
     def follows(self, size: tty.Size, own: tty.Size, showed_all: bool) -> bool:
-        """Whether the session follows this terminal: it grows where nobody else types, and a lone one that showed all of it is followed to
-        any size. Nothing else makes one smaller, but the end of a zoom; and who may not be alone changes nothing."""
-        is_smaller = own[0] < size[0] or own[1] < size[1]
-        return showed_all and self.is_alone() if is_smaller else self.has_others() is False
+        """Whether the session follows this terminal."""
+        return sizes.follows(size, own, showed_all, self.has_others(), self.session.common is not None)
 
     # ---- panes
 

@@ -13,7 +13,9 @@ from roam_live.common.event_loop import WRITE, Loop, ready
 from roam_live.common.io import write
 from roam_live.common.text import printable
 from roam_live.config.styled_text import ROW_STYLE, Styled
+from roam_live.frontend import sizes
 from roam_live.frontend.outer_modes import ClipboardWriter, OuterModes
+from roam_live.frontend.sizes import NO_SIZE, View, has_all
 from roam_live.frontend.status_line import (ALL_PANES, BETWEEN, SYNCHRONIZED, ZOOMED, clipped, columns, cut, fitted, label_at, row_text,
                                             said, tail)
 from roam_live.protocol.colours import ASKED
@@ -42,9 +44,6 @@ MOST_CHOSEN = 8
 LEAVES = 1.0
 
 TOO_SMALL = "too small"
-
-# A size that isn't known.
-NO_SIZE = (0, 0)
 
 
 class OuterTerminal:
@@ -264,18 +263,8 @@ class Display:
         return rows + self.is_row_hidden, cols
 
     def wanted(self) -> tty.Size | None:
-        """The part of the session that is to be shown; None where that is the whole. The session's size may be told from another machine:
-        whatever it is, what is asked for is a part that can be."""
-        rows, cols = self.outer.size()
-        if self.zoomed:
-            return min(rows - self.has_row(), self.zoomed.rows), min(cols, self.zoomed.cols)
-        size = self.size()
-        if self.may_be_whole and self.has_row() and size[0] <= rows and size[1] <= cols:
-            return None
-        rows, cols = tty.largest((rows + (not self.has_row()), cols))
-        least = tty.LEAST_SHOWN
-        most = size if size != NO_SIZE else tty.MOST
-        return max(min(rows, most[0]), least[0]) - 1, max(min(cols, most[1]), least[1])
+        """The part of the session that is to be shown; None where that is the whole."""
+        return View(self.outer.size(), self.has_row(), self.size(), self.zoomed, self.may_be_whole).part()
 
     def choose(self, is_anew: bool = False, is_painted: bool = False) -> None:
         """Asks for what is to be shown, where that isn't what was asked for; else, where it has to be asked for anew, or be painted."""
@@ -288,7 +277,7 @@ class Display:
         if self.is_held:
             return
         part = self.wanted()
-        self.is_from_first = not self.zoomed and self.has_all(part) and (self.is_from_first or self.place != (0, 0))
+        self.is_from_first = not self.zoomed and has_all(self.size(), part) and (self.is_from_first or self.place != (0, 0))
         corner = (self.zoomed.row - 1, self.zoomed.col - 1) if self.zoomed else (0, 0) if self.is_from_first else None
         if (part, corner) != (self.asked, self.corner) or is_anew:
             self.corner = corner
@@ -297,26 +286,20 @@ class Display:
             self.repaint()
         self.moved()
 
-    def has_all(self, part: tty.Size | None) -> bool:
-        """Return True if a part has all rows and columns of the panes: the session's status row alone is left out."""
-        size = self.size()
-        return size != NO_SIZE and part == (size[0] - 1, size[1])
-
     def mend_place(self) -> None:
         """Ask for another part if the one that is shown has the session's own status row. The client chooses a part over the screen that it
         has, and may have the new one of a session that became smaller only after that was told here. What has all panes begins at the first
         row and column, whatever screen the client has; of another part the client has to choose again."""
         if not self.asked or self.corner or self.is_held or not self.is_beyond(self.asked):
             self.chosen = 0
-        elif self.has_all(self.asked):
+        elif has_all(self.size(), self.asked):
             self.choose()
         elif "part" not in self.loop.due and self.chosen < MOST_CHOSEN:
             self.loop.later("part", CHOSEN_AGAIN * 2 ** self.chosen, self.choose_again)
 
     def is_beyond(self, part: tty.Size) -> bool:
         """Return True if it is told where the part begins, and it reaches beyond the panes."""
-        rows, cols = self.size()
-        return self.is_placed and self.size() != NO_SIZE and (self.place[0] + part[0] > rows - 1 or self.place[1] + part[1] > cols)
+        return self.is_placed and sizes.is_beyond(self.size(), part, self.place)
 
     def choose_again(self) -> None:
         """Have the client choose the part again, if it still has to."""
@@ -329,10 +312,8 @@ class Display:
         where something is drawn over it, for the one that is shown."""
         self.asked, self.is_stale, self.is_placed = part, True, False
         if part and (self.corner or self.popup):
-            rows, cols = self.size()
-            top, left = self.corner or (max(0, min(place, most)) for place, most in zip(self.place, (rows - 1 - part[0], cols - part[1])))
-            self.place = top, left
-            self.says(f"part {top} {left} {part[0]} {part[1]}")
+            self.place = self.corner or sizes.kept_place(self.size(), part, self.place)
+            self.says("part {} {} {} {}".format(*self.place, *part))
         else:
             self.says("part {} {}".format(*part) if part else "whole")
 
@@ -349,7 +330,7 @@ class Display:
     def shows_all(self) -> bool:
         """Whether all of the session is shown, as far as its size is known: its status row may be left out."""
         size = self.size()
-        return self.zoomed is not None or self.asked is None or size == NO_SIZE or self.has_all(self.asked)
+        return self.zoomed is not None or self.asked is None or size == NO_SIZE or has_all(size, self.asked)
 
     # ---- a pane alone
 
@@ -447,23 +428,15 @@ class Display:
     def shown_at(self, row: int, col: int, is_near: bool = False) -> tuple[int, int] | None:
         """The place of the session that is shown at a row and a column of the terminal, all from 1; None where none is, as in the last row,
         or the nearest that is."""
-        rows, cols = self.painted_size
-        if is_near:
-            row, col = min(max(row, 1), rows), min(max(col, 1), cols)
-        if self.notice or self.is_stale or not (1 <= row <= rows and 1 <= col <= cols):
+        if self.notice or self.is_stale:
             return None
-        top, left = self.place if self.asked else (0, 0)
-        return top + row, left + col
+        return sizes.place_at((row, col), self.place if self.asked else (0, 0), self.painted_size, is_near)
 
     # ---- what is drawn over a part
 
     def visible(self, rect: Rect) -> Rect | None:
         """What is shown of a rectangle of the session, as a rectangle of the terminal; None where nothing is."""
-        top, left = self.place if self.asked else (0, 0)
-        rows, cols = self.asked or self.painted_size
-        row, col = max(1, rect.row - top), max(1, rect.col - left)
-        end, right = min(rows, rect.row - top + rect.rows - 1), min(cols, rect.col - left + rect.cols - 1)
-        return Rect(row, col, end - row + 1, right - col + 1) if row <= end and col <= right else None
+        return sizes.visible(rect, self.place if self.asked else (0, 0), self.asked or self.painted_size)
 
     def lay(self, popup: Popup) -> None:
         """Draws something over a part of what is shown, which stays that part: all is painted anew for it, but for that."""

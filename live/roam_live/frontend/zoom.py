@@ -4,10 +4,9 @@ from __future__ import annotations
 
 from roam_live.common import tty
 from roam_live.common.event_loop import Loop
-from roam_live.frontend.borders import splits_of
-from roam_live.frontend.display import NO_SIZE
-from roam_live.frontend.split_math import above, area_of, laid, size_for
-from roam_live.protocol.zoom_record import LEFT, MOST_ASKED, ZoomNote
+from roam_live.frontend import sizes
+from roam_live.frontend.sizes import NO_SIZE, Zoom, places_at
+from roam_live.protocol.zoom_record import LEFT, ZoomNote
 
 TYPE_CHECKING = False
 if TYPE_CHECKING:
@@ -23,23 +22,11 @@ FOCUS_WAIT = 1.0
 
 # So many seconds a line stands that tells why nothing is zoomed.
 TOLD = 3.0
-UNTOLD = "nothing is zoomed where the panes aren't told"
-ONE = "pane {} is the only one, and fills the session"
-LARGER = "pane {} has {} by {}, more than this terminal shows: nothing is zoomed"
 REFUSED = "the session isn't as large as it would have to be: nothing is zoomed"
 OTHERS = "the session has another size now: nothing is zoomed any more"
 
 # Acts after which nothing is zoomed, beside those that put another pane in focus.
 ENDS = ("split", "close", "next", "grow", "size")
-
-
-def places_at(places: Places, size: Size) -> Places:
-    """Where panes are once their session has a size."""
-    parts = splits_of(places.rects)
-    if not parts or size == places.size():
-        return places
-    box = area_of(places.rects)._replace(rows=size[0] - 1, cols=size[1])
-    return places._replace(rects=laid(parts, places.rects, box))
 
 
 class Zooming:
@@ -95,7 +82,7 @@ class Zooming:
         places = self.commands.panes.places if places and not places.focus else places
         size = self.own_size(places)
         before = places_at(places, size) if places and places.focus and places.is_covered() else None
-        why = self.refusal(before)
+        why = sizes.zoom_refusal(before, self.area())
         if why or not places:
             self.commands.display.tell(why, TOLD)
             return
@@ -114,24 +101,13 @@ class Zooming:
 
     def own_size(self, places: Places | None) -> Size:
         """The session's size where nobody has a zoom: that which another's end gives back."""
-        host, size = self.commands.host, self.commands.requested_size or (places.size() if places else (0, 0))
-        note = host.zoomed[1] if host else None
-        return note.size if note and size in note.asked else size
-
-    def refusal(self, places: Places | None) -> str:
-        """Why the pane in focus isn't zoomed, by where the panes are while nobody has a zoom; nothing where it is."""
-        if not places:
-            return UNTOLD
-        rect, area = places.rects[places.focus], self.area()
-        if len(places.rects) == 1:
-            return ONE.format(places.focus)
-        return LARGER.format(places.focus, rect.rows, rect.cols) if rect.rows > area[0] or rect.cols > area[1] else ""
+        host, size = self.commands.host, self.commands.requested_size or (places.size() if places else NO_SIZE)
+        return sizes.unzoomed_size(size, host.zoomed[1] if host else None)
 
     def ask(self, places: Places) -> None:
         """Asks for the size at which the pane fills the terminal, and shows the pane once the session has it."""
-        parts = splits_of(places.rects)
-        size = size_for(self.area(), self.note.size, above(self.pane, parts, places.rects)) if parts else places.size()
-        if size == places.size() or size in self.note.asked or len(self.note.asked) >= MOST_ASKED:
+        size = sizes.zoom_size(places, self.pane, self.area(), self.note)
+        if not size:
             self.show(places)
             return
         self.note = self.note._replace(asked=(*self.note.asked, size))
@@ -196,18 +172,13 @@ class Zooming:
         if not places or not self.pane:
             self.tell_over()
             return
-        sizes = [self.note.size, *self.note.asked]
-        earlier = [self.awaited.size(), *sizes[:-1]] if self.awaited else []
-        if places.focus != self.pane or places.rects.keys() != (self.before or places).rects.keys():
+        step = Zoom(self.pane, self.before, self.note, self.awaited, self.rects).told(places)
+        if step == sizes.ENDS:
             self.end()
-        elif not places.is_covered() or places.size() in earlier:
-            return
-        elif places.size() != sizes[-1]:
+        elif step == sizes.LOST:
             self.lose()
-        elif self.awaited:
+        elif step == sizes.ASKS:
             self.ask(places)
-        elif places.rects != self.rects:
-            self.end()
 
     def lose(self) -> None:
         """Ends it where somebody gave the session another size, which stays."""
@@ -223,7 +194,7 @@ class Zooming:
             return
         size = own if self.commands.follows(self.note.size, own, self.showed_all) else self.note.size
         self.before, self.note = places_at(self.before, size), ZoomNote(size, self.note.asked[-1:])
-        why = self.refusal(self.before._replace(focus=self.pane))
+        why = sizes.zoom_refusal(self.before._replace(focus=self.pane), self.area())
         if why:
             self.commands.display.tell(why, TOLD)
             self.end()
@@ -274,19 +245,17 @@ class Zooming:
         may not be taken yet. Where somebody else types, or the session had another size meanwhile, it may have that of his zoom: of that
         the host tells, maybe a moment after the panes are told, which is late enough."""
         note, size = self.left_by(), self.session_size()
-        if not note or size == NO_SIZE:
-            return False
-        if size not in note.asked:
+        step = sizes.left_zoom(note, size, note == self.unseen, self.commands.has_others() if note else None, is_late)
+        if step == sizes.UNSEEN:
             self.unseen = note
             self.loop.drop("zoom comes")
             self.loop.later("zoom left", LEFT, self.overrule_late)
-        elif is_late or note != self.unseen and self.commands.has_others() is False:
+        elif step == sizes.GIVES and note:
             self.loop.drop("zoom comes")
             self.commands.request_size(note.size)
-            return True
-        elif "zoom comes" not in self.loop.due:
+        elif step == sizes.AWAITS and "zoom comes" not in self.loop.due:
             self.loop.later("zoom comes", LEFT, lambda: self.commands.mend(is_late=True))
-        return False
+        return step == sizes.GIVES
 
     def session_size(self) -> Size:
         """The session's size, or the one that it was given and may still get."""

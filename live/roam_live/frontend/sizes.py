@@ -1,0 +1,225 @@
+"""Decisions about size, as functions of values: when a session takes a terminal's size, which part of it a terminal shows, and what a zoom
+asks for.
+
+Nothing here knows a terminal, a socket or a clock, so each decision is tested as a table. A size is rows and columns.
+"""
+from __future__ import annotations
+
+from collections import namedtuple
+
+from roam_live.common import tty
+from roam_live.frontend.borders import splits_of
+from roam_live.frontend.split_math import above, area_of, laid, size_for
+from roam_live.protocol.panes import Rect
+from roam_live.protocol.zoom_record import MOST_ASKED
+
+TYPE_CHECKING = False
+if TYPE_CHECKING:
+    from roam_live.common.tty import Size
+    from roam_live.protocol.panes import Places
+    from roam_live.protocol.zoom_record import ZoomNote
+
+    # A row and a column, both from 0 or both from 1.
+    Place = tuple[int, int]
+
+# An unknown size.
+NO_SIZE = (0, 0)
+
+# ---- whose size the session has
+
+# What fitting the session to a terminal comes to: the zoom takes the new size, the session takes it, nothing changes, the front end waits
+# until the host has reported who else is attached, or `follows` decides.
+ZOOMS, TAKES, KEEPS, WAITS, FOLLOWS = "zooms", "takes", "keeps", "waits", "follows"
+
+# What a front end does once it first knows something of the session: nothing is cut in a new one, the panes may be reported soon, or it
+# fits the session.
+IS_NEW, LATER, FITS = "new", "later", "fits"
+
+
+class Fitting(namedtuple("Fitting", "size own is_read_only is_zoomed is_fresh awaits_others")):
+    """The session's size and the largest one that the terminal shows whole; whether the terminal types, has a zoom, belongs to a session
+    launched just now, and may soon hear who else is attached."""
+
+    size: Size
+    own: Size
+    is_read_only: bool
+    is_zoomed: bool
+    is_fresh: bool
+    awaits_others: bool
+
+    def step(self) -> str:
+        """Return what fitting the session to the terminal comes to."""
+        if self.is_zoomed:
+            return ZOOMS
+        if self.is_fresh:
+            return TAKES
+        if self.is_read_only or self.size in (NO_SIZE, self.own) or not tty.is_large_enough(self.own):
+            return KEEPS
+        return WAITS if self.awaits_others else FOLLOWS
+
+
+def first_step(is_new: bool, is_awaited: bool) -> str:
+    """Return what a front end does once it first knows something of the session."""
+    return IS_NEW if is_new else LATER if is_awaited else FITS
+
+
+def is_smaller(own: Size, size: Size) -> bool:
+    """Return True if a terminal shows fewer rows or fewer columns than the session has."""
+    return own[0] < size[0] or own[1] < size[1]
+
+
+def follows(size: Size, own: Size, showed_all: bool, has_others: bool | None, has_folder: bool) -> bool:
+    """Return True if the session takes this terminal's size.
+
+    The session grows if nobody else types. It shrinks only for a terminal that showed all of it and is known to be alone, which needs the
+    session's folder. `has_others` is None if that is unknown.
+    """
+    if has_others is not False:
+        return False
+    return showed_all and has_folder if is_smaller(own, size) else True
+
+
+def takes_latest(size: Size, room: Size) -> bool:
+    """Return True if a session of a size takes that of the terminal at which somebody types, by `window-size latest`."""
+    return size not in (NO_SIZE, tty.largest(room)) and tty.is_large_enough(room)
+
+
+# ---- which part a terminal shows
+
+
+class View(namedtuple("View", "terminal has_row size zoomed may_be_whole")):
+    """A terminal's size, whether its last row is the front end's own, the session's size, the rectangle of a zoomed pane or None, and
+    whether the session may be shown with its own status row."""
+
+    terminal: Size
+    has_row: bool
+    size: Size
+    zoomed: Rect | None
+    may_be_whole: bool
+
+    def part(self) -> Size | None:
+        """Return the size of the part that is to be shown, None for the whole session. Another machine may report any size: what is asked
+        for is always possible."""
+        rows, cols = self.terminal
+        if self.zoomed:
+            return min(rows - self.has_row, self.zoomed.rows), min(cols, self.zoomed.cols)
+        if self.may_be_whole and self.has_row and self.size[0] <= rows and self.size[1] <= cols:
+            return None
+        rows, cols = tty.largest((rows + (not self.has_row), cols))
+        least, most = tty.LEAST_SHOWN, self.size if self.size != NO_SIZE else tty.MOST
+        return max(min(rows, most[0]), least[0]) - 1, max(min(cols, most[1]), least[1])
+
+
+def has_all(size: Size, part: Size | None) -> bool:
+    """Return True if a part has all rows and columns of the panes: only the session's status row is left out."""
+    return size != NO_SIZE and part == (size[0] - 1, size[1])
+
+
+def is_beyond(size: Size, part: Size, place: Place) -> bool:
+    """Return True if a part that begins at a place, from 0, reaches beyond the panes of a session of a known size."""
+    return size != NO_SIZE and (place[0] + part[0] > size[0] - 1 or place[1] + part[1] > size[1])
+
+
+def kept_place(size: Size, part: Size, place: Place) -> Place:
+    """Return where a part begins that stays where it is, as far as the session's size allows."""
+    return max(0, min(place[0], size[0] - 1 - part[0])), max(0, min(place[1], size[1] - part[1]))
+
+
+def visible(rect: Rect, place: Place, extent: Size) -> Rect | None:
+    """Return the rectangle of the terminal that shows a rectangle of the session, None if none does. The terminal shows `extent` rows and
+    columns of the session, from a place on."""
+    row, col = max(1, rect.row - place[0]), max(1, rect.col - place[1])
+    end = min(extent[0], rect.row - place[0] + rect.rows - 1)
+    right = min(extent[1], rect.col - place[1] + rect.cols - 1)
+    return Rect(row, col, end - row + 1, right - col + 1) if row <= end and col <= right else None
+
+
+def place_at(at: Place, place: Place, extent: Size, is_near: bool = False) -> Place | None:
+    """Return the cell position of the session that the terminal shows at a row and a column, from 1; None if it shows none there, unless
+    the nearest is asked for."""
+    rows, cols = extent
+    row, col = (min(max(at[0], 1), rows), min(max(at[1], 1), cols)) if is_near else at
+    return (place[0] + row, place[1] + col) if 1 <= row <= rows and 1 <= col <= cols else None
+
+
+# ---- a zoom
+
+# Why a pane is not zoomed.
+UNTOLD = "nothing is zoomed where the panes aren't told"
+ONE = "pane {} is the only one, and fills the session"
+LARGER = "pane {} has {} by {}, more than this terminal shows: nothing is zoomed"
+
+# What becomes of a zoom once the panes were reported: it ends and the session gets its size back, it is lost since somebody gave the
+# session another size, the front end asks for another size or shows the pane, or nothing changes.
+ENDS, LOST, ASKS, STAYS = "ends", "lost", "asks", "stays"
+
+# What becomes of a zoom that a front end left behind: nothing is known, the session doesn't have its size, the session gets its own back,
+# or the front end waits whether another zoom is reported.
+NOTHING, UNSEEN, GIVES, AWAITS = "nothing", "unseen", "gives", "awaits"
+
+
+def places_at(places: Places, size: Size) -> Places:
+    """Return where the panes are once their session has a size."""
+    parts = splits_of(places.rects)
+    if not parts or size == places.size():
+        return places
+    box = area_of(places.rects)._replace(rows=size[0] - 1, cols=size[1])
+    return places._replace(rects=laid(parts, places.rects, box))
+
+
+def zoom_refusal(places: Places | None, area: Size) -> str:
+    """Return why the pane in focus is not zoomed to fill an area, "" if it is. The places are those without any zoom."""
+    if not places:
+        return UNTOLD
+    rect = places.rects[places.focus]
+    if len(places.rects) == 1:
+        return ONE.format(places.focus)
+    return LARGER.format(places.focus, rect.rows, rect.cols) if rect.rows > area[0] or rect.cols > area[1] else ""
+
+
+def unzoomed_size(size: Size, note: ZoomNote | None) -> Size:
+    """Return the session's size without anybody's zoom, which the end of the noted one gives back."""
+    return note.size if note and size in note.asked else size
+
+
+def zoom_size(places: Places, pane: int, area: Size, note: ZoomNote) -> Size | None:
+    """Return the size to ask the session for, so that a pane fills an area; None if the pane is shown as it is."""
+    parts = splits_of(places.rects)
+    size = size_for(area, note.size, above(pane, parts, places.rects)) if parts else places.size()
+    return None if size == places.size() or size in note.asked or len(note.asked) >= MOST_ASKED else size
+
+
+class Zoom(namedtuple("Zoom", "pane before note awaited rects")):
+    """A zoomed pane, where the panes are without the zoom, what the host was told of it, the places for which a size was asked last or
+    None, and the rectangles with which the pane was shown."""
+
+    pane: int
+    before: Places | None
+    note: ZoomNote
+    awaited: Places | None
+    rects: dict[int, Rect]
+
+    def told(self, places: Places) -> str:
+        """Return what becomes of the zoom once the panes are reported at these places."""
+        sizes = [self.note.size, *self.note.asked]
+        earlier = [self.awaited.size(), *sizes[:-1]] if self.awaited else []
+        if places.focus != self.pane or places.rects.keys() != (self.before or places).rects.keys():
+            return ENDS
+        if not places.is_covered() or places.size() in earlier:
+            return STAYS
+        if places.size() != sizes[-1]:
+            return LOST
+        return ASKS if self.awaited else STAYS if places.rects == self.rects else ENDS
+
+
+def left_zoom(note: ZoomNote | None, size: Size, was_unseen: bool, has_others: bool | None, is_late: bool) -> str:
+    """Return what becomes of a zoom that a front end left behind.
+
+    What that front end typed last may not have been taken, so a session without a size of the zoom may still get one. If somebody else
+    types, or the session had another size meanwhile, its size may be that of his zoom, which the host reports a moment later.
+    """
+    if not note or size == NO_SIZE:
+        return NOTHING
+    if size not in note.asked:
+        return UNSEEN
+    return GIVES if is_late or not was_unseen and has_others is False else AWAITS
