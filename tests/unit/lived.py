@@ -97,7 +97,7 @@ class Attached(Case):
 
     def types(self, text):
         """Types, and has the session take it."""
-        self.person.commands.fed(text)
+        self.person.keyboard.fed(text)
         self.take()
 
     def by_another(self, *acts):

@@ -14,6 +14,7 @@ from roam_live.common.event_loop import comes
 from roam_live.common.process import begun
 from roam_live.frontend import app, display, paste, window_view
 from roam_live.frontend.app import FrontEnd
+from roam_live.frontend.modes import ScrollMode
 from roam_live.input import mouse_reports
 from roam_live.input.extended_keys import QUERY, WANTED, given_back
 from roam_live.protocol import client_link
@@ -520,7 +521,7 @@ class Loop(Fronts):
         self.front.display.outer.waiting.clear()
         os.write(self.master, b"x")
         self.front.link.waiting[:] = bytes(1 << 24)
-        with mock.patch.object(self.front.commands, "fed") as feeds, mock.patch.object(self.front.link, "send", return_value=True):
+        with mock.patch.object(self.front.keyboard, "fed") as feeds, mock.patch.object(self.front.link, "send", return_value=True):
             self.turn(1)
             feeds.assert_not_called()
             del self.front.link.waiting[0]
@@ -956,7 +957,7 @@ class Wishes(Case):
         self.assertEqual(person.types(b"ls\r\x02%\x02x\x02o\x02q1\x02\x1b[C\x02r"), [])
         self.assertEqual(person.display.told, "")
         self.assertEqual(person.types(b"\x02[\x02]\x02="), [])
-        self.assertEqual((person.display.told, person.commands.typing.is_scrolling()), ("no rows are kept that could be shown", False))
+        self.assertEqual((person.display.told, person.modes.has(ScrollMode)), ("no rows are kept that could be shown", False))
         person.types(b"\x02?")
         self.assertTrue(person.display.notice)
         person.types(b"\x02d")

@@ -13,7 +13,8 @@ from roam_live.config.environment import choose_by_file
 from roam_live.config.user_file import OWN, settings_path
 from roam_live.frontend import app, command_line, window_view
 from roam_live.frontend.app import FrontEnd
-from roam_live.frontend.choose_list import WINDOWS_LINE
+from roam_live.frontend.lists import WINDOWS_LINE
+from roam_live.frontend.modes import CopyPasteMode
 from roam_live.frontend.windows import BY_HAND, DROPPED, FAR, LATE, LISTS, NOT_AWAITED, NO_ROOM, OPENING, OPENS, SMALL, TAKES_LONG
 from roam_live.input.keys import acts_of_bytes
 from test_display import PlayedPanes, painting, places
@@ -531,7 +532,8 @@ class Told(Windows):
         self.add(3)
         self.tell("window 3 -")
         self.type(b"\x023")
-        self.front.commands.copying.is_pasting = self.front.commands.keys.is_pasting = True
+        self.front.modes.push(CopyPasteMode())
+        self.front.keyboard.keys.is_pasting = True
         del self.windows[3]
         self.tell("gone 3")
         self.type(b"rm\r\x1b[201~z")
@@ -723,7 +725,7 @@ class Settings(Windows):
         self.assertEqual((self.front.display.told, self.front.commands.pointing.is_on, self.front.prefix),
                          ("other.conf:2: foo isn't there in roam", False, "C-a"))
         self.read("")
-        self.assertEqual((self.front.prefix, self.front.commands.typing.own), ("C-b", {}))
+        self.assertEqual((self.front.prefix, self.front.modes.keymap.own), ("C-b", {}))
 
     def test_refused(self):
         """Where a variable can't be gone by that is told, and the prefix stays."""

@@ -199,7 +199,7 @@ class Dragged(Pointed):
     def drag(self, *reports):
         """Has the mouse report, with the session taking all between; what the session was told in all."""
         for one in reports:
-            self.dragging.commands.fed(f"\x1b[<{one[0]};{one[2]};{one[1]}{'m' if one[3:] else 'M'}".encode())
+            self.dragging.keyboard.fed(f"\x1b[<{one[0]};{one[2]};{one[1]}{'m' if one[3:] else 'M'}".encode())
             for _ in range(3):
                 self.take()
             self.now += 0.02
@@ -249,7 +249,7 @@ class Dragged(Pointed):
         session = Played()
         session.split(1, "right")
         person = self.session(session)
-        person.commands.fed(b"\x1b[<0;40;5M\x1b[<32;41;5M\x1b[<32;45;5M\x1b[<32;50;5M\x1b[<0;50;5m")
+        person.keyboard.fed(b"\x1b[<0;40;5M\x1b[<32;41;5M\x1b[<32;45;5M\x1b[<32;50;5M\x1b[<0;50;5m")
         self.assertEqual(person.link.lines[-1:], ["focus 1 ; grow 1"])
         self.take()
         self.assertEqual(person.link.lines[-1:], ["focus 1 ; grow 9"])

@@ -5,7 +5,7 @@ from unittest import mock
 
 from aids import Case
 from scrollback_played import PlayedScrollback
-from roam_live.frontend import choose_list
+from roam_live.frontend import lists
 from roam_live.frontend.copymode import selection
 from roam_live.frontend.copymode.clipboard import MOST_COPIED
 from roam_live.frontend.copymode.controller import LENDS, MOST_WAITING, NO_ROOM
@@ -654,7 +654,7 @@ class Pointed(Copied):
         """Points; tells the acts."""
         before = len(person.link.lines)
         for one in reports:
-            person.commands.fed(report(*one))
+            person.keyboard.fed(report(*one))
         return [line for line in person.link.lines[before:] if line.startswith("focus")]
 
     def test_wheel(self):
@@ -790,7 +790,7 @@ class Chosen(Copied):
             self.host.connects = False
             self.pass_time(0.1)
             person.loop.do_due()
-        self.assertEqual((len(self.host.stored), person.display.told), (1, choose_list.UNTOLD))
+        self.assertEqual((len(self.host.stored), person.display.told), (1, lists.UNTOLD))
 
     def test_refused(self):
         """What is refused, or not taken, is told, and what waits behind it is dropped."""
@@ -814,13 +814,13 @@ class Chosen(Copied):
         person = self.person(is_read_only=True, opens=False)
         self.scrollback.texts = [b"one"]
         person.types(b"\x02]\x02=")
-        self.assertEqual((self.host.stored, person.commands.choosing.is_on()), ([], False))
+        self.assertEqual((self.host.stored, person.commands.lists.is_on()), ([], False))
 
     def test_read(self):
         """Lines that are only read scroll, until q, Return or the prefix; in the midst of something else they aren't shown."""
         person, lines = self.person(opens=False), [f"row {number}" for number in range(60)]
         for ends, acts in ((b"q", []), (b"\r", []), (b"\x1b", []), (b"\x02o", ["next"])):
-            self.assertTrue(person.commands.listing.begin(lines))
+            self.assertTrue(person.commands.lists.show_lines(lines))
             self.settle(person)
             self.assertEqual((person.shown()[:2], person.shown()[23]),
                              (["row 0", "row 1"], "line 1 of 60: up, down, PgUp and PgDn scroll, q leaves"))
@@ -828,11 +828,11 @@ class Chosen(Copied):
             self.assertEqual((person.shown()[22], person.shown()[23][:13]), ("row 59", "line 60 of 60"))
             self.assertEqual(person.types(b"\x1b[5~"), [])
             self.assertEqual(person.shown()[23][:13], "line 50 of 60")
-            self.assertEqual((person.types(ends), person.commands.typed(person.commands.keys.ended())), (acts, None))
+            self.assertEqual((person.types(ends), person.keyboard.typed(person.keyboard.keys.ended())), (acts, None))
             self.settle(person)
-            self.assertFalse(person.commands.listing.is_on())
+            self.assertFalse(person.commands.lists.is_on())
         person.types(b"\x02")
-        self.assertFalse(person.commands.listing.begin(lines))
+        self.assertFalse(person.commands.lists.show_lines(lines))
 
     def test_list(self):
         """C-b = lists the buffers over the pane, the newest first; the one that is chosen is pasted."""
@@ -846,13 +846,13 @@ class Chosen(Copied):
             self.assertEqual(person.types(keys), [])
             self.assertTrue(person.display.line().startswith(f"buffer {number} of 3"), keys)
         self.assertEqual(person.types(b"\r"), [])
-        self.assertEqual((self.host.stored[0][1], person.commands.choosing.is_on()), (1, False))
+        self.assertEqual((self.host.stored[0][1], person.commands.lists.is_on()), (1, False))
         self.assertEqual(self.settle(person), ["unmask", "part 23 80"])
         person.commands.pastes.answered(self.host.stored[0][0], "stored", "")
         person.types(b"\x02=")
         self.settle(person)
         self.assertEqual(person.types(b"Gkkkq"), [])
-        self.assertFalse(person.commands.choosing.is_on())
+        self.assertFalse(person.commands.lists.is_on())
         self.assertEqual(person.types(b"x"), ["char 78"])
 
     def test_list_ends(self):
@@ -863,9 +863,9 @@ class Chosen(Copied):
             self.scrollback.texts = [b"one"]
             person.types(b"\x02=")
             self.settle(person)
-            self.assertTrue(person.commands.choosing.is_on())
+            self.assertTrue(person.commands.lists.is_on())
             ends(person)
-            self.assertFalse(person.commands.choosing.is_on())
+            self.assertFalse(person.commands.lists.is_on())
         person = self.person(told=PANES, opens=False)
         self.scrollback.texts = [b"one"]
         person.types(b"\x02=")
@@ -880,4 +880,4 @@ class Chosen(Copied):
         person.types(b"\x02=")
         person.types(b"\x02]")
         self.scrollback.answers()
-        self.assertEqual((person.commands.choosing.is_on(), len(self.host.stored)), (False, 1))
+        self.assertEqual((person.commands.lists.is_on(), len(self.host.stored)), (False, 1))

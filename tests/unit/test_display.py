@@ -13,9 +13,11 @@ from roam_live.common import tty
 from roam_live.common.event_loop import Loop
 from roam_live.config.environment import PREFIXES
 from roam_live.frontend import display
-from roam_live.frontend.bindings import HELP, help_with
+from roam_live.frontend.bindings import HELP, Keymap, help_with
 from roam_live.frontend.commands import Commands
 from roam_live.frontend.display import Display, wrapped
+from roam_live.frontend.interpreter import Interpreter
+from roam_live.frontend.modes import ModeStack
 from roam_live.input.keys import BRACKETS
 from roam_live.protocol.display_records import DisplayRecord
 from roam_live.protocol.panes import Places, Rect
@@ -90,7 +92,7 @@ class ClientLink:
 class AnySession:
     """A session's folder, and where its panes are."""
 
-    served = "server"
+    served, number = "server", 0
 
     def __init__(self, folder=None):
         self.folder = self.common = folder or "/nowhere"
@@ -202,9 +204,12 @@ class Person:
             self.display = Display(self.loop, self.link.say)
         self.panes = PlayedPanes(self.place)
         self.host = host
-        self.commands = Commands(self.place, self.panes, self.link, self.display, self.loop, self.leave, lambda places: is_new, is_whole,
-                                 host)
-        self.commands.choose("C-b")
+        self.modes = ModeStack(Keymap())
+        self.commands = Commands(self.place, self.panes, self.link, self.display, self.loop, self.leave, self.modes, lambda places: is_new,
+                                 is_whole, host)
+        self.keyboard = Interpreter(self.modes, self.display, self.loop, lambda: self.commands)
+        self.commands.takes = self.keyboard.take
+        self.keyboard.choose("C-b")
         self.display.begin()
         self.commands.show_known()
         self.commands.fit_first()
@@ -216,7 +221,7 @@ class Person:
     def types(self, text):
         """Types, and tells the acts of it."""
         before = len(self.link.acts)
-        self.commands.fed(text)
+        self.keyboard.fed(text)
         return self.link.acts[before:]
 
     def sizes(self):

@@ -3,9 +3,9 @@ import random
 import unittest
 
 from lived import Attached, Lived
+from modes_played import PlayedModes
 from roam_live.config.environment import choose_by_file
 from roam_live.config.loader import Binding
-from roam_live.frontend.bindings import Typing
 from roam_live.frontend.outer_modes import OuterModes
 from roam_live.input.extended_keys import ANSWERED, BACK_TAB, QUERY, WANTED, answered, extended_key, form_for
 from roam_live.input.key_names import named, named_key, names_of_key
@@ -104,9 +104,7 @@ class Bound(unittest.TestCase):
         own = {("root", name): Binding([["next-window"]], False) for name in ("C-tab", "enter", "M-h", "C-M-a")}
         for text, name in ((told("27;5;9"), "C-tab"), ("\t", ""), (told("27;2;13"), "enter"), ("\x1bh", "M-h"), (told("27;3;104"), "M-h"),
                            ("\x1b\x01", "C-M-a"), (told("27;7;97"), "C-M-a"), ("\x1bj", ""), ("\x1b", "")):
-            typing, keys = Typing(), Keys()
-            typing.own = own
-            asked = [typing.asked(key, 1.0, 24) for key in typing.joined(keys.fed(text.encode()) + keys.ended())]
+            asked = PlayedModes(own=own).told(text.encode())
             self.assertEqual(asked if name else [wish for _, wish in asked if wish], [([], f"own root {name}")] if name else [], text)
 
 
@@ -150,7 +148,7 @@ class Typed(Attached):
         self.assertEqual(self.heard, ["char 9", "next", *form.split(" ; "), "char 9"])
         self.heard.clear()
         commands.link.predict = lambda word: None
-        commands.grant("synchronize", None)
+        self.person.keyboard.grant("synchronize")
         self.types(told("27;5;9").encode())
         self.assertEqual(self.heard, [f"{form} ; focus 2 ; char 9 ; focus 1"])
         self.types(told("27;5;98").encode() + b"o")

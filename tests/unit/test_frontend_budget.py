@@ -89,6 +89,6 @@ class Budget(Fronts):
         self.connect()
         self.paints()
         keys = CountedKeys([Key("x", "x")] * 1000)
-        with mock.patch.object(self.front.commands.typing, "joined", lambda keys: keys):
-            self.front.commands.typed(keys)
+        with mock.patch.object(self.front.modes.keymap, "joined", lambda keys: keys):
+            self.front.keyboard.typed(keys)
         self.assertEqual((keys.copied, self.front.link.waiting.count(b"char 78")), (0, 1000))

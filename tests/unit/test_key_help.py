@@ -75,40 +75,40 @@ class Shown(Case):
     def test_scrolls(self):
         """On a small terminal it scrolls, and another key leaves; the last row tells so."""
         person = Person(10, 80)
-        person.commands.fed(b"\x02?")
+        person.keyboard.fed(b"\x02?")
         text = self.shown(person)
         lines = help_with("C-b").split("\n")
         self.assertIn(lines[8], text)
         self.assertNotIn(lines[9], text)
         self.assertIn(f"1 to 9 of {len(lines)}: arrows, PgUp and PgDn scroll, another key leaves", text)
-        person.commands.fed(b"\x1b[B")
+        person.keyboard.fed(b"\x1b[B")
         self.assertIn(f"2 to 10 of {len(lines)}", self.shown(person))
-        person.commands.fed(b"\x1b[6~")
+        person.keyboard.fed(b"\x1b[6~")
         self.assertIn(f"11 to 19 of {len(lines)}", self.shown(person))
-        person.commands.fed(b"G")
+        person.keyboard.fed(b"G")
         text = self.shown(person)
         self.assertIn(lines[-1], text)
         self.assertIn(f"{len(lines) - 8} to {len(lines)} of {len(lines)}", text)
-        person.commands.fed(b"g")
+        person.keyboard.fed(b"g")
         self.assertIn("1 to 9 of", self.shown(person))
-        person.commands.fed(b"q")
+        person.keyboard.fed(b"q")
         self.assertEqual(person.display.notice, "")
 
     def test_fits(self):
         """Where it has room any key leaves."""
         for key in (b"\x1b[B", b" ", b"q"):
             person = Person(24, 80)
-            person.commands.fed(b"\x02?")
+            person.keyboard.fed(b"\x02?")
             self.assertNotIn("scroll, another", self.shown(person))
-            person.commands.fed(key)
+            person.keyboard.fed(key)
             self.assertEqual(person.display.notice, "")
 
     def test_own(self):
         person = Person(40, 80)
-        person.commands.typing.own = OWN
-        person.commands.fed(b"\x02?")
+        person.modes.keymap.own = OWN
+        person.keyboard.fed(b"\x02?")
         self.assertIn("C-b and then, by roam.conf:", self.shown(person))
-        person.commands.fed(b"j")
+        person.keyboard.fed(b"j")
         self.assertEqual(person.display.notice, "")
 
 

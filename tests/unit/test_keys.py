@@ -1,8 +1,6 @@
-"""Keys of bytes, and what they ask for: the spellings of xterm and the VT220, and the keys of `C-b ?`."""
+"""Keys of bytes: the spellings of xterm and the VT220."""
 import unittest
 
-from roam_live.config.environment import PREFIXES
-from roam_live.frontend.bindings import Typing, help_with
 from roam_live.input.keys import Key, Keys, acts_of, acts_of_bytes
 
 KEYS = (
@@ -22,46 +20,6 @@ KEYS = (
     (b"\x1b[15~", "char 1b, char 5b, char 31, char 35, char 7e"), (b"\x1bx", "char 1b, char 78"), (b"\x1b\x1b[A", "char 1b, key up"),
     (b"\x1b[1;2A", "char 1b, char 5b, char 31, char 3b, char 32, char 41"), (b"\x1b[", "char 1b, char 5b"),
 )
-
-# What is typed, and the acts and the wish of the last key.
-ASKED = (
-    (b"\x02%", "", "split right"), (b'\x02"', "", "split down"), (b"\x02x", "", "close"), (b"\x02o", "next", ""), (b"\x027", "", "go 7"),
-    (b"\x02q", "", "panes"), (b"\x02q7", "focus 7", "picked"),
-    (b"\x02\x1b[A", "", "up"), (b"\x02\x1b[D", "", "left"), (b"\x02\x1b[1;5C", "", "border right"), (b"\x02\x1b[1;5A", "", "border up"),
-    (b"\x02\x1b[1;5C\x1b[1;5C", "", "border right"), (b"\x02\x02", "char 2", ""), (b"\x02d", "", "detach"), (b"\x02r", "", "repaint"),
-    (b"\x02?", "", "help"), (b"\x02Z", "", "unknown"), (b"\x02[", "", "scroll"), (b"\x02[\x1b[5~", "view 12", "scroll"),
-    (b"\x02\x1b[5~", "view 12", "scroll"), (b"\x02[\x1b[A", "view 1", "scroll"), (b"\x02[\x1b[B", "view -1", "scroll"),
-    (b"\x02[g", "view 500", "scroll"), (b"\x02[G", "view -500", "scroll"), (b"\x02[q", "view -500", "scrolled"),
-    (b"\x02[\x1b", "view -500", "scrolled"), (b"\x02[\x03", "view -500", "scrolled"), (b"\x02[\r", "view -500", "scrolled"),
-    (b"\x02[x", "", ""), (b"\x02[/", "", ""), (b"\x02[\x15", "", ""), (b"\x02[xq", "view -500", "scrolled"), (b"\x02[qx", "char 78", ""),
-    (b"\x02[\x02", "view -500", "scrolled"), (b"\x02[\x02o", "next", ""), (b"\x02[\x1b[200~", "view -500", "scrolled"),
-    (b"\x02[\x1b[200~x", "", ""), (b"\x02[\x1b[200~x\x1b[201~y", "char 79", ""), (b"\x1b[200~\x02x", "", ""),
-    (b"\x1b[200~\x02x\x1b[201~\x02x", "", "close"), (b"\x1b[201~", "", ""), (b"\x02\x1b[201~", "", "unknown"),
-)
-
-# What is typed chunk by chunk, with the acts and the wish of each key, as `C-b ?` and roam-mux(1) have them.
-TYPED = (
-    (b"ab\x02", [(["char 61"], ""), (["char 62"], ""), ([], "")]),
-    (b"\x02%x", [([], ""), ([], "split right"), (["char 78"], "")]),
-    (b"\x02[kkjq", [([], ""), ([], "scroll"), (["view 1"], "scroll"), (["view 1"], "scroll"), (["view -1"], "scroll"),
-                    (["view -500"], "scrolled")]),
-    (b"\x02[\x1b[6~", [([], ""), ([], "scroll"), (["view -12"], "scroll")]),
-    (b"\x1b[200~\x02d\x1b[201~\x02d", [([], ""), ([], ""), ([], ""), ([], ""), ([], "detach")]),
-    (b"\x02\x1b[200~x", [([], ""), ([], ""), ([], "")]),
-    (b"\x02\x1b[200~x\x1b[201~y", [([], ""), ([], ""), ([], ""), ([], ""), (["char 79"], "")]),
-)
-
-# The wishes behind the prefix.
-WISHES = ((b"\x1b[C", "right"), (b"\x1b[B", "down"), (b"\x1a", "suspend"), (b"y", "unknown"), (b"\x1b[15~", "unknown"))
-
-
-def asked_by(typing, text, now=1.0, rows=24):
-    """What each key of a text asks for, where no rows are kept: the view that all share scrolls in place of copy mode."""
-    keys, found = Keys(), []
-    for key in keys.fed(text) + keys.ended():
-        asked = typing.asked(key, now, rows)
-        found.append(typing.begin_scroll(asked[1] == "copy page", rows) if asked[1] in ("copy", "copy page") else asked)
-    return found
 
 
 class Spelled(unittest.TestCase):
@@ -122,88 +80,3 @@ class Spelled(unittest.TestCase):
             self.assertEqual(acts_of_bytes(f"\x1b[{number}~".encode()), [f"key f{key}"])
         for digit, letter in enumerate("pqrstuvwxy"):
             self.assertEqual(acts_of_bytes(f"\x1bO{letter}".encode()), [f"key pad{digit}"])
-
-
-class Asked(unittest.TestCase):
-    """What is asked for after the prefix, in the scroll mode and in a paste."""
-
-    def test_last(self):
-        for text, acts, wish in ASKED:
-            found = asked_by(Typing(), text)[-1]
-            self.assertEqual((", ".join(found[0]), found[1]), (acts, wish), text)
-
-    def test_each(self):
-        for text, wanted in TYPED:
-            self.assertEqual(asked_by(Typing(), text), wanted, text)
-
-    def test_wishes(self):
-        for text, wish in WISHES:
-            self.assertEqual(asked_by(Typing(), b"\x02" + text)[-1], ([], wish), text)
-        for digit in range(10):
-            self.assertEqual(asked_by(Typing(), b"\x02%d" % digit)[-1], ([], f"go {digit or 10}"))
-            typing, key = Typing(), Key(str(digit), str(digit))
-            asked_by(typing, b"\x02q", 1.0)
-            # A digit is a pane's for three seconds, where it can be one.
-            self.assertEqual([typing.mode == typing.picking, typing.ends_picking(key, 3.9)], [True, digit == 0])
-            typing = Typing()
-            asked_by(typing, b"\x02q", 1.0)
-            self.assertEqual((typing.ends_picking(key, 4.0), typing.mode), (True, typing.plain))
-
-    def test_copies(self):
-        """Copy mode, its search, and pastes of what was copied are wishes of the front end's own."""
-        for text, wish in ((b"[", "copy"), (b"\x1b[5~", "copy page"), (b"/", "copy search"), (b"]", "paste"), (b"=", "choose")):
-            typing = Typing()
-            found = [typing.asked(key, 1.0, 24) for key in Keys().fed(b"\x02" + text)]
-            self.assertEqual((found[-1], typing.mode), (([], wish), typing.plain), text)
-
-    def test_repeats(self):
-        """For half a second the next move of a border needs no prefix; then the key is typed."""
-        typing = Typing()
-        self.assertEqual(asked_by(typing, b"\x02\x1b[1;5C", 10.0)[-1], ([], "border right"))
-        self.assertEqual(asked_by(typing, b"\x1b[1;5D", 10.4)[-1], ([], "border left"))
-        self.assertEqual(asked_by(typing, b"\x1b[1;5B", 10.8)[-1], ([], "border down"))
-        typed = [f"char {ord(letter):x}" for letter in "\x1b[1;5B"]
-        self.assertEqual(asked_by(typing, b"\x1b[1;5B", 11.31)[-1], (typed, ""))
-        self.assertEqual(asked_by(typing, b"x", 10.9)[-1], (["char 78"], ""))
-
-    def test_view(self):
-        """A view goes back 500 rows at most, and half a terminal's rows by a page."""
-        typing = Typing()
-        asked_by(typing, b"\x02[")
-        self.assertEqual(typing.view, 0)
-        for text, rows, view in ((b"k", 24, 1), (b"\x1b[A", 24, 2), (b"j", 24, 1), (b"j", 24, 0), (b"\x1b[B", 24, 0), (b"\x1b[5~", 50, 25),
-                                 (b"\x1b[6~", 30, 10), (b"\x1b[5~", 1, 11), (b"g", 24, 500), (b"k", 24, 500), (b"G", 24, 0)):
-            asked_by(typing, text, rows=rows)
-            self.assertEqual(typing.view, view, text)
-        asked_by(typing, b"g\x02\x1b[5~", rows=40)
-        self.assertEqual(typing.view, 20)
-
-    def test_begin(self):
-        """At first nothing is scrolled back, and no growth was before."""
-        typing = Typing()
-        self.assertEqual((typing.view, typing.repeats_until, typing.left()), (0, 0.0, []))
-
-    def test_answer(self):
-        """y answers with yes, and any other key with no."""
-        for text, wish in ((b"y", "yes"), (b"Y", "yes"), (b"n", "no"), (b"\r", "no"), (b"\x02", "no")):
-            typing = Typing()
-            typing.ask()
-            self.assertEqual(asked_by(typing, text + b"x"), [([], wish), (["char 78"], "")])
-
-    def test_left(self):
-        """Who leaves in the scroll mode goes back to the newest rows."""
-        for text, left in ((b"", []), (b"\x02", []), (b"\x02[", ["view -500"]), (b"\x02[q", []), (b"\x02[x", ["view -500"])):
-            typing = Typing()
-            asked_by(typing, text)
-            self.assertEqual(typing.left(), left, text)
-
-    def test_prefixes(self):
-        """Thirty keys may be the prefix, which typed twice is itself, and the help names that one alone."""
-        self.assertEqual(len(PREFIXES), 30)
-        for name, letter in PREFIXES.items():
-            text, own = letter.encode(), ["key return"] if letter == "\r" else [f"char {ord(letter):x}"]
-            self.assertEqual(asked_by(Typing(name), text + b"d")[-1], ([], "detach"))
-            self.assertEqual(asked_by(Typing(name), text * 3 + b"x")[-2:], [([], ""), ([], "close")])
-            self.assertEqual(asked_by(Typing(name), text * 2)[-1], (own, ""))
-            self.assertTrue(f"{name} itself" in help_with(name) and (name == "C-b" or "C-b" not in help_with(name)))
-        self.assertNotIn("C-z", [line.split()[0] for line in help_with("C-z").split("\n") if "suspend" in line])

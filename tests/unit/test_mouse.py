@@ -41,7 +41,7 @@ class Pointed(Case):
     def points(self, person, *reports):
         """What is typed for reports, each 20 ms after the one before."""
         for one in reports:
-            person.commands.fed(report(*one) if isinstance(one, tuple) else one)
+            person.keyboard.fed(report(*one) if isinstance(one, tuple) else one)
             self.now += 0.02
             person.loop.do_due()
         return typed(person.said())
@@ -117,7 +117,7 @@ class Programs(Pointed):
     def test_thinned(self):
         """Motion goes each 20 ms, the newest, and before what follows it; the same place isn't told twice. Nothing else waits."""
         person = self.person({1: "motion sgr"})
-        person.commands.fed(b"".join(report(35, 1, col) for col in range(1, 10)))
+        person.keyboard.fed(b"".join(report(35, 1, col) for col in range(1, 10)))
         self.assertEqual(typed(person.said()), [("focus 1", "\x1b[<35;1;1M")])
         self.now += 0.0199
         person.loop.do_due()
@@ -125,11 +125,11 @@ class Programs(Pointed):
         self.now += 0.0002
         person.loop.do_due()
         self.assertEqual(typed(person.said()), [("focus 1", "\x1b[<35;9;1M")])
-        person.commands.fed(report(35, 1, 12) + report(0, 1, 12) + report(64, 1, 12) * 3 + report(0, 1, 12, True))
+        person.keyboard.fed(report(35, 1, 12) + report(0, 1, 12) + report(64, 1, 12) * 3 + report(0, 1, 12, True))
         self.assertEqual([text for _, text in typed(person.said())],
                          ["\x1b[<35;12;1M", "\x1b[<0;12;1M", *["\x1b[<64;12;1M"] * 3, "\x1b[<0;12;1m"])
         self.now += 1
-        person.commands.fed(report(35, 1, 12) * 2)
+        person.keyboard.fed(report(35, 1, 12) * 2)
         self.assertEqual(len(person.said()), 1)
         self.now += 1
         person.loop.do_due()
@@ -178,7 +178,7 @@ class Programs(Pointed):
         person = self.person({1: "drags sgr"})
         person.types(b"\x02?")
         self.assertEqual(self.points(person, (0, 1, 1), (0, 1, 1, True)), [])
-        self.assertEqual(person.display.notice, person.commands.help)
+        self.assertEqual(person.display.notice, person.keyboard.help)
         person.types(b"x")
         person.answers()
         for keys in (b"\x02[", b"q\x02x"):
@@ -276,7 +276,7 @@ class Own(Pointed):
         self.assertEqual(self.points(person, (64, 1, 41), (66, 1, 41)), [("focus 2", "\x1b[<64;1;1M"), ("focus 2", "\x1b[<66;1;1M")])
         self.assertEqual(self.points(person, (64, 13, 41), (65, 13, 41), (66, 13, 41), (128, 13, 41)),
                          [("focus 3", *["key up"] * 3), ("focus 3", *["key down"] * 3)])
-        self.assertEqual(person.commands.typing.is_typing(), True)
+        self.assertEqual(person.modes.is_typing(), True)
 
     def test_scrolls(self):
         """Over a shell's pane the wheel shows the rows that scrolled off, three a notch, until it is back at the newest."""
@@ -304,7 +304,7 @@ class Own(Pointed):
         person.said()
         before = len(person.link.acts)
         self.assertEqual(self.points(person, (0, 1, 50)), [("focus 2",)])
-        self.assertEqual((person.link.acts[before:], person.commands.typing.is_typing(), person.display.told), (["view -500"], True, ""))
+        self.assertEqual((person.link.acts[before:], person.modes.is_typing(), person.display.told), (["view -500"], True, ""))
 
     def test_border(self):
         """A border is dragged with the first button alone; in another pane's place nothing comes of it."""

@@ -4,6 +4,7 @@ from unittest import mock
 
 from aids import Case, LinkedClient, StillLoop
 from roam_live.frontend import paste
+from roam_live.frontend.effects import ClosePane
 from roam_live.frontend.paste import (BEHIND_IT, COUNTS, DROPPED, DROPS, ENDS, FULL_BEHIND, HANDING, LOST_WORDS, MOST_BEHIND, NOT_TAKEN,
                                       SHORT, TOO_LONG, Pastes, weight)
 from roam_live.input.keys import BRACKETS
@@ -543,8 +544,7 @@ class Persons(unittest.TestCase):
     def test_asked(self):
         """At a question a paste is a no, and nothing of it is typed, nor an answer."""
         person = self.person()
-        person.commands.display.tell("close it? y closes it", None)
-        person.commands.typing.ask()
+        person.commands.ask("close it? y closes it", ClosePane(0))
         self.assertEqual(person.types(b"\x1b[200~y"), [])
         self.assertEqual((person.types(b"y\x1b[201~z"), person.display.told), (["char 7a"], "nothing is pasted: a question was there"))
 

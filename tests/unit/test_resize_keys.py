@@ -69,7 +69,7 @@ class Moves(Attached):
             session.do(act)
         self.attach(session)
         before = self.ends(2)["down"]
-        self.person.commands.fed(b"\x02\x1b[1;5A\x1b[1;5A\x02o")
+        self.person.keyboard.fed(b"\x02\x1b[1;5A\x1b[1;5A\x02o")
         typed = [act for line in self.person.said() for act in line.split(" ; ")]
         for act in typed[:-1]:
             session.do(act)
@@ -172,7 +172,7 @@ class Moves(Attached):
         self.person.place.told = None
         for keys in (KEYS["up"], b"\x02 "):
             self.person.display.end_told()
-            self.person.commands.fed(keys)
+            self.person.keyboard.fed(keys)
             self.assertEqual(self.person.display.told, resize_keys.UNTOLD)
 
 

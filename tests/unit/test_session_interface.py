@@ -14,8 +14,11 @@ from unittest import mock
 from roam_live.common.event_loop import Loop
 from roam_live.common.process import TOOLS
 from roam_live.frontend import display
+from roam_live.frontend.bindings import Keymap
 from roam_live.frontend.commands import Commands
 from roam_live.frontend.display import Display
+from roam_live.frontend.interpreter import Interpreter
+from roam_live.frontend.modes import ModeStack
 from roam_live.protocol.panes import Places, Rect
 from roam_live.protocol.server_address import Home
 from roam_live.protocol.session_interface import AnySession, HostedSession
@@ -185,17 +188,19 @@ class Close(Folder):
         link, loop = ClientLink(), Loop()
         with mock.patch.object(display, "OuterTerminal", OuterTerminal):
             shown = Display(loop, lambda line: None)
-        commands = Commands(session, PlayedPanes(mock.Mock(told=places)), link, shown, loop, lambda line: None)
-        commands.fed(b"\x02x")
-        return commands, link, shown
+        modes = ModeStack(Keymap())
+        commands = Commands(session, PlayedPanes(mock.Mock(told=places)), link, shown, loop, lambda line: None, modes)
+        keyboard = Interpreter(modes, shown, loop, lambda: commands)
+        keyboard.fed(b"\x02x")
+        return keyboard, link, shown
 
     def test_asked(self):
         """Where it isn't known what runs a person is asked, and y alone closes the pane."""
         for places, named in ((TWO, "pane 1"), (None, "this pane")):
             for key, acts in ((b"y", ["close"]), (b"n", [])):
-                commands, link, shown = self.person(self.by_hand(), places)
+                keyboard, link, shown = self.person(self.by_hand(), places)
                 self.assertEqual((link.acts, shown.prompt), ([], f"close whatever runs in {named}? y closes it"))
-                commands.fed(key)
+                keyboard.fed(key)
                 self.assertEqual((link.acts, shown.told), (acts, ""))
 
     def test_unasked(self):

@@ -3,7 +3,7 @@ import unittest
 
 from roam_live.common.tty import MOST
 from roam_live.frontend import sizes
-from roam_live.frontend.sizes import NO_SIZE, Fitting, View, Zoom
+from roam_live.frontend.sizes import NO_SIZE, Fitting, TerminalView, Zoom
 from roam_live.protocol.panes import Places, Rect
 from roam_live.protocol.zoom_record import MOST_ASKED, ZoomNote
 
@@ -88,7 +88,7 @@ class Parts(unittest.TestCase):
             (((20, 80), False, (24, 160), pane, False), (20, 40)),
             (((20, 80), True, (24, 160), pane, False), (19, 40)),
         ):
-            self.assertEqual(View(*case).part(), part, case)
+            self.assertEqual(TerminalView(*case).part(), part, case)
 
     def test_all(self):
         """A part has all if the session's status row alone is left out."""

@@ -63,7 +63,7 @@ class Person(Attached):
 
     def switch(self):
         """Switches it."""
-        self.commands.grant("synchronize", None)
+        self.person.keyboard.grant("synchronize")
 
     def test_switched(self):
         """Keys go to all panes while it is on, which the last row tells, and nothing is predicted; then to the one in focus."""
@@ -83,17 +83,17 @@ class Person(Attached):
         """What isn't a key goes where it always does: the prefix moves the focus, and the keys behind wait until that is told."""
         self.begin(2)
         self.switch()
-        self.commands.fed(b"\x02ox")
+        self.person.keyboard.fed(b"\x02ox")
         self.assertEqual(self.person.said(), ["next"])
         self.assertEqual(self.commands.synchronizing.keys[0](1), ["char 78"])
         self.session.do("next")
         self.person.tell(self.session.places())
         self.assertEqual(self.person.said(), ["char 78 ; focus 2 ; char 78 ; focus 1"])
-        self.commands.fed(b"\x02oy")
+        self.person.keyboard.fed(b"\x02oy")
         self.now += FOCUS_WAIT
         self.person.loop.turn()
         self.assertEqual(self.person.said(), ["next", "char 79"])
-        self.commands.fed(b"z\x02o")
+        self.person.keyboard.fed(b"z\x02o")
         self.assertEqual(self.person.said()[-1:], ["next"])
 
     def test_together(self):
@@ -102,7 +102,7 @@ class Person(Attached):
         self.switch()
         self.commands.link.has_taken = False
         for letter in (b"a", b"b"):
-            self.commands.fed(letter)
+            self.person.keyboard.fed(letter)
         self.assertEqual(self.person.said(), [])
         self.commands.link.has_taken = True
         self.now += AGAIN
@@ -125,7 +125,7 @@ class Person(Attached):
         self.switch()
         panes, told = self.person.panes, self.session.places()
         panes.awaited, panes.place.told = True, None
-        self.commands.fed(b"x")
+        self.person.keyboard.fed(b"x")
         self.assertEqual((self.person.said(), self.commands.is_full()), ([], False))
         self.patch_of(synchronize_panes, "MOST_KEYS", 1)
         self.assertTrue(self.commands.is_full())

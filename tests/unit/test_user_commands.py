@@ -6,12 +6,13 @@ from collections import deque
 from unittest import mock
 
 from aids import Case
+from modes_played import PlayedModes
 from roam_live.common.event_loop import Loop
 from roam_live.config import environment
 from roam_live.config.command_table import BY_NAME, DEFAULT_KEYS, BadCommand, asked_by, completed
 from roam_live.config.loader import Binding, FileSettings
 from roam_live.config.user_file import OWN
-from roam_live.frontend.bindings import BINDINGS, BORDERS, HELP, WISHES, Typing
+from roam_live.frontend.bindings import BINDINGS, BORDERS, HELP, WISHES
 from roam_live.frontend.command_line import CommandLine, CommandRunner
 from roam_live.input.key_names import name_of_key
 from roam_live.input.keys import Keys
@@ -110,9 +111,7 @@ class Bound(unittest.TestCase):
 
     def asked(self, own, text):
         """What is asked for by what is typed."""
-        typing = Typing()
-        typing.own = own
-        return [typing.asked(key, 1.0, 24) for key in keys_of(text)]
+        return PlayedModes(own=own).told(text)
 
     def test_rebound(self):
         """Each default key may be bound to another command, and each command to another key."""
@@ -164,10 +163,10 @@ class Line(Case):
                                           (True, "setw synchronize-panes off", True), (True, "set -w synchronize-panes", True),
                                           (False, "setw synchronize-panes", True), (True, "setw -u synchronize-panes", True),
                                           (False, "synchronize-panes", True)):
-            self.commands.reset_mock()
+            self.runner.front.keyboard.reset_mock()
             self.commands.synchronizing.is_on.return_value = was_on
             self.runner.typed(line)
-            self.assertEqual([one.args[0] for one in self.commands.grant.call_args_list], ["synchronize"] * is_switched, line)
+            self.assertEqual([one.args[0] for one in self.runner.front.keyboard.grant.call_args_list], ["synchronize"] * is_switched, line)
             self.assertNotIn("synchronize-panes", environment.BY_FILE)
         self.runner.typed("setw synchronize-panes perhaps")
         self.commands.display.tell.assert_called_with("synchronize-panes is 'perhaps', and may be on or off", 4.0)
@@ -175,13 +174,13 @@ class Line(Case):
     def test_done(self):
         """Commands are done in order, up to one that can't be."""
         self.runner.typed("splitw -h; send-keys 'a b' ; nosuch; killp")
-        self.assertEqual([one.args[0] for one in self.commands.grant.call_args_list], ["split right"])
+        self.assertEqual([one.args[0] for one in self.runner.front.keyboard.grant.call_args_list], ["split right"])
         self.assertEqual([one.args for one in self.commands.type_key.call_args_list], [(["char 61", "char 20", "char 62"],)])
         self.commands.display.tell.assert_called_with("nosuch is no command of roam", 4.0)
         self.assertEqual(list(self.runner.lines), ["splitw -h; send-keys 'a b' ; nosuch; killp"])
         for wrong in ("splitw 'x", "bind { killp }"):
             self.runner.typed(wrong)
-        self.assertEqual(len(self.commands.grant.call_args_list), 1)
+        self.assertEqual(len(self.runner.front.keyboard.grant.call_args_list), 1)
 
     def test_shell(self):
         """The last line of what a shell says in the background is told, printable; nothing waits for it."""
@@ -194,20 +193,20 @@ class Line(Case):
 
     def test_listed(self):
         """All that a shell says is shown in a list; a single line, and where no list can be the last, is told."""
-        self.commands.listing.begin.return_value = True
+        self.commands.lists.show_lines.return_value = True
         self.runner.typed("run 'echo \" one\"; printf \"two\\033\\tx\\n\\n\"'")
-        while not self.commands.listing.begin.called:
+        while not self.commands.lists.show_lines.called:
             self.loop.turn()
-        self.commands.listing.begin.assert_called_once_with([" one", "two?    x"])
+        self.commands.lists.show_lines.assert_called_once_with([" one", "two?    x"])
         self.assertFalse(self.commands.display.tell.called)
-        self.commands.listing.begin.return_value = False
+        self.commands.lists.show_lines.return_value = False
         for line in ("run 'echo only'", "run 'echo one; echo two'"):
             self.commands.display.tell.reset_mock()
             self.runner.typed(line)
             while not self.commands.display.tell.called:
                 self.loop.turn()
         self.commands.display.tell.assert_called_once_with("two", 4.0)
-        self.assertEqual(self.commands.listing.begin.call_count, 2)
+        self.assertEqual(self.commands.lists.show_lines.call_count, 2)
 
     def test_told(self):
         """A text is told with its formats filled; one of which roam hasn't all is refused."""

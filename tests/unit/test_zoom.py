@@ -80,7 +80,7 @@ class Back(Zoomed):
         person = self.person
         person.paints(23, 80, "before")
         for part in ("23 80", "23 80"):
-            person.commands.fed(b"\x02z")
+            person.keyboard.fed(b"\x02z")
             person.paints(23, 80, "between", "paint")
             person.paints(23, 80, "between")
             self.assertEqual(person.shown()[0], "before")
@@ -122,7 +122,7 @@ class Back(Zoomed):
         self.take()
         self.assertTrue(self.is_zoomed(2))
         self.attach(self.grid())
-        self.person.commands.fed(b"\x02q1\x02z")
+        self.person.keyboard.fed(b"\x02q1\x02z")
         self.person.commands.panes_changed()
         self.assertTrue(self.person.commands.zooming.is_on())
 
@@ -225,7 +225,7 @@ class Ends(Zoomed):
     def test_parts_of_what_is_told(self):
         """What is told of some panes before it is told of the others changes nothing."""
         self.attach(self.grid())
-        self.person.commands.fed(b"\x02z")
+        self.person.keyboard.fed(b"\x02z")
         before, heard = self.session.rects(), self.person.said()
         self.session.do(heard[-1])
         after = self.session.rects()
@@ -259,7 +259,7 @@ class Ends(Zoomed):
         for size, keys in (("size 48 160", b"\x02z"), ("size 24 80", b"\x02z")):
             self.person.commands.request_size_again()
             self.assertEqual(self.person.said(), [])
-            self.person.commands.fed(keys)
+            self.person.keyboard.fed(keys)
             self.person.said()
             self.person.commands.request_size_again()
             self.take()
@@ -326,7 +326,7 @@ class Resized(Zoomed):
     def test_behind_a_size(self):
         """Behind a key that gives the session another size a pane is zoomed from there, whichever is told first."""
         self.attach(self.grid((24, 80)), (30, 100), PlayedHost(True))
-        self.person.commands.fed(b"\x02r\x02z")
+        self.person.keyboard.fed(b"\x02r\x02z")
         for act in [line for line in self.person.said() if line.startswith("size")]:
             self.session.do(act)
             self.person.tell(self.session.places())
@@ -352,10 +352,10 @@ class Noted(Zoomed):
     def test_told(self):
         """It is told which size is to be had again before a larger one is asked for, and that it is over once that was had."""
         self.attach(self.grid())
-        self.person.commands.fed(b"\x02z")
+        self.person.keyboard.fed(b"\x02z")
         self.assertEqual((self.person.host.zooms, self.heard), (["24 80 48 160"], []))
         self.take()
-        self.person.commands.fed(b"\x02z")
+        self.person.keyboard.fed(b"\x02z")
         self.assertEqual(self.person.host.zooms, ["24 80 48 160"])
         self.take()
         self.assertEqual(self.person.host.zooms, ["24 80 48 160", "None"])

@@ -13,10 +13,12 @@ from roam_live.common.process import unwoken, woken
 from roam_live.config.command_table import CommandWish
 from roam_live.config.environment import chosen_prediction, chosen_prefix, sets_clipboard, text_of, wants_mouse
 from roam_live.config.user_file import OWN
-from roam_live.frontend.bindings import NEWEST, OWN as KEY
+from roam_live.frontend.bindings import NEWEST, OWN as KEY, Keymap
 from roam_live.frontend.command_line import CommandRunner
 from roam_live.frontend.commands import Commands
 from roam_live.frontend.display import Display
+from roam_live.frontend.interpreter import Interpreter
+from roam_live.frontend.modes import ModeStack, ScrollMode
 from roam_live.frontend.preload import Preloading
 from roam_live.frontend.sizes import NO_SIZE
 from roam_live.frontend.stalled_input import UntakenLines
@@ -82,6 +84,9 @@ class FrontEnd:
         self.shown_whole: dict[int, Size] = {}
         # In which of them keys were switched to go to all panes, or not.
         self.synchronized: dict[int, bool] = {}
+        self.modes = ModeStack(Keymap())
+        self.keyboard = Interpreter(self.modes, self.display, self.loop, lambda: self.commands)
+        self.keyboard.runs, self.keyboard.left_window = self.run_wish, self.left_commands
         server = opened_server(session)
         self.host_link = HostLink(session.common, self.loop, self.display.outer.size, is_read_only)
         self.host_link.environment = environment_lines(session, is_read_only)
@@ -92,12 +97,13 @@ class FrontEnd:
         self.watch_server(server)
         self.windows = WindowWishes(self, self.loop)
         self.status_row, self.runner = StatusRow(self, self.loop), CommandRunner(self, self.loop)
+        self.keyboard.windows, self.keyboard.enters = self.windows, self.runner.typed
         self.commands.has_windows(self.windows)
-        self.commands.choose(prefix)
+        self.keyboard.choose(prefix)
         self.commands.pointing.is_on = has_mouse
         self.row = text_of("status")
         self.display.is_row_hidden = self.row == "off"
-        self.commands.typing.own = OWN.found.bindings if OWN.found else {}
+        self.modes.keymap.own = OWN.found.bindings if OWN.found else {}
         self.windows.begin()
         self.join()
 
@@ -161,10 +167,10 @@ class FrontEnd:
         """A view of a window."""
         loop, display = self.loop, self.display
         link, panes = ClientLink(session.terminals, self.is_read_only, self.prediction), self.followed(session)
-        host = HostClient(self.host_link, session.number, lambda: commands.others_told())
-        host.notices = lambda words: display.tell(words, LOSS_TOLD)
-        commands = Commands(session, panes, link, display, loop, self.leave, self.is_new, self.is_whole, host)
-        commands.runs = self.run_wish
+        host = HostClient(session.folder, loop, display.outer.size, self.is_read_only, lambda: commands.others_told())
+        host.leaves, host.others_left = lambda: self.leave(DETACHED), lambda count: self.commands.others_left(count)
+        commands = Commands(session, panes, link, display, loop, self.leave, self.modes, self.is_new, self.is_whole, host)
+        commands.takes = self.keyboard.take
         commands.synchronizing.remember(self.synchronized, session.number, lambda: self.prediction)
         return WindowView(session, link, Reconnector(session, link, panes.is_full), panes, host, commands)
 
@@ -186,7 +192,7 @@ class FrontEnd:
             self.runner.do(CommandWish([], wish, ""))
             return
         table, _, name = rest.partition(" ")
-        binding = self.commands.typing.own.get((table, name))
+        binding = self.modes.keymap.own.get((table, name))
         if binding:
             self.runner.run_all(binding.commands)
 
@@ -194,13 +200,18 @@ class FrontEnd:
         """What a format says now. ValueError tells what of it isn't there in roam."""
         return self.status_row.filled(text)
 
+    def left_commands(self, number: int) -> Commands | None:
+        """Return the commands of a window that the person left, None if nothing of it goes on."""
+        view = self.draining.views.get(number)
+        return view.commands if view else None
+
     def run_file(self) -> None:
         """Runs what the settings file has the shell run."""
         self.runner.run_all([["run-shell", "-b", command] for command in OWN.found.runs] if OWN.found else [])
 
     def go_by_settings(self, otherwise: str = "") -> None:
         """Goes by the settings as they are now."""
-        self.commands.typing.own = OWN.found.bindings if OWN.found else {}
+        self.modes.keymap.own = OWN.found.bindings if OWN.found else {}
         try:
             prefix, self.prediction = chosen_prefix(), chosen_prediction()
             self.commands.pointing.is_on = wants_mouse()
@@ -209,7 +220,7 @@ class FrontEnd:
             return
         if prefix != self.prefix:
             self.prefix = prefix
-            self.commands.choose(prefix)
+            self.keyboard.choose(prefix)
         for view in (self.view, *self.draining.views.values()):
             view.commands.synchronizing.choose_prediction()
         row, self.row = self.row, text_of("status")
@@ -302,7 +313,7 @@ class FrontEnd:
         self.display.begin()
         self.commands.show_known()
         self.commands.fit_first()
-        self.commands.act(*([] if self.commands.typing.left() else [NEWEST]))
+        self.commands.act(*([] if self.modes.has(ScrollMode) else [NEWEST]))
 
     def say(self, line: str) -> None:
         """Says a line about what is shown here, where there is a client: each that is connected to is told anew."""
@@ -395,7 +406,7 @@ class FrontEnd:
         chunk = read(0)
         if chunk == b"":
             self.leave("", 1)
-        self.commands.fed(chunk or b"")
+        self.keyboard.fed(chunk or b"")
         self.watchdog.typed()
 
     def hear(self) -> None:

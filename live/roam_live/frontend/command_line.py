@@ -3,7 +3,6 @@ from __future__ import annotations
 
 import os
 import subprocess
-import time
 from collections import deque
 from collections.abc import Callable
 
@@ -25,8 +24,18 @@ if TYPE_CHECKING:
 
     from roam_live.frontend.commands import Commands
 
+    class Grants(Protocol):
+        """What grants wishes."""
+
+        def grant(self, wish: str) -> None:
+            """Do what the front end itself is asked for."""
+
     class AtTerminal(Protocol):
         """A front end, as commands are done there."""
+
+        @property
+        def keyboard(self) -> Grants:
+            """What grants wishes there."""
 
         @property
         def commands(self) -> Commands:
@@ -129,7 +138,7 @@ class CommandRunner:
 
     def show(self, lines: list[str], is_behind: bool) -> None:
         """Shows lines in a list, where there are several; of one, or where a list can't be, the last is told."""
-        if is_behind or len(lines) < 2 or not self.front.commands.listing.begin(lines):
+        if is_behind or len(lines) < 2 or not self.front.commands.lists.show_lines(lines):
             self.tell(lines[-1].strip() if lines else "")
 
     def run_all(self, commands: list[list[str]]) -> None:
@@ -163,18 +172,15 @@ class CommandRunner:
             self.run_shell(asked.text, asked.words[1:2] == ["-b"])
         elif asked.wish in does:
             does[asked.wish](asked.text)
-        elif asked.wish == "panes":
-            commands.typing.pick(time.monotonic())
-            commands.grant(asked.wish, Key("", ""))
         else:
             for _ in range(int(asked.text) if asked.text.isdigit() else 1):
-                commands.grant(asked.wish, Key("", ""))
+                self.front.keyboard.grant(asked.wish)
 
     # ---- the line
 
     def ask(self, text: str = "") -> None:
         """Asks for a command."""
-        self.front.commands.prompts.ask_line(CommandLine(self.lines), self.typed)
+        self.front.commands.ask_line(CommandLine(self.lines), "command")
 
     def typed(self, text: str) -> None:
         """Does what was typed."""
@@ -203,7 +209,7 @@ class CommandRunner:
 
     def type_prefix(self, text: str) -> None:
         """Types the prefix."""
-        prefix = self.front.commands.typing.prefix
+        prefix = self.front.commands.modes.keymap.prefix
         self.front.commands.type_key(acts_of(Key(prefix, prefix)))
         self.front.commands.synchronizing.settle()
 
@@ -215,7 +221,7 @@ class CommandRunner:
         """Gives the window a name, or asks for one."""
         commands = self.front.commands
         if not text:
-            commands.grant("window name", Key("", ""))
+            self.front.keyboard.grant("window name")
         elif not commands.windows or not self.front.number:
             raise BadCommand(ELSEWHERE)
         elif not commands.link.is_read_only:
@@ -239,7 +245,7 @@ class CommandRunner:
         if is_on == synchronizing.is_on():
             self.front.go_by_settings()
         else:
-            self.front.commands.grant("synchronize", Key("", ""))
+            self.front.keyboard.grant("synchronize")
 
     def bind(self, words: list[str]) -> None:
         """Binds a key, or unbinds one, at this terminal and until the settings are read anew."""

@@ -1,52 +1,42 @@
 """What a person at a terminal types, and what comes of it: acts for the session, and what the front end does itself."""
 from __future__ import annotations
 
-import os
-import signal
 import time
 from collections.abc import Callable
 
 from roam_live.common import tty
 from roam_live.common.event_loop import Loop
-from roam_live.config.environment import ESCAPE_TIME, follows_latest, number_of
+from roam_live.config.environment import follows_latest
 from roam_live.frontend import sizes
-from roam_live.frontend.bindings import NEWEST, OWN, PICKS, Typing, help_with
-from roam_live.frontend.choose_list import Choosing, ChoosingWindow, Listing
+from roam_live.frontend.bindings import NEWEST
 from roam_live.frontend.copymode.controller import INTERRUPT, CopyEvent, Copying
 from roam_live.frontend.display import Display
-from roam_live.frontend.key_help import Helping
+from roam_live.frontend.effects import ClosePane, TypeActs
+from roam_live.frontend.lists import Lists
+from roam_live.frontend.modes import ConfirmMode, CopyPasteMode, LineMode, ModeStack, PastingMode, ScrollMode
 from roam_live.frontend.mouse import Pointing
 from roam_live.frontend.paste import Pastes
 from roam_live.frontend.preload import REPLACED
-from roam_live.frontend.prompt import Prompts
 from roam_live.frontend.resize_keys import BorderKeys
 from roam_live.frontend.sizes import NO_SIZE, Fitting
 from roam_live.frontend.spawn_commands import Handing
 from roam_live.frontend.synchronize_panes import Synchronizing
 from roam_live.frontend.zoom import Zooming
-from roam_live.input.extended_keys import ANSWERED, form_for
-from roam_live.input.key_names import spelled
-from roam_live.input.keys import Key, Keys, acts_of
-from roam_live.input.mouse_reports import MOUSE
+from roam_live.input.extended_keys import form_for
+from roam_live.input.keys import Key, acts_of
 from roam_live.protocol.client_link import TYPES, ClientLink
-from roam_live.protocol.colours import COLOUR
-from roam_live.protocol.panes import BESIDE, MOVES, Places
+from roam_live.protocol.panes import MOVES, Places
 from roam_live.protocol.panes_client import PanesSubscriber
 from roam_live.protocol.presence import LEAVE_OTHERS
 from roam_live.session.foreground import told
 
 TYPE_CHECKING = False
 if TYPE_CHECKING:
-    from roam_live.frontend.bindings import Mode
+    from roam_live.frontend.effects import Effect
+    from roam_live.frontend.line_editor import AskedLine
     from roam_live.frontend.windows import WindowWishes
     from roam_live.protocol.host_client import HostClient
     from roam_live.protocol.session_interface import AnySession
-
-# The wishes that are granted while something stands in the session's place. Nothing is typed then, since nobody would see where it goes.
-UNDER_NOTICE = ("detach", "suspend", "repaint", "help", "no", "scrolled", "picked", "line")
-
-# What the wishes begin with that are for a window: to go there, which is granted in any case, or what changes it.
-GOES, WINDOW = "go ", "window "
 
 # So many seconds a line stands that tells how the session is made as large as the terminal, or why it isn't.
 FITS_TOLD = 3.0
@@ -57,9 +47,8 @@ FITS_AGAIN = 0.3
 # A session that hasn't a size that it was given so many seconds ago, and took, has no room for its panes in that.
 REFUSES = 2.5
 
-# So many seconds a line stands that tells what became of a paste, and what is told of one with which a question was answered.
+# So many seconds a line stands that tells what became of a paste.
 PASTE_TOLD = 3.0
-NO_ANSWER = "nothing is pasted: a question was there"
 
 # What is told of a paste that is begun in a window that is gone before its end.
 WINDOW_GONE = "nothing is pasted: its window is gone"
@@ -87,20 +76,16 @@ NEW = 2.0
 
 
 class Commands:
-    """The keys of one person, and what they ask for."""
+    """What one person does in a window of a session."""
 
     def __init__(self, session: AnySession, panes: PanesSubscriber, link: ClientLink, display: Display, loop: Loop,
-                 leave: Callable[[str | None], None], is_new: Callable[[Places | None], bool] = lambda places: False,
+                 leave: Callable[[str | None], None], modes: ModeStack, is_new: Callable[[Places | None], bool] = lambda places: False,
                  is_whole: bool = False, host: HostClient | None = None) -> None:
         self.session, self.panes, self.link, self.display, self.loop, self.leave = session, panes, link, display, loop, leave
-        self.host = host
+        self.modes, self.host = modes, host
         # Whether the session is shown whole where it has room, with its own status row.
         self.is_whole = is_whole
-        self.keys = Keys()
         self.pointing = Pointing(self, loop)
-        self.prefix = "C-b"
-        self.typing = Typing()
-        self.help = help_with(self.prefix)
         self.paused = False
         # Whether the session is new, and whether it and this terminal were fitted to each other once, as far as that may be.
         self.is_new, self.is_fitted, self.new_until = is_new, False, 0.0
@@ -111,14 +96,12 @@ class Commands:
         # The size that this window had as it was left, where all of it was shown here then: one that nobody changed since follows the
         # terminal.
         self.left_size = NO_SIZE
-        self.copying, self.choosing = Copying(self, loop), Choosing(self)
+        self.copying, self.lists = Copying(self, loop), Lists(self)
         self.zooming, self.border_keys, self.foci = Zooming(self, loop), BorderKeys(self, loop), Foci(panes)
-        self.handing, self.helping, self.listing = Handing(self), Helping(self), Listing(self)
+        self.handing = Handing(self)
         display.moved = self.fit_drawn
-        # The windows of the session, and a list of them, where it may have several.
+        # The windows of the session, where it may have several.
         self.windows: WindowWishes | None = None
-        self.choosing_window: ChoosingWindow | None = None
-        self.prompts = Prompts(self)
         self.pastes = Pastes(link, panes, host, loop, self.unpasted, lambda line: display.tell(line, PASTE_TOLD))
         self.synchronizing = Synchronizing(self, loop)
         self.pastes.spreads = self.synchronizing.pasted_in
@@ -129,92 +112,34 @@ class Commands:
         # then.
         self.moved_to: int | None = None
         self.moved_from: Places | None = None
-        # What does the commands of a person's own keys, and asks for one.
-        self.runs: Callable[[str], object] = lambda wish: None
+        # What takes a key that copy mode gives back.
+        self.takes: Callable[[Key], object] = lambda key: None
         # The making of the pane to which this person's last key went, where that is known.
         self.typed_in = ""
-
-    def choose(self, prefix: str) -> None:
-        """Makes the key of a name the prefix."""
-        own, self.prefix, self.typing, self.help = self.typing.own, prefix, Typing(prefix), help_with(prefix)
-        self.typing.own = own
-        self.display.fits_line = "" if self.link.is_read_only else f"{prefix} r fits"
-        self.display.leaves_line = f"{prefix} d leaves"
-
-    def fed(self, chunk: bytes) -> None:
-        """Takes bytes that were typed."""
-        self.typed(self.keys.fed(chunk))
-        self.loop.drop("escape")
-        if self.keys.waits():
-            self.loop.later("escape", number_of("escape-time", ESCAPE_TIME) / 1000, lambda: self.typed(self.keys.ended()))
-
-    def typed(self, keys: list[Key]) -> None:
-        """Takes keys; those behind one that goes to another window, or opens one, are for that."""
-        self.follow_latest()
-        keys = self.typing.joined(keys)
-        place = 0
-        while place < len(keys) and not (self.windows and self.windows.takes(self, keys, place)):
-            key, count = self.typing.whole(keys, place)
-            self.take_any(key)
-            place += count
-        self.copying.settle()
-        self.synchronizing.settle()
-
-    def take_any(self, key: Key) -> None:
-        """Takes a key, or what the terminal reports."""
-        if key.name in (COLOUR, ANSWERED) or key.name == MOUSE and self.typing.mode != self.typing.pasting:
-            self.reported(key)
-            return
-        is_help = self.display.notice == self.help
-        if is_help and self.helping.takes(key):
-            return
-        if is_help:
-            self.display.uncover()
-        # A key that ends the help means nothing else, unless it begins something.
-        if not is_help or key.name in (self.typing.prefix, "paste"):
-            try:
-                self.take(key)
-            except ImportError:
-                self.tell_replaced()
 
     def tell_replaced(self) -> None:
         """Tell that a module of this roam can't be imported any more, and go on without what needs it."""
         self.copying.give_up()
         self.display.tell(REPLACED, REPLACED_TOLD)
 
-    def reported(self, key: Key) -> None:
-        """Takes what the terminal reports: what is done with the mouse, or a colour that it has."""
-        if key.name == MOUSE:
-            self.pointing.take(key.text)
-        elif key.name == ANSWERED:
-            self.display.outer.take_answer(key.text)
-        elif self.host:
-            self.host.tell_colour(key.text)
+    def tell_colour(self, text: str) -> None:
+        """Report a colour of the terminal to the host."""
+        if self.host:
+            self.host.tell_colour(text)
 
-    def take(self, key: Key) -> None:
-        """Takes a key. Under a cover nothing is typed; the prefix means there what it always does."""
-        if self.typing.ends_picking(key, time.monotonic()):
-            self.display.end_told()
-        if self.copying.takes(key) or self.choosing.takes(key) or self.listing.takes(key):
-            return
-        if self.choosing_window and self.choosing_window.takes(key):
-            return
-        before = self.typing.mode
-        acts, wish = self.typing.asked(key, time.monotonic(), self.display.outer.size()[0])
-        self.take_pasted(key, before)
-        if self.paused:
-            is_pasted = before == self.typing.pasting
-            if wish.startswith(GOES):
-                self.grant(wish, key)
-                return
-            self.leave("[left]" if wish == "detach" or key.name in ("\x03", "q") and not is_pasted else None)
-            return
-        if self.display.notice:
-            acts = [act for act in acts if act == NEWEST]
-            wish = "no" if wish == "yes" else wish if wish in UNDER_NOTICE or wish.startswith(GOES) else ""
-        self.type_key(acts, key)
-        if wish:
-            self.grant(wish, key)
+    # ---- prompts
+
+    def ask(self, text: str, *yes: Effect) -> None:
+        """Ask a question, whose answer by y has these effects."""
+        self.modes.push(ConfirmMode(*yes))
+        self.display.ask(text)
+
+    def ask_line(self, asked: AskedLine, purpose: str) -> None:
+        """Ask for a line, for a purpose."""
+        self.modes.push(LineMode(asked, purpose))
+        self.display.ask(asked.line(), is_typed=True)
+
+    # ---- what is typed
 
     def type_key(self, acts: list[str], key: Key = Key("", "")) -> None:
         """Types what a key asks for: where keys go to all panes, those of it that do."""
@@ -238,17 +163,11 @@ class Commands:
         form = form_for(key.extended, self.panes.modes(pane)) if key.extended and typed and acts[-len(typed) :] == typed else ""
         return [*acts[: -len(typed)], *acts_of(Key("text", form))] if form else acts
 
-    def take_pasted(self, key: Key, before: Mode) -> None:
-        """Takes what a key is of a paste, where a person was as told before it."""
-        was_pasting, is_pasting = before == self.typing.pasting, self.typing.mode == self.typing.pasting
-        if was_pasting and is_pasting:
-            self.pastes.add(key.text)
-        elif was_pasting:
-            self.synchronizing.settle(is_last=True)
-            self.pastes.end()
-            self.note_key()
-        elif is_pasting:
-            self.pastes.begin(NO_ANSWER if before == self.typing.answering else "")
+    def end_paste(self) -> None:
+        """Take the end of a paste."""
+        self.synchronizing.settle(is_last=True)
+        self.pastes.end()
+        self.note_key()
 
     def is_full(self) -> bool:
         """Whether so much waits for rows, for the focus or for a window that nothing more is to come. What waits behind a paste keeps
@@ -293,7 +212,7 @@ class Commands:
             self.move(word, int(pane) if word == "focus" else 0)
         if moves:
             self.copying.focus_moved(acts)
-            self.close_lists()
+            self.lists.close()
         if acts and acts[-1].startswith(TYPES):
             self.note_key()
 
@@ -378,14 +297,15 @@ class Commands:
     def left(self) -> None:
         """Does what is left to do where the person leaves."""
         self.synchronizing.settle(is_last=True)
-        self.act(*self.typing.left())
+        if self.modes.has(ScrollMode):
+            self.act(NEWEST)
         self.zooming.leave()
 
     # ---- from window to window
 
     def has_windows(self, windows: WindowWishes) -> None:
         """Has windows that are known here."""
-        self.windows, self.choosing_window = windows, ChoosingWindow(self, windows)
+        self.windows = windows
 
     def follow_panes(self, panes: PanesSubscriber) -> None:
         """Goes by what another tells of where the panes are."""
@@ -393,11 +313,11 @@ class Commands:
 
     def part(self) -> None:
         """Does what is left to do where the person goes to another window: what was drawn, and waited for, is this window's."""
-        if self.typing.is_scrolling():
+        if self.modes.has(ScrollMode):
             self.end_scroll()
         self.left()
         self.copying.close()
-        self.close_lists()
+        self.lists.close()
         self.pointing.end_drag()
         self.pastes.break_off()
         self.requested_size = None
@@ -405,87 +325,31 @@ class Commands:
             self.loop.drop(name)
 
     def follow_on(self, before: Commands, left_size: tty.Size) -> None:
-        """Goes on in this window with what the person has begun elsewhere: an escape, a paste, a question or a line that is asked for. The
-        window may have been shown whole as it was left, with a size."""
-        self.keys, self.typing, self.prefix, self.help = before.keys, before.typing, before.prefix, before.help
-        self.prompts.follow_on(before.prompts)
+        """Goes on in this window with what the person has begun elsewhere, as a paste. The window may have been shown whole as it was left,
+        with a size."""
         self.pointing.is_on = before.pointing.is_on
         self.display.moved = self.fit_drawn
         self.is_fitted, self.showed_all, self.left_size = False, False, left_size
-        if self.typing.mode == self.typing.pasting or before.copying.is_pasting:
+        if self.modes.has(PastingMode, CopyPasteMode):
             self.refuse_paste(WINDOW_GONE)
 
     def refuse_paste(self, why: str) -> None:
         """Has nothing be typed of a paste whose end hasn't come yet, and tells why then."""
-        self.typing.mode = self.typing.pasting
+        self.modes.drop(PastingMode, CopyPasteMode)
+        self.modes.push(PastingMode())
         self.pastes.begin(why)
 
     def end_scroll(self) -> None:
         """Ends the scroll mode, where the newest rows are."""
-        self.act(*self.typing.left())
-        self.typing.mode = self.typing.plain
+        self.act(NEWEST)
+        self.modes.drop(ScrollMode)
         self.display.end_told()
 
-    def grant(self, wish: str, key: Key) -> None:
-        """Does what the front end itself is asked for."""
-        if wish == "detach":
-            self.leave("[detached]")
-        elif wish == "suspend":
-            # The signal comes as from elsewhere, once what was typed is taken.
-            os.kill(os.getpid(), signal.SIGTSTP)
-        elif wish == "repaint":
-            self.zooming.overrule_own()
-            self.ask_size()
-            self.display.resettle()
-        elif wish == "help":
-            self.helping.show()
-        elif wish.startswith("copy"):
-            self.copy(wish)
-        elif wish == "row":
-            self.switch_row()
-        elif wish == "line":
-            self.prompts.type(key)
-        elif wish.startswith((OWN, "command line", "settings")):
-            self.runs(wish)
-        elif wish.startswith((GOES, WINDOW)):
-            if self.windows:
-                self.windows.grant(wish)
-        elif wish == "unknown":
-            self.display.tell(f"{self.prefix} {spelled(key)} is not bound; {self.prefix} ? shows the keys")
-        elif wish and not self.link.is_read_only:
-            self.change(wish)
-
-    def change(self, wish: str) -> None:
-        """Does what somebody who only watches may not."""
-        if wish == "scroll":
-            self.display.tell(f"{self.typing.view} rows back: PgUp PgDn up down g G scroll, q ends it", None)
-        elif wish.startswith("split"):
-            self.split(wish)
-        elif wish == "close":
-            self.close()
-        elif wish == "mouse":
-            self.pointing.switch()
-        elif wish == "panes":
-            self.display.tell(f"{self.display.labels}: a digit goes to the pane of this number", PICKS)
-        elif wish == "leave others":
-            self.leave_others()
-        elif wish in ("paste", "choose"):
-            self.copying.close()
-            self.choosing.ask(is_newest=wish == "paste")
-        elif wish == "zoom":
-            self.zooming.switch()
-        elif wish == "even" or wish.startswith("border"):
-            self.border_keys.ask(wish.split()[-1])
-        elif wish == "last":
-            self.go_back()
-        elif wish == "synchronize":
-            self.synchronizing.switch()
-        elif wish in BESIDE:
-            self.go(wish)
-        elif wish in ("yes", "no"):
-            self.prompts.answer(wish == "yes")
-        elif wish in ("scrolled", "picked"):
-            self.display.end_told()
+    def repaint(self) -> None:
+        """Fits the session to this terminal, and has all painted anew."""
+        self.zooming.overrule_own()
+        self.ask_size()
+        self.display.resettle()
 
     # ---- settings
 
@@ -525,17 +389,7 @@ class Commands:
         if self.display.is_held:
             return
         self.copying.fit()
-        self.choosing.fit()
-        self.listing.fit()
-        if self.choosing_window:
-            self.choosing_window.fit()
-
-    def close_lists(self) -> None:
-        """Closes what may be chosen from."""
-        self.choosing.close()
-        self.listing.close()
-        if self.choosing_window:
-            self.choosing_window.close()
+        self.lists.fit()
 
     def copy(self, wish: str) -> None:
         """Opens copy mode in the pane in focus, a page up or in its search where that is asked; where no rows are kept the view that all
@@ -543,7 +397,7 @@ class Commands:
         begins = {"copy page": [CopyEvent(lambda mode: mode.perform("page-up"))],
                   "copy search": [CopyEvent(lambda mode: mode.ask_search())]}.get(wish, [])
         places = self.places()
-        self.close_lists()
+        self.lists.close()
         if self.copying.is_on():
             self.copying.add(*begins)
         elif places and places.focus:
@@ -558,9 +412,12 @@ class Commands:
         if self.link.is_read_only or wish == "copy search":
             self.display.tell("no rows are kept that could be shown")
             return False
-        acts, scrolls = self.typing.begin_scroll(wish == "copy page", self.display.outer.size()[0])
-        self.act(*acts)
-        self.change(scrolls)
+        mode = self.modes.scroll_mode()
+        mode.view, mode.keymap.rows = 0, self.display.outer.size()[0]
+        for effect in mode.scrolled(0, 1) if wish == "copy page" else []:
+            if isinstance(effect, TypeActs):
+                self.act(*effect.acts)
+        self.display.tell(mode.status().line, None)
         return True
 
     # ---- sizes
@@ -693,7 +550,7 @@ class Commands:
         if self.follows(size, own, self.showed_all):
             self.ask_size()
         elif not sizes.is_smaller(own, size):
-            self.display.tell(f"{size[0]} by {size[1]}, as another terminal has it; {self.prefix} r fits this one", FITS_TOLD)
+            self.display.tell(f"{size[0]} by {size[1]}, as another terminal has it; {self.modes.keymap.name} r fits this one", FITS_TOLD)
         self.showed_all, self.left_size = False, NO_SIZE
 
     def follows(self, size: tty.Size, own: tty.Size, showed_all: bool) -> bool:
@@ -730,7 +587,7 @@ class Commands:
             self.act("close")
         else:
             runs = told({pane: busy[pane]}) if busy and pane else f"whatever runs in {f'pane {pane}' if pane else 'this pane'}"
-            self.prompts.ask(f"close {runs}? y closes it", lambda: self.act("close"))
+            self.ask(f"close {runs}? y closes it", ClosePane(self.session.number))
 
     def go(self, way: str) -> None:
         """Puts the pane on a side in focus; the next one where no rectangle is known."""

@@ -15,7 +15,7 @@ from roam_live.common.text import printable
 from roam_live.config.styled_text import ROW_STYLE, Styled
 from roam_live.frontend import sizes
 from roam_live.frontend.outer_modes import ClipboardWriter, OuterModes
-from roam_live.frontend.sizes import NO_SIZE, View, has_all
+from roam_live.frontend.sizes import NO_SIZE, TerminalView, has_all
 from roam_live.frontend.status_line import (ALL_PANES, BETWEEN, SYNCHRONIZED, ZOOMED, clipped, columns, cut, fitted, label_at, row_text,
                                             said, tail)
 from roam_live.protocol.colours import ASKED
@@ -264,7 +264,7 @@ class Display:
 
     def wanted(self) -> tty.Size | None:
         """The part of the session that is to be shown; None where that is the whole."""
-        return View(self.outer.size(), self.has_row(), self.size(), self.zoomed, self.may_be_whole).part()
+        return TerminalView(self.outer.size(), self.has_row(), self.size(), self.zoomed, self.may_be_whole).part()
 
     def choose(self, is_anew: bool = False, is_painted: bool = False) -> None:
         """Asks for what is to be shown, where that isn't what was asked for; else, where it has to be asked for anew, or be painted."""

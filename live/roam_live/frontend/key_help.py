@@ -2,15 +2,12 @@
 from __future__ import annotations
 
 from roam_live.config.command_table import BY_NAME, DEFAULT_KEYS, NamedCommand
-from roam_live.config.user_file import OWN
 from roam_live.frontend.bindings import help_with
 from roam_live.input.key_names import named, named_key, spelled_name
 
 TYPE_CHECKING = False
 if TYPE_CHECKING:
     from roam_live.config.loader import Binding
-    from roam_live.frontend.commands import Commands
-    from roam_live.input.keys import Key
 
     # What a settings file binds: by the table and the name of a key, nothing where it is unbound.
     Own = dict[tuple[str, str], "Binding | None"]
@@ -18,10 +15,6 @@ if TYPE_CHECKING:
 # What stands for all keys of a table that nothing binds; and the last row where there are more than have room.
 ALL = "all"
 FOOT = "{} to {} of {}: arrows, PgUp and PgDn scroll, another key leaves"
-
-# The keys that scroll, by how many rows; or by how many screens.
-ROWS = {"up": -1, "k": -1, "\x10": -1, "down": 1, "j": 1, "\x0e": 1, "g": -9999, "G": 9999}
-PAGES = {"prev": -1, "next": 1, " ": 1}
 
 # So many columns a key has, and so many what a command is told behind its name.
 COLUMNS, MOST = 10, 48
@@ -68,25 +61,3 @@ def command_line(command: NamedCommand, keys: list[tuple[str, str]]) -> str:
     does = command.help.partition(", with a command")[0]
     name = f"{command.names[0]} {rests}" if 0 < len(rests) <= MOST else command.names[0]
     return f"  {' '.join(key for key, _ in keys):{COLUMNS}} {name}: {does}"
-
-
-class Helping:
-    """The keys in place of the session, where they are shown: they scroll where they have no room."""
-
-    def __init__(self, commands: Commands) -> None:
-        self.commands = commands
-
-    def show(self) -> None:
-        """Shows them."""
-        commands = self.commands
-        commands.help = help_of(commands.prefix, commands.typing.own, OWN.is_typed)
-        commands.display.show(commands.help, foot=FOOT)
-
-    def takes(self, key: Key) -> bool:
-        """Takes a key that scrolls, and tells whether it does."""
-        display = self.commands.display
-        if not display.notice_most or key.name not in ROWS and key.name not in PAGES:
-            return False
-        rows = ROWS.get(key.name) or PAGES[key.name] * max(1, display.outer.size()[0] - 1)
-        display.show(display.notice, max(0, min(display.notice_first + rows, display.notice_most)), FOOT)
-        return True

@@ -5,6 +5,7 @@ from __future__ import annotations
 from roam_live.common.event_loop import Loop
 from roam_live.frontend.borders import BorderDrag, border_at
 from roam_live.frontend.copymode.mouse import Clicks
+from roam_live.frontend.modes import ScrollMode
 from roam_live.input.mouse_reports import DOWN, UP, MouseReport, is_wanted, report_of, sent, tracking_of
 
 TYPE_CHECKING = False
@@ -66,7 +67,7 @@ class Pointing:
         """Has roam have the mouse itself, or no more."""
         self.is_on = not self.is_on
         self.commands.show_metadata()
-        self.commands.display.tell(ON.format(self.commands.prefix) if self.is_on else OFF, TOLD)
+        self.commands.display.tell(ON.format(self.commands.modes.keymap.name) if self.is_on else OFF, TOLD)
 
     def panes_changed(self) -> None:
         """Takes note of what is told of the panes."""
@@ -96,16 +97,16 @@ class Pointing:
             self.end_drag()
         elif self.border and (report.moves() or report.is_release):
             self.drag(self.border, report, place)
-        elif commands.typing.is_scrolling():
+        elif commands.modes.has(ScrollMode):
             self.point_back(report, places, place)
-        elif commands.typing.is_typing():
+        elif commands.modes.is_typing():
             self.point(report, places, place, holder)
 
     def goes(self, report: MouseReport) -> bool:
         """Goes to the window whose label in the last row a button is held on, and tells whether it does."""
         commands = self.commands
         is_press = not report.is_release and not report.moves() and report.number() == 0
-        place = commands.display.window_at(report.row, report.col) if is_press and commands.typing.is_typing() else None
+        place = commands.display.window_at(report.row, report.col) if is_press and commands.modes.is_typing() else None
         if place is None or not commands.windows:
             return False
         self.end_drag()
@@ -150,7 +151,7 @@ class Pointing:
     def copies(self, report: MouseReport) -> bool:
         """Whether copy mode takes a report."""
         commands = self.commands
-        if not commands.copying.is_on() or commands.paused or commands.display.notice or not commands.typing.is_typing():
+        if not commands.copying.is_on() or commands.paused or commands.display.notice or not commands.modes.is_typing():
             return False
         return commands.copying.pointing.take(report)
 
@@ -177,9 +178,12 @@ class Pointing:
 
     def scroll(self, pane: int, rows: int) -> None:
         """Scrolls a pane; where the newest rows are there again that is over."""
-        acts, wish = self.commands.typing.scrolled_by(rows)
-        self.commands.act_together(f"focus {pane}", *acts)
-        self.commands.change(wish)
+        act, line = self.commands.modes.scroll_by(rows)
+        self.commands.act_together(f"focus {pane}", act)
+        if line:
+            self.commands.display.tell(line, None)
+        else:
+            self.commands.display.end_told()
 
     def point_back(self, report: MouseReport, places: Places, place: Place) -> None:
         """Goes by a report while rows are shown that scrolled off: the wheel scrolls, and where roam has the mouse what another pane is

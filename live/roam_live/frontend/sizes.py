@@ -87,7 +87,7 @@ def takes_latest(size: Size, room: Size) -> bool:
 # ---- which part a terminal shows
 
 
-class View(namedtuple("View", "terminal has_row size zoomed may_be_whole")):
+class TerminalView(namedtuple("TerminalView", "terminal has_row size zoomed may_be_whole")):
     """A terminal's size, whether its last row is the front end's own, the session's size, the rectangle of a zoomed pane or None, and
     whether the session may be shown with its own status row."""
 

@@ -9,12 +9,13 @@ from roam_live.common.errors import Fault, reason
 from roam_live.common.event_loop import Loop
 from roam_live.common.text import printable
 from roam_live.common.tty import LEAST, is_large_enough, largest
+from roam_live.frontend.effects import SendRequest
 from roam_live.frontend.line_editor import AskedLine
 from roam_live.frontend.windows_client import WindowsState
 from roam_live.input.extended_keys import ANSWERED
 from roam_live.input.mouse_reports import MOUSE
 from roam_live.protocol.colours import COLOUR
-from roam_live.protocol.window_lines import BELL, LONGEST_BYTES, LONGEST_NAME, MOST_WINDOWS, name_word
+from roam_live.protocol.window_lines import BELL, LONGEST_BYTES, LONGEST_NAME, MOST_WINDOWS
 from roam_live.session.foreground import told
 
 TYPE_CHECKING = False
@@ -27,12 +28,25 @@ if TYPE_CHECKING:
     from roam_live.protocol.host_client import HostLink
     from roam_live.protocol.session_interface import AnySession
 
+    class Keyboard(Protocol):
+        """What a person types."""
+
+        def typed(self, keys: list[Key]) -> None:
+            """Take keys."""
+
+        def reported(self, key: Key) -> None:
+            """Take what the terminal reports."""
+
     class AtWindow(Protocol):
         """A front end, as it is at one window of a session."""
 
         session: AnySession
         display: Display
         host_link: HostLink
+
+        @property
+        def keyboard(self) -> Keyboard:
+            """What the person types."""
 
         @property
         def commands(self) -> Commands:
@@ -146,6 +160,10 @@ class WindowWishes:
         label = self.told.label(number, self.here(), self.last())
         return f"{label}  {runs}" if runs and self.told.names.get(number) else label
 
+    def all_described(self) -> dict[int, str]:
+        """All windows, as a list has them."""
+        return {number: self.described(number) for number in self.numbers()}
+
     def why_one(self) -> str:
         """Why no other window can be had here; nothing where one can."""
         if not self.front.number:
@@ -191,9 +209,9 @@ class WindowWishes:
             # A settings file may have more of a name stand there than a label has.
             display.windows = labels, place
             display.put_line()
-        chooses = self.front.commands.choosing_window
-        if chooses:
-            chooses.told_anew()
+        lists = self.front.commands.lists
+        if lists.kind == "windows":
+            lists.refresh_windows(self.all_described())
 
     def gone(self, number: int) -> None:
         """Goes where the person was before, where the window is gone in which he is; else to the one with the nearest number. The last
@@ -246,11 +264,11 @@ class WindowWishes:
             self.loop.later("list waits", LISTS, self.list_all)
             return
         self.loop.drop("list waits")
-        if not commands.choosing_window or not commands.choosing_window.begin():
+        if not commands.lists.show_windows(self.all_described(), self.here()):
             commands.display.tell(NO_ROOM, SAID)
         if waited:
             held, self.held = self.held, []
-            commands.typed(held)
+            self.front.keyboard.typed(held)
 
     def told_panes(self) -> None:
         """Opens a list that waits for what is told of the panes."""
@@ -263,7 +281,7 @@ class WindowWishes:
         if what == "last":
             self.go_to(self.last(), "there is no last window")
         elif what == "asked":
-            self.front.commands.prompts.ask_line(AskedLine("window", most=2), self.go_asked)
+            self.front.commands.ask_line(AskedLine("window", most=2), "window")
         elif what in ("next", "previous"):
             others = [number for number in numbers if (number > here) == (what == "next") and number != here] or numbers
             self.go_to((others[0] if what == "next" else others[-1]) if others else 0, "there is no other window")
@@ -345,7 +363,7 @@ class WindowWishes:
         else:
             self.go_to(number)
         if self.stays or self.here() == number:
-            self.front.commands.typed(held)
+            self.front.keyboard.typed(held)
         elif held:
             self.front.display.tell(f"window {number} can't be shown{DROPPED}", SAID)
 
@@ -364,15 +382,12 @@ class WindowWishes:
         elif was_told:
             self.front.display.end_told()
 
-    def takes(self, commands: Commands, keys: list[Key], place: int) -> bool:
-        """Takes the keys from this place on, if they aren't for the window whose commands these are: for one that is being opened, for a
-        list, or for that where the person went. Tells whether they were taken."""
-        if self.is_opening or self.is_listing:
-            self.hold(keys[place:])
-        elif commands is not self.front.commands:
-            self.front.commands.typed(keys[place:])
-        else:
+    def takes(self, keys: list[Key], place: int) -> bool:
+        """Takes the keys from this place on, if they are for a window that is being opened, or for a list. Tells whether they were
+        taken."""
+        if not self.is_opening and not self.is_listing:
             return False
+        self.hold(keys[place:])
         return True
 
     def hold(self, keys: list[Key]) -> None:
@@ -380,10 +395,10 @@ class WindowWishes:
         tells itself doesn't wait."""
         for place, key in enumerate(keys):
             if key.name in (COLOUR, ANSWERED):
-                self.front.commands.reported(key)
+                self.front.keyboard.reported(key)
             elif key.name == INTERRUPT and self.is_late:
                 self.end_opening(NOT_AWAITED)
-                self.front.commands.typed(keys[place + 1 :])
+                self.front.keyboard.typed(keys[place + 1 :])
                 return
             elif key.name != MOUSE:
                 self.held.append(key)
@@ -398,7 +413,7 @@ class WindowWishes:
         """Asks for the name of the window where the person is."""
         number = self.here()
         asked = AskedName(number, self.told.names.get(number, ""))
-        self.front.commands.prompts.ask_line(asked, lambda text: self.say(f"name {number} {name_word(text)}"))
+        self.front.commands.ask_line(asked, f"name {number}")
 
     def ask_shut(self) -> None:
         """Shuts the window where the person is: once that is confirmed, where something runs there, or it is the last."""
@@ -409,4 +424,4 @@ class WindowWishes:
             self.say(f"shut {number}")
             return
         end = " and end the session, whose last it is" if is_last else ""
-        self.front.commands.prompts.ask(f"shut window {number}{runs}{end}? y shuts it", lambda: self.say(f"shut {number}"))
+        self.front.commands.ask(f"shut window {number}{runs}{end}? y shuts it", SendRequest(f"shut {number}"))

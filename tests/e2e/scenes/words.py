@@ -7,8 +7,10 @@ import xml.etree.ElementTree
 from tried import Outer, PROGRAM, check, comes, failed, listed, noted, said, scene, tool, window_of
 from roam_live.common.process import TOOLS
 from roam_live.config.environment import PREFIXES
-from roam_live.frontend.bindings import Typing, help_with
-from roam_live.input.keys import Keys
+from roam_live.frontend.bindings import Keymap, help_with
+from roam_live.frontend.effects import Perform, TypeKey
+from roam_live.frontend.modes import ModeStack
+from roam_live.input.keys import Key, Keys
 
 
 @scene
@@ -81,11 +83,11 @@ def all_clients():
         check(f"mux {word[0]} tells that the session hears no more starts", told[0] == 1 and "has had the 64" in told[2], told)
 
 
-def asked_of(typing, text):
-    """What the last key of a text asks for."""
-    keys, found = Keys(), ([], "")
+def asked_of(name, text):
+    """What the last key of a text asks for, where a key of this name is the prefix."""
+    keys, stack, found = Keys(), ModeStack(Keymap(name)), []
     for key in keys.fed(text) + keys.ended():
-        found = typing.asked(key, 1.0, 24)
+        found = stack.takes(key, 1.0)
     return found
 
 
@@ -95,10 +97,10 @@ def prefix(folder):
     before = len(failed)
     for name, letter in PREFIXES.items():
         text = letter.encode()
-        found = asked_of(Typing(name), text + b"d"), asked_of(Typing(name), text * 2), asked_of(Typing(name), text * 3 + b"x")
-        own = ["key return"] if letter == "\r" else [f"char {ord(letter):x}"]
+        found = asked_of(name, text + b"d"), asked_of(name, text * 2), asked_of(name, text * 3 + b"x")
+        own = TypeKey(["key return"] if letter == "\r" else [f"char {ord(letter):x}"], Key(letter, letter))
         is_told = f"{name} itself" in help_with(name) and (name == "C-b" or "C-b" not in help_with(name))
-        if found != (([], "detach"), (own, ""), ([], "close")) or not is_told:
+        if found != ([Perform("detach")], [own], [Perform("close")]) or not is_told:
             check(f"{name} as the prefix", False, found)
     check(f"{len(PREFIXES)} keys may be the prefix", len(PREFIXES) == 30 and len(failed) == before, PREFIXES)
     for name in ("C-B", "C-[", "C-1", "a", "C-", "\x01"):

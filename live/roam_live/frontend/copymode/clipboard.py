@@ -67,7 +67,7 @@ class CopiedTexts:
 
             commands.display.outer.set_clip(b64encode(text).decode())
         if scrollback and not commands.link.is_read_only:
-            told = COPIED.format(counted(text), commands.prefix)
+            told = COPIED.format(counted(text), commands.modes.keymap.name)
             scrollback.add_buffer(text, lambda number: self.tell(NOT_KEPT.format(counted(text)) if number is None else told))
         else:
             self.tell(COPIED_HERE.format(counted(text)))

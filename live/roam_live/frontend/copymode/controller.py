@@ -2,23 +2,21 @@
 while the session goes on below. Nobody else sees of it. What is typed waits in order for the rows that it needs."""
 from __future__ import annotations
 
-import time
 from collections import deque, namedtuple
 from collections.abc import Callable
 
 from roam_live.common.event_loop import Loop
-from roam_live.frontend.bindings import BORDERS
 from roam_live.frontend.copymode.clipboard import CopiedTexts
 from roam_live.frontend.copymode.mouse import CopyPointing
 from roam_live.frontend.copymode.popup import CopyScreen
 from roam_live.frontend.copymode.row_requests import GONE, CopyAsking
+from roam_live.frontend.modes import CopyKeysMode
 from roam_live.protocol.panes import MOVES, Rect
 
 TYPE_CHECKING = False
 if TYPE_CHECKING:
     from roam_live.frontend.commands import Commands
     from roam_live.frontend.copymode.commands import CopyWish
-    from roam_live.frontend.copymode.keys import KeyPairs
     from roam_live.frontend.copymode.mode import CopyMode
     from roam_live.input.keys import Key
     from roam_live.protocol.scrollback_client import ScrollbackClient, Snapshot
@@ -36,8 +34,9 @@ MOST_WAITING = 4096
 TOLD = 2.0
 NO_ROOM = "nothing of the pane is shown here"
 
-# The key that leaves it while an answer is awaited, whatever waits before that.
+# The key that leaves it while an answer is awaited, whatever waits before that; and with an escape before it.
 INTERRUPT = "\x03"
+INTERRUPTS = (INTERRUPT, f"M-{INTERRUPT}")
 
 
 def nothing() -> None:
@@ -64,11 +63,10 @@ class Copying:
         self.instead: Callable[[], object] = nothing
         # What was typed and pointed at and isn't done yet.
         self.events: deque[CopyEvent] = deque()
-        self.pairs: KeyPairs | None = None
+        # What takes its keys.
+        self.keys: CopyKeysMode | None = None
         # What was searched for last, and which way, which stays when it is closed.
         self.sought = "", False
-        # Whether a paste is typed into a line that is asked for; what of it comes once that is gone is nothing.
-        self.is_pasting = False
         self.screen, self.asking = CopyScreen(self), CopyAsking(self, loop)
         self.pointing, self.texts = CopyPointing(self, loop), CopiedTexts(commands)
 
@@ -103,10 +101,8 @@ class Copying:
         if not scrollback or len(making) != 2 or not rect:
             instead()
             return
-        from roam_live.frontend.copymode.keys import KeyPairs
-
         self.pane, self.generation, self.screen.rect, self.instead = pane, int(making[1]), rect, instead
-        self.pairs = KeyPairs()
+        self.take_keys()
         self.events.extend(begins)
         self.ask_snapshot(scrollback)
 
@@ -114,11 +110,22 @@ class Copying:
         """Opens it in the pane in focus once that is told, as where a relay goes another way; where it isn't in time something else is done
         instead."""
         self.close()
-        from roam_live.frontend.copymode.keys import KeyPairs
-
-        self.pane, self.instead, self.pairs = 0, instead, KeyPairs()
+        self.pane, self.instead = 0, instead
+        self.take_keys()
         self.events.extend(begins)
         self.begin_opening()
+
+    def take_keys(self) -> None:
+        """Has the keys be copy mode's."""
+        from roam_live.frontend.copymode.keys import KeyPairs
+
+        self.keys = self.commands.modes.drawn = CopyKeysMode(self.commands.modes.keymap, KeyPairs())
+
+    def drop_keys(self) -> None:
+        """Has the keys be copy mode's no more, and drops what waits."""
+        self.commands.modes.remove(self.keys)
+        self.keys = None
+        self.events.clear()
 
     def find_focus(self) -> None:
         """Opens it in the pane in focus, where that is told by now."""
@@ -173,7 +180,7 @@ class Copying:
             self.close(GONE)
             return
         instead, events = self.instead, list(self.events)
-        self.close()
+        self.drop_keys()
         for event in events if instead() else []:
             event.instead()
 
@@ -199,7 +206,7 @@ class Copying:
     def give_up(self) -> None:
         """Closes it in whatever state it is, and drops what waits."""
         self.close()
-        self.events.clear()
+        self.drop_keys()
 
     def close(self, why: str = "") -> None:
         """Closes it, where it is open, and drops what waits; tells why, where there is something to tell."""
@@ -211,7 +218,7 @@ class Copying:
         was_shown, self.mode = self.mode is not None, None
         self.is_opening = False
         self.opening += 1
-        self.events.clear()
+        self.drop_keys()
         for name in ("copy opens", "copy connects"):
             self.loop.drop(name)
         self.asking.end()
@@ -257,54 +264,20 @@ class Copying:
 
     # ---- what is typed
 
-    def takes(self, key: Key) -> bool:
-        """Takes a key, and tells whether it is for copy mode."""
-        typing = self.commands.typing
-        if self.is_pasting:
-            return self.take_pasted(key)
-        if not self.is_on() or self.commands.paused or self.commands.display.notice:
-            return False
-        if key.name == "paste":
-            return self.take_pasted(key)
-        has_escape = self.pairs is not None and self.pairs.escape is not None
-        if typing.mode == typing.prefixed and key.name == typing.prefix:
-            typing.mode = typing.plain
-        elif typing.mode != typing.plain or key.name in BORDERS and typing.repeats(time.monotonic()):
-            return False
-        elif key.name == typing.prefix and not has_escape:
-            return False
-        self.feed(key)
-        return True
+    def takes_paste(self) -> bool:
+        """Return True if a paste is for a line that copy mode asks for."""
+        return self.mode is not None and self.mode.prompt is not None and not self.events
 
-    def take_pasted(self, key: Key) -> bool:
-        """Takes a key of a paste: one goes into the line that is asked for, and ends copy mode where none is."""
-        if key.name == "paste":
-            self.is_pasting = self.mode is not None and self.mode.prompt is not None and not self.events
-            if not self.is_pasting:
-                self.close()
-            return self.is_pasting
-        if key.name == "text":
-            self.add(CopyEvent(lambda mode: mode.paste(key.text)))
-        else:
-            self.is_pasting = False
-        return True
+    def take_text(self, text: str) -> None:
+        """Takes what of a paste is for such a line."""
+        self.add(CopyEvent(lambda mode: mode.paste(text)))
 
-    def feed(self, key: Key) -> None:
-        """Takes a key that is copy mode's; an escape waits for what may come with it."""
-        if key.name == INTERRUPT and (self.asking.is_waiting or self.is_opening):
+    def take_key(self, key: Key) -> None:
+        """Takes a key."""
+        if key.name in INTERRUPTS and (self.asking.is_waiting or self.is_opening):
             self.close()
-            return
-        for whole in self.pairs.fed(key) if self.pairs else []:
-            self.add_key(whole)
-
-    def settle(self) -> None:
-        """Takes an escape behind which nothing came."""
-        for whole in self.pairs.ended() if self.pairs and self.is_on() else []:
-            self.add_key(whole)
-
-    def add_key(self, key: Key) -> None:
-        """Has a key be done behind what waits."""
-        self.add(CopyEvent(lambda mode: mode.take(key), lambda: self.commands.take(key)))
+        else:
+            self.add(CopyEvent(lambda mode: mode.take(key), lambda: self.commands.takes(key)))
 
     def add(self, *events: CopyEvent) -> None:
         """Has something be done behind what waits."""

@@ -1,0 +1,193 @@
+"""What modes ask for: plain values, which `Commands` carries out.
+
+Each is a small class of its own, since two tuples with equal fields would be equal, and since dataclasses take longer to load than all of
+these together.
+"""
+from __future__ import annotations
+
+TYPE_CHECKING = False
+if TYPE_CHECKING:
+    from roam_live.input.keys import Key
+
+
+class Effect:
+    """A value, equal to another of the same class with the same fields."""
+
+    def __eq__(self, other: object) -> bool:
+        return type(self) is type(other) and self.__dict__ == other.__dict__
+
+    def __repr__(self) -> str:
+        return f"{type(self).__name__}({', '.join(f'{name}={value!r}' for name, value in self.__dict__.items())})"
+
+
+# ---- which mode takes a key
+
+
+class PopMode(Effect):
+    """The mode that asks for this ends."""
+
+
+class PassKey(Effect):
+    """The modes below take a key."""
+
+    def __init__(self, key: Key) -> None:
+        self.key = key
+
+
+class SendLiteral(Effect):
+    """The modes below take a key as itself: the prefix that is typed twice."""
+
+    def __init__(self, key: Key) -> None:
+        self.key = key
+
+
+# ---- the session
+
+
+class TypeKey(Effect):
+    """A key is typed in the pane in focus, by its acts."""
+
+    def __init__(self, acts: list[str], key: Key) -> None:
+        self.acts, self.key = acts, key
+
+
+class TypeActs(Effect):
+    """Acts that are not a key's are typed."""
+
+    def __init__(self, *acts: str) -> None:
+        self.acts = list(acts)
+
+
+class ClosePane(Effect):
+    """The pane in focus of a window is closed, 0 for a session without windows."""
+
+    def __init__(self, window: int) -> None:
+        self.window = window
+
+
+class SendRequest(Effect):
+    """The front end sends the pty host a line about windows."""
+
+    def __init__(self, line: str) -> None:
+        self.line = line
+
+
+class BeginPaste(Effect):
+    """A paste begins, of which nothing is typed if there is a reason against it."""
+
+    def __init__(self, why: str = "") -> None:
+        self.why = why
+
+
+class AddPaste(Effect):
+    """A part of a paste arrives."""
+
+    def __init__(self, text: str) -> None:
+        self.text = text
+
+
+class EndPaste(Effect):
+    """A paste is whole."""
+
+
+class PasteBuffer(Effect):
+    """A paste buffer is pasted, by its number."""
+
+    def __init__(self, number: int) -> None:
+        self.number = number
+
+
+# ---- the front end
+
+
+class Perform(Effect):
+    """The front end does what a command's wish names."""
+
+    def __init__(self, wish: str) -> None:
+        self.wish = wish
+
+
+class TellUnbound(Effect):
+    """The last row says that a key is not bound."""
+
+    def __init__(self, key: Key) -> None:
+        self.key = key
+
+
+class ShowStatus(Effect):
+    """A line stands in the last row, for some seconds, or until it is cleared."""
+
+    def __init__(self, line: str, seconds: float | None) -> None:
+        self.line, self.seconds = line, seconds
+
+
+class ClearStatus(Effect):
+    """Such a line ends."""
+
+
+class ShowPrompt(Effect):
+    """A line that is being typed stands in the last row."""
+
+    def __init__(self, line: str) -> None:
+        self.line = line
+
+
+class HidePrompt(Effect):
+    """A prompt ends."""
+
+
+class EnterLine(Effect):
+    """A line was typed, for a purpose: `command`, `window`, or `name` and a window's number."""
+
+    def __init__(self, purpose: str, text: str) -> None:
+        self.purpose, self.text = purpose, text
+
+
+class GoToWindow(Effect):
+    """The front end goes to a window."""
+
+    def __init__(self, number: int) -> None:
+        self.number = number
+
+
+class ScrollHelp(Effect):
+    """The list of keys scrolls, by rows and by pages; it ends if it has room for all."""
+
+    def __init__(self, rows: int, pages: int) -> None:
+        self.rows, self.pages = rows, pages
+
+
+class CloseHelp(Effect):
+    """The session is shown again in place of the list of keys."""
+
+
+class DrawList(Effect):
+    """Another line of a list is chosen."""
+
+
+class CloseList(Effect):
+    """A list ends."""
+
+
+# ---- copy mode
+
+
+class CopyKey(Effect):
+    """Copy mode takes a key."""
+
+    def __init__(self, key: Key) -> None:
+        self.key = key
+
+
+class CopyText(Effect):
+    """Copy mode takes a part of a paste, for a line that it asks for."""
+
+    def __init__(self, text: str) -> None:
+        self.text = text
+
+
+class OfferPaste(Effect):
+    """Copy mode takes a paste if it asks for a line; else it ends, and the modes below take the key."""
+
+    def __init__(self, key: Key) -> None:
+        self.key = key

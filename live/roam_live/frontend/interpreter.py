@@ -1,0 +1,263 @@
+"""Takes what a person types, has the modes say what it asks for, and carries that out."""
+from __future__ import annotations
+
+import os
+import signal
+import time
+from collections.abc import Callable
+
+from roam_live.config.environment import ESCAPE_TIME, number_of
+from roam_live.config.user_file import OWN
+from roam_live.frontend import effects
+from roam_live.frontend.bindings import OWN as OWN_KEY, PICKS, help_with
+from roam_live.frontend.key_help import FOOT, help_of
+from roam_live.frontend.modes import (GOES, CopyKeysMode, CopyPasteMode, HelpMode, LineMode, PastingMode, PickingMode, leaves_paused,
+                                      under_notice, while_paused)
+from roam_live.input.extended_keys import ANSWERED
+from roam_live.input.key_names import spelled
+from roam_live.input.keys import Keys
+from roam_live.input.mouse_reports import MOUSE
+from roam_live.protocol.colours import COLOUR
+from roam_live.protocol.panes import BESIDE
+from roam_live.protocol.window_lines import name_word
+
+TYPE_CHECKING = False
+if TYPE_CHECKING:
+    from roam_live.common.event_loop import Loop
+    from roam_live.frontend.commands import Commands
+    from roam_live.frontend.display import Display
+    from roam_live.frontend.effects import Effect
+    from roam_live.frontend.modes import ModeStack
+    from roam_live.frontend.windows import WindowWishes
+    from roam_live.input.keys import Key
+
+# What a wish begins with that changes a window.
+WINDOW = "window "
+
+# What the wishes begin with that the commands of a person's own keys, and the command line, carry out.
+RUN = (OWN_KEY, "command line", "settings")
+
+# What somebody who only watches may wish for, and what he may not.
+ANYBODY: dict[str, Callable[[Commands], object]] = {
+    "detach": lambda commands: commands.leave("[detached]"),
+    # The signal comes as from elsewhere, once what was typed is taken.
+    "suspend": lambda commands: os.kill(os.getpid(), signal.SIGTSTP),
+    "repaint": lambda commands: commands.repaint(),
+    "row": lambda commands: commands.switch_row(),
+}
+EDITORS: dict[str, Callable[[Commands], object]] = {
+    "close": lambda commands: commands.close(),
+    "mouse": lambda commands: commands.pointing.switch(),
+    "leave others": lambda commands: commands.leave_others(),
+    "zoom": lambda commands: commands.zooming.switch(),
+    "even": lambda commands: commands.border_keys.ask("even"),
+    "last": lambda commands: commands.go_back(),
+    "synchronize": lambda commands: commands.synchronizing.switch(),
+}
+
+
+class Interpreter:
+    """Carries out what the modes of one person ask for, in the window where the person is, which a call returns."""
+
+    def __init__(self, modes: ModeStack, display: Display, loop: Loop, commands: Callable[[], Commands]) -> None:
+        self.modes, self.display, self.loop, self.commands = modes, display, loop, commands
+        self.keys = Keys()
+        # The list of keys as it is shown, or was last.
+        self.help = ""
+        self.windows: WindowWishes | None = None
+        # What does the commands of a person's own keys; what takes a command that was typed; and what returns the commands of a window
+        # that the person left, None if nothing of it goes on.
+        self.runs: Callable[[str], object] = lambda wish: None
+        self.enters: Callable[[str], object] = lambda text: None
+        self.left_window: Callable[[int], Commands | None] = lambda number: None
+        now = commands
+        self.does: dict[type[Effect], Callable[..., object]] = {
+            effects.TypeKey: lambda asked: now().type_key(asked.acts, asked.key),
+            effects.TypeActs: lambda asked: now().act(*asked.acts),
+            effects.ClosePane: self.close_pane,
+            effects.SendRequest: lambda asked: self.windows and self.windows.say(asked.line),
+            effects.BeginPaste: lambda asked: now().pastes.begin(asked.why),
+            effects.AddPaste: lambda asked: now().pastes.add(asked.text),
+            effects.EndPaste: lambda asked: now().end_paste(),
+            effects.PasteBuffer: lambda asked: now().pastes.paste_buffer(asked.number),
+            effects.Perform: lambda asked: self.grant(asked.wish),
+            effects.TellUnbound: self.tell_unbound,
+            effects.ShowStatus: lambda asked: display.tell(asked.line, asked.seconds),
+            effects.ClearStatus: lambda asked: display.end_told(),
+            effects.ShowPrompt: lambda asked: display.ask(asked.line, is_typed=True),
+            effects.HidePrompt: lambda asked: display.end_prompt(),
+            effects.EnterLine: self.enter,
+            effects.GoToWindow: self.go_to_window,
+            effects.ScrollHelp: self.scroll_help,
+            effects.CloseHelp: lambda asked: display.uncover(),
+            effects.DrawList: lambda asked: now().lists.draw(),
+            effects.CloseList: lambda asked: now().lists.close(),
+            effects.CopyKey: lambda asked: now().copying.take_key(asked.key),
+            effects.CopyText: lambda asked: now().copying.take_text(asked.text),
+            effects.OfferPaste: self.offer_paste,
+        }
+
+    def choose(self, prefix: str) -> None:
+        """Make the key of a name the prefix."""
+        self.modes.keymap.choose(prefix)
+        self.help = help_with(prefix)
+        self.display.fits_line = "" if self.commands().link.is_read_only else f"{prefix} r fits"
+        self.display.leaves_line = f"{prefix} d leaves"
+
+    # ---- what is typed
+
+    def fed(self, chunk: bytes) -> None:
+        """Take bytes that were typed."""
+        self.typed(self.keys.fed(chunk))
+        self.loop.drop("escape")
+        if self.keys.waits():
+            self.loop.later("escape", number_of("escape-time", ESCAPE_TIME) / 1000, lambda: self.typed(self.keys.ended()))
+
+    def typed(self, keys: list[Key]) -> None:
+        """Take keys; those behind one that goes to another window, or opens one, are for that."""
+        here = self.commands()
+        here.follow_latest()
+        keys = self.modes.keymap.joined(keys)
+        place = 0
+        while place < len(keys):
+            if self.windows and self.windows.takes(keys, place):
+                break
+            if self.commands() is not here:
+                here = self.commands()
+                here.follow_latest()
+            key, count = self.modes.whole(keys, place)
+            self.take_any(key)
+            place += count
+        if isinstance(self.modes.drawn, CopyKeysMode):
+            self.carry_out(self.modes.drawn.ended())
+        self.commands().synchronizing.settle()
+
+    def take_any(self, key: Key) -> None:
+        """Take a key, or what the terminal reports."""
+        if key.name in (COLOUR, ANSWERED) or key.name == MOUSE and not self.modes.has(PastingMode):
+            self.reported(key)
+            return
+        try:
+            self.take(key)
+        except ImportError:
+            self.commands().tell_replaced()
+
+    def reported(self, key: Key) -> None:
+        """Take what the terminal reports: what is done with the mouse, or a colour that it has."""
+        if key.name == MOUSE:
+            self.commands().pointing.take(key.text)
+        elif key.name == ANSWERED:
+            self.display.outer.take_answer(key.text)
+        else:
+            self.commands().tell_colour(key.text)
+
+    def take(self, key: Key) -> None:
+        """Take a key. Under a notice nothing is typed; the prefix means there what it always does."""
+        modes, is_paused, now = self.modes, self.commands().paused, time.monotonic()
+        if modes.pushed and self.display.notice != self.help:
+            modes.drop(HelpMode)
+        is_covered = is_paused or bool(self.display.notice)
+        modes.keymap.rows = self.display.outer.size()[0]
+        asked = [] if is_paused and modes.has(LineMode) else modes.takes(key, now, is_covered)
+        if is_paused:
+            self.carry_out(while_paused(asked))
+            if leaves_paused(key, asked):
+                self.commands().leave("[left]")
+        else:
+            self.carry_out(under_notice(asked) if is_covered else asked)
+
+    def carry_out(self, asked: list[Effect]) -> None:
+        """Carry out effects, in their order."""
+        for effect in asked:
+            self.does[type(effect)](effect)
+
+    # ---- what is asked for
+
+    def grant(self, wish: str) -> None:
+        """Do what the front end itself is asked for."""
+        commands, word = self.commands(), wish.partition(" ")[0]
+        if wish in ANYBODY:
+            ANYBODY[wish](commands)
+        elif wish == "help":
+            self.show_help()
+        elif word == "copy":
+            commands.copy(wish)
+        elif wish.startswith(RUN):
+            self.runs(wish)
+        elif wish.startswith((GOES, WINDOW)):
+            if self.windows:
+                self.windows.grant(wish)
+        elif not commands.link.is_read_only:
+            self.change(commands, wish, word)
+
+    def change(self, commands: Commands, wish: str, word: str) -> None:
+        """Do what somebody who only watches may not."""
+        if wish in EDITORS:
+            EDITORS[wish](commands)
+        elif word == "split":
+            commands.split(wish)
+        elif word == "border":
+            commands.border_keys.ask(wish.split()[-1])
+        elif wish == "panes":
+            self.display.tell(f"{self.display.labels}: a digit goes to the pane of this number", PICKS)
+            self.modes.push(PickingMode(time.monotonic()))
+        elif wish in ("paste", "choose"):
+            commands.copying.close()
+            commands.lists.ask_buffers(is_newest=wish == "paste")
+        elif wish in BESIDE:
+            commands.go(wish)
+
+    def close_pane(self, asked: effects.ClosePane) -> None:
+        """Close the pane in focus of a window, also of one that the person has left since he was asked."""
+        here = self.commands()
+        commands = here if here.session.number == asked.window else self.left_window(asked.window)
+        if commands:
+            commands.act("close")
+
+    def tell_unbound(self, asked: effects.TellUnbound) -> None:
+        """Tell that a key is not bound."""
+        prefix = self.modes.keymap.name
+        self.display.tell(f"{prefix} {spelled(asked.key)} is not bound; {prefix} ? shows the keys")
+
+    def go_to_window(self, asked: effects.GoToWindow) -> None:
+        """Go to a window."""
+        if self.windows:
+            self.windows.go_to(asked.number)
+
+    def enter(self, asked: effects.EnterLine) -> None:
+        """Take a line that was typed."""
+        word, _, number = asked.purpose.partition(" ")
+        if word == "command":
+            self.enters(asked.text)
+        elif word == "window" and self.windows:
+            self.windows.go_asked(asked.text)
+        elif word == "name" and self.windows:
+            self.windows.say(f"name {number} {name_word(asked.text)}")
+
+    # ---- the list of keys, and pastes in copy mode
+
+    def show_help(self) -> None:
+        """Show the list of keys."""
+        keymap = self.modes.keymap
+        self.help = help_of(keymap.name, keymap.own, OWN.is_typed)
+        self.display.show(self.help, foot=FOOT)
+        self.modes.push(HelpMode(keymap))
+
+    def scroll_help(self, asked: effects.ScrollHelp) -> None:
+        """Scroll the list of keys, which ends if it has room for all."""
+        display = self.display
+        if not display.notice_most:
+            self.modes.drop(HelpMode)
+            display.uncover()
+            return
+        rows = asked.rows + asked.pages * max(1, display.outer.size()[0] - 1)
+        display.show(display.notice, max(0, min(display.notice_first + rows, display.notice_most)), FOOT)
+
+    def offer_paste(self, asked: effects.OfferPaste) -> None:
+        """Have copy mode take a paste, if it asks for a line; else it ends, and the key means what it means elsewhere."""
+        copying = self.commands().copying
+        if copying.takes_paste():
+            self.modes.push(CopyPasteMode())
+        else:
+            copying.close()
+            self.take(asked.key)

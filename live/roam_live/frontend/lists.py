@@ -1,0 +1,183 @@
+"""Lists from which a person chooses, drawn over the pane in focus: the paste buffers of the pty host, the windows of a session, and lines
+that are only read."""
+from __future__ import annotations
+
+from roam_live.common.text import printable
+from roam_live.frontend.effects import GoToWindow, PasteBuffer
+from roam_live.frontend.modes import ListLine, ListMode
+from roam_live.frontend.popup import Popup
+from roam_live.frontend.status_line import fitted
+from roam_live.protocol.panes import Rect
+
+TYPE_CHECKING = False
+if TYPE_CHECKING:
+    from roam_live.frontend.bindings import Keymap
+    from roam_live.frontend.commands import Commands
+    from roam_live.frontend.effects import Effect
+    from roam_live.protocol.scrollback_client import BufferNote
+
+# So many seconds a line stands.
+TOLD = 2.0
+NONE_KEPT = "no buffer is kept"
+UNTOLD = "nothing is pasted: what keeps the buffers isn't connected"
+
+# Where the connection to what keeps them is cut, as by a relay that goes another way, they are asked for again after so many seconds, while
+# it may be there soon.
+AGAIN = 0.05
+LINE = "buffer {} of {}: Return pastes it, up and down choose, q leaves"
+LISTED = "line {} of {}: up, down, PgUp and PgDn scroll, q leaves"
+WINDOWS_LINE = "window {}, of {}: Return and a digit go there, up and down choose, q leaves"
+
+
+def buffer_list(keymap: Keymap, notes: list[BufferNote]) -> ListMode:
+    """Return a list of paste buffers, each by its number, its length and its beginning. The chosen one is pasted."""
+    return ListMode(keymap, [ListLine(f"{note.number}: {note.length} bytes: {printable(note.sample)}", LINE.format(note.number, len(notes)),
+                                      PasteBuffer(note.number)) for note in notes])
+
+
+def read_list(keymap: Keymap, lines: list[str]) -> ListMode:
+    """Return a list of lines that are only read."""
+    return ListMode(keymap, [ListLine(line, LISTED.format(place, len(lines))) for place, line in enumerate(lines, 1)])
+
+
+def window_list(keymap: Keymap, described: dict[int, str], chosen: int) -> ListMode:
+    """Return a list of windows, by their numbers, of which one is chosen at first. A digit goes to a window at once."""
+    lines = [ListLine(text, WINDOWS_LINE.format(number, len(described)), GoToWindow(number)) for number, text in described.items()]
+    digits: dict[str, Effect] = {str(number % 10): GoToWindow(number) for number in range(1, 11)}
+    return ListMode(keymap, lines, list(described).index(chosen) if chosen in described else 0, digits)
+
+
+def first_shown(mode: ListMode, rect: Rect) -> int:
+    """Return the first line that is shown in a rectangle."""
+    return max(0, mode.chosen - rect.rows + 1)
+
+
+def painted(mode: ListMode, rect: Rect) -> list[bytes]:
+    """Return the rows of a list as they are written in a rectangle: the chosen line is reversed."""
+    found: list[bytes] = []
+    first = first_shown(mode, rect)
+    for place in range(first, first + rect.rows):
+        text = fitted(mode.lines[place].text if place < len(mode.lines) else "", rect.cols)
+        found.append(f"\x1b[0{';7' * (place == mode.chosen)}m{text}\x1b[0m".encode("utf-8", "replace"))
+    return found
+
+
+class Lists:
+    """The list of one person that is open in a window, if there is one."""
+
+    def __init__(self, commands: Commands) -> None:
+        self.commands = commands
+        self.mode: ListMode | None = None
+        # What the list is of: `buffers`, `lines` or `windows`; and the making of the pane over which it is drawn, and where.
+        self.kind = self.pane = ""
+        self.rect = Rect(1, 1, 1, 1)
+        # How often was asked which buffers there are: an answer to an earlier question is none to this.
+        self.asked = 0
+
+    def is_on(self) -> bool:
+        """Return True if a list is open."""
+        return self.mode is not None
+
+    def open(self, kind: str, mode: ListMode) -> bool:
+        """Show a list over the pane in focus, and return True if that is possible."""
+        self.close()
+        places, commands = self.commands.places(), self.commands
+        pane = places.focus if places else 0
+        rect = commands.display.visible(places.rects[pane]) if places and pane else None
+        if not rect or not mode.lines or commands.display.notice or commands.copying.is_on():
+            return False
+        self.mode, self.kind, self.rect, self.pane = mode, kind, rect, commands.panes.making(pane)
+        commands.modes.drawn = mode
+        self.lay(mode)
+        return True
+
+    def close(self) -> None:
+        """End the list, and wait for no answer."""
+        self.asked += 1
+        if self.mode:
+            self.commands.modes.remove(self.mode)
+            self.mode = None
+            self.commands.display.lift()
+            self.commands.display.change_line()
+
+    def lay(self, mode: ListMode) -> None:
+        """Draw it."""
+        self.commands.display.lay(Popup(self.rect, lambda: painted(mode, self.rect), lambda: self.cursor(mode)))
+        self.commands.display.say_line(mode.lines[mode.chosen].status)
+
+    def cursor(self, mode: ListMode) -> tuple[int, int]:
+        """Return where the terminal's cursor stands: on the chosen line."""
+        return self.rect.row + mode.chosen - first_shown(mode, self.rect), self.rect.col
+
+    def draw(self) -> None:
+        """Show which line is chosen."""
+        if self.mode:
+            self.commands.display.say_line(self.mode.lines[self.mode.chosen].status)
+            self.commands.display.draw()
+
+    def fit(self) -> None:
+        """Go by where its pane is now, whose end ends the list."""
+        places = self.commands.panes.places
+        if not self.mode or not places:
+            return
+        rect = places.rects.get(int(self.pane.split()[0]) if self.pane else 0)
+        shown = self.commands.display.visible(rect) if rect else None
+        if not shown or self.commands.panes.making(int(self.pane.split()[0])) != self.pane:
+            self.close()
+        elif shown != self.rect or not self.commands.display.is_masked:
+            self.rect = shown
+            self.lay(self.mode)
+
+    # ---- buffers
+
+    def ask_buffers(self, is_newest: bool) -> None:
+        """Paste the newest buffer, or open a list of them, once the host has reported which there are."""
+        self.close()
+        if self.commands.host:
+            self.ask_again(self.asked, is_newest)
+        else:
+            self.commands.display.tell(NONE_KEPT, TOLD)
+
+    def ask_again(self, asked: int, is_newest: bool) -> None:
+        """Ask which buffers there are, unless something else was asked since."""
+        host = self.commands.host
+        if host and asked == self.asked:
+            host.scrollback.buffers(lambda notes: self.answered(asked, notes, is_newest))
+
+    def answered(self, asked: int, notes: list[BufferNote] | None, is_newest: bool) -> None:
+        """Take which buffers there are, None if the host did not report them."""
+        host = self.commands.host
+        if asked != self.asked:
+            return
+        if notes is None and host and host.is_connecting():
+            self.commands.loop.later("buffers", AGAIN, lambda: self.ask_again(asked, is_newest))
+        elif not notes:
+            self.commands.display.tell(UNTOLD if notes is None else NONE_KEPT, TOLD)
+        elif is_newest:
+            self.commands.pastes.paste_buffer(notes[0].number)
+        else:
+            self.open("buffers", buffer_list(self.commands.modes.keymap, notes))
+
+    # ---- lines, and windows
+
+    def show_lines(self, lines: list[str]) -> bool:
+        """Show lines that are only read, and return True if that is possible: prompts and copy mode go first."""
+        if self.commands.modes.pushed or self.commands.paused:
+            return False
+        return self.open("lines", read_list(self.commands.modes.keymap, lines))
+
+    def show_windows(self, described: dict[int, str], here: int) -> bool:
+        """Show windows, and return True if that is possible."""
+        return self.open("windows", window_list(self.commands.modes.keymap, described, here))
+
+    def refresh_windows(self, described: dict[int, str]) -> None:
+        """Go by other windows, or other names of them: the chosen one stays chosen if it is there still."""
+        if not self.mode or self.kind != "windows":
+            return
+        if not described:
+            self.close()
+            return
+        effects, place = self.mode.lines[self.mode.chosen].effects, self.mode.chosen
+        self.mode.lines = window_list(self.commands.modes.keymap, described, 0).lines
+        self.mode.choose(next((at for at, line in enumerate(self.mode.lines) if line.effects == effects), place))
+        self.draw()

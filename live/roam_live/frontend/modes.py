@@ -1,0 +1,404 @@
+"""What keys mean, as a stack of modes: a mode takes a key and returns effects, which are plain values.
+
+No mode knows the front end, a socket or a terminal. A mode may change only itself and the keymap that all of them share.
+"""
+from __future__ import annotations
+
+from roam_live.frontend.bindings import BINDINGS, BORDERS, DIGITS, MOST_VIEW, NEWEST, PICKS, REPEATS, WISHES, with_meta
+from roam_live.frontend.effects import (AddPaste, BeginPaste, ClearStatus, CloseHelp, CloseList, CopyKey, CopyText, DrawList, Effect,
+                                        EndPaste, EnterLine, HidePrompt, OfferPaste, PassKey, Perform, PopMode, ScrollHelp, SendLiteral,
+                                        ShowPrompt, ShowStatus, TellUnbound, TypeActs, TypeKey)
+from roam_live.frontend.line_editor import LEAVES, TAKES
+from roam_live.input.keys import acts_of
+
+TYPE_CHECKING = False
+if TYPE_CHECKING:
+    from roam_live.frontend.bindings import Keymap
+    from roam_live.frontend.copymode.keys import KeyPairs
+    from roam_live.frontend.line_editor import AskedLine
+    from roam_live.input.keys import Key
+
+# The keys of the scroll mode: how far back each goes, in rows and in pages; and those that end it.
+SCROLLS = {"up": (1, 0), "k": (1, 0), "down": (-1, 0), "j": (-1, 0), "prev": (0, 1), "next": (0, -1), "g": (500, 0), "G": (-500, 0)}
+SCROLL_ENDS = {"q", "\x1b", "\x03", "\r"}
+SCROLLED = "{} rows back: PgUp PgDn up down g G scroll, q ends it"
+
+# The keys that scroll the list of keys, by rows, or by pages.
+HELP_ROWS = {"up": -1, "k": -1, "\x10": -1, "down": 1, "j": 1, "\x0e": 1, "g": -9999, "G": 9999}
+HELP_PAGES = {"prev": -1, "next": 1, " ": 1}
+
+# The keys that move in a list, by how many lines; and those that leave it.
+LIST_MOVES = {"up": -1, "k": -1, "\x10": -1, "down": 1, "j": 1, "\x0e": 1, "prev": -10, "next": 10, "g": -99, "G": 99}
+LIST_LEAVES = ("q", *LEAVES)
+
+# Why a paste is not typed that answers a question.
+NO_ANSWER = "nothing is pasted: a question was there"
+
+
+class Mode:
+    """What keys mean for as long as it is on the stack."""
+
+    # True if it is drawn over panes: while something else stands in place of these, its keys have their other meanings.
+    is_drawn = False
+
+    def takes(self, key: Key, now: float) -> list[Effect]:
+        """Return what a key asks for at a moment."""
+        raise NotImplementedError
+
+    def literal(self, key: Key) -> list[Effect] | None:
+        """Return what a key asks for as itself, None if it is for the modes below."""
+        return None
+
+
+class PlainMode(Mode):
+    """Keys are typed, but for the prefix and keys that are bound without it. It lies below all others."""
+
+    def __init__(self, keymap: Keymap) -> None:
+        self.keymap = keymap
+
+    def takes(self, key: Key, now: float) -> list[Effect]:
+        """Return what a key asks for."""
+        name, keymap = key.name, self.keymap
+        if name == keymap.prefix:
+            return [PushMode(PrefixMode(keymap))]
+        if name == "paste":
+            return [PushMode(PastingMode()), BeginPaste()]
+        if name == "pasted":
+            return []
+        if keymap.repeats(key, now):
+            return PrefixMode(keymap).meaning(key, now)
+        wish = keymap.own_wish("root", key, now)
+        if wish is not None:
+            return [Perform(wish)] if wish else []
+        return [TypeKey(acts_of(key), key)]
+
+    def literal(self, key: Key) -> list[Effect] | None:
+        """Return the acts that type a key."""
+        return [TypeKey(acts_of(key), key)]
+
+
+class PrefixMode(Mode):
+    """The next key is a command's. Over copy mode the prefix typed twice is always the key itself."""
+
+    def __init__(self, keymap: Keymap, is_over_copy: bool = False) -> None:
+        self.keymap, self.is_over_copy = keymap, is_over_copy
+
+    def takes(self, key: Key, now: float) -> list[Effect]:
+        """Return what a key asks for; a paste means what it means without the prefix."""
+        return [PopMode(), PassKey(key)] if key.name == "paste" else [PopMode(), *self.meaning(key, now)]
+
+    def meaning(self, key: Key, now: float) -> list[Effect]:
+        """Return what a key means behind the prefix."""
+        name, is_prefix = key.name, key.name == self.keymap.prefix
+        if is_prefix and self.is_over_copy:
+            return [SendLiteral(key)]
+        own = self.keymap.own_wish("prefix", key, now)
+        if own is not None:
+            return [Perform(own) if own else TellUnbound(key)]
+        if is_prefix:
+            return [SendLiteral(key)]
+        if name in BORDERS:
+            self.keymap.repeats_until = now + REPEATS
+            return [Perform(BORDERS[name])]
+        if name in BINDINGS:
+            return [TypeActs(BINDINGS[name])]
+        return [Perform(WISHES[name]) if name in WISHES else TellUnbound(key)]
+
+
+class PickingMode(Mode):
+    """A digit is a pane's, for PICKS seconds."""
+
+    def __init__(self, now: float) -> None:
+        self.until = now + PICKS
+
+    def takes(self, key: Key, now: float) -> list[Effect]:
+        """Return what a key asks for: one that comes too late, or is no digit, means what it always does."""
+        if key.name in DIGITS and now < self.until:
+            return [PopMode(), TypeActs(f"focus {key.name}"), ClearStatus()]
+        return [PopMode(), ClearStatus(), PassKey(key)]
+
+
+class PastingMode(Mode):
+    """What is pasted means nothing else, up to its end."""
+
+    def takes(self, key: Key, now: float) -> list[Effect]:
+        """Return what a key asks for."""
+        return [PopMode(), EndPaste()] if key.name == "pasted" else [AddPaste(key.text)]
+
+
+class ConfirmMode(Mode):
+    """The next key answers a question: y has something done."""
+
+    def __init__(self, *yes: Effect) -> None:
+        self.yes = yes
+
+    def takes(self, key: Key, now: float) -> list[Effect]:
+        """Return what a key asks for. A paste is no answer, and is not typed either."""
+        if key.name == "paste":
+            return [PopMode(), HidePrompt(), PushMode(PastingMode()), BeginPaste(NO_ANSWER)]
+        return [PopMode(), HidePrompt(), *(self.yes if key.name in ("y", "Y") else ())]
+
+
+class LineMode(Mode):
+    """A line is typed in the last row, for a purpose."""
+
+    def __init__(self, asked: AskedLine, purpose: str) -> None:
+        self.asked, self.purpose = asked, purpose
+
+    def takes(self, key: Key, now: float) -> list[Effect]:
+        """Return what a key asks for: it ends the line, or edits it; of a paste the text is typed."""
+        if key.name in LEAVES:
+            return [PopMode(), HidePrompt()]
+        if key.name in TAKES:
+            return [PopMode(), HidePrompt(), EnterLine(self.purpose, self.asked.text)]
+        if key.name == "text":
+            self.asked.add(key.text)
+        else:
+            self.asked.edit(key.name)
+        return [ShowPrompt(self.asked.line())]
+
+
+class ScrollMode(Mode):
+    """Keys scroll the view that all share, if no rows are kept for copy mode."""
+
+    def __init__(self, keymap: Keymap) -> None:
+        self.keymap = keymap
+        # How many rows the pane in focus is scrolled back.
+        self.view = 0
+
+    def status(self) -> ShowStatus:
+        """Return the line that says how far back it is."""
+        return ShowStatus(SCROLLED.format(self.view), None)
+
+    def takes(self, key: Key, now: float) -> list[Effect]:
+        """Return what a key asks for. The prefix and a paste end it and keep their meanings; a key that has none here does nothing."""
+        if key.name in SCROLLS:
+            return self.scrolled(*SCROLLS[key.name])
+        if key.name in (self.keymap.prefix, "paste"):
+            return [PopMode(), TypeActs(NEWEST), ClearStatus(), PassKey(key)]
+        return [PopMode(), TypeActs(NEWEST), ClearStatus()] if key.name in SCROLL_ENDS else []
+
+    def scrolled(self, lines: int, pages: int) -> list[Effect]:
+        """Return what scrolls by lines and by pages, which are half of the terminal."""
+        step = lines + pages * max(1, self.keymap.rows // 2)
+        self.view = min(max(self.view + step, 0), MOST_VIEW)
+        return [TypeActs(f"view {step}"), self.status()]
+
+
+class HelpMode(Mode):
+    """The list of keys stands in place of the session, until a key that does not scroll it."""
+
+    def __init__(self, keymap: Keymap) -> None:
+        self.keymap = keymap
+
+    def takes(self, key: Key, now: float) -> list[Effect]:
+        """Return what a key asks for. One that ends it means nothing else, but for the prefix and a paste."""
+        if key.name in HELP_ROWS or key.name in HELP_PAGES:
+            return [ScrollHelp(HELP_ROWS.get(key.name, 0), HELP_PAGES.get(key.name, 0))]
+        passed: list[Effect] = [PassKey(key)] if key.name in (self.keymap.prefix, "paste") else []
+        return [PopMode(), CloseHelp(), *passed]
+
+
+class ListLine:
+    """A line of a list: its text, what the last row says while it is chosen, and what choosing it does."""
+
+    def __init__(self, text: str, status: str, *effects: Effect) -> None:
+        self.text, self.status, self.effects = text, status, effects
+
+
+class ListMode(Mode):
+    """A line is chosen from a list that is drawn over the pane in focus. Some keys choose a line at once."""
+
+    is_drawn = True
+
+    def __init__(self, keymap: Keymap, lines: list[ListLine], chosen: int = 0, shortcuts: dict[str, Effect] | None = None) -> None:
+        self.keymap, self.lines, self.chosen, self.shortcuts = keymap, lines, chosen, shortcuts or {}
+
+    def takes(self, key: Key, now: float) -> list[Effect]:
+        """Return what a key asks for. The prefix and a paste end the list, and keep their meanings."""
+        if key.name in self.shortcuts:
+            return [CloseList(), self.shortcuts[key.name]]
+        if key.name in (self.keymap.prefix, "paste"):
+            return [CloseList(), PassKey(key)]
+        if key.name in LIST_MOVES:
+            self.choose(self.chosen + LIST_MOVES[key.name])
+            return [DrawList()]
+        if key.name in TAKES:
+            return [CloseList(), *self.lines[self.chosen].effects]
+        return [CloseList()] if key.name in LIST_LEAVES else []
+
+    def choose(self, place: int) -> None:
+        """Choose another line, or the nearest to it."""
+        self.chosen = max(0, min(place, len(self.lines) - 1))
+
+
+class CopyKeysMode(Mode):
+    """Keys are copy mode's, but for commands behind the prefix. An escape and a key right behind it are one key with Meta."""
+
+    is_drawn = True
+
+    def __init__(self, keymap: Keymap, pairs: KeyPairs) -> None:
+        self.keymap, self.pairs = keymap, pairs
+
+    def takes(self, key: Key, now: float) -> list[Effect]:
+        """Return what a key asks for."""
+        if key.name == "paste":
+            return [OfferPaste(key)]
+        if key.name in BORDERS and now < self.keymap.repeats_until:
+            return [PassKey(key)]
+        if key.name == self.keymap.prefix and self.pairs.escape is None:
+            return [PushMode(PrefixMode(self.keymap, is_over_copy=True))]
+        return self.fed(key)
+
+    def literal(self, key: Key) -> list[Effect] | None:
+        """Return what a key asks for as itself."""
+        return self.fed(key)
+
+    def fed(self, key: Key) -> list[Effect]:
+        """Return the keys that are whole now."""
+        return [CopyKey(whole) for whole in self.pairs.fed(key)]
+
+    def ended(self) -> list[Effect]:
+        """Return an escape behind which nothing came."""
+        return [CopyKey(whole) for whole in self.pairs.ended()]
+
+
+class CopyPasteMode(Mode):
+    """A paste is typed into a line that copy mode asks for. What comes of it once that line is gone is nothing."""
+
+    def takes(self, key: Key, now: float) -> list[Effect]:
+        """Return what a key asks for."""
+        return [CopyText(key.text)] if key.name == "text" else [PopMode()]
+
+
+class PushMode(Effect):
+    """Another mode takes the keys from here on."""
+
+    def __init__(self, mode: Mode) -> None:
+        self.mode = mode
+
+
+class ModeStack:
+    """The modes of one person: the plain one, one that is drawn over panes or none, and those that were pushed above."""
+
+    def __init__(self, keymap: Keymap) -> None:
+        self.keymap, self.plain = keymap, PlainMode(keymap)
+        self.drawn: Mode | None = None
+        self.pushed: list[Mode] = []
+
+    # ---- which modes there are
+
+    def has(self, *kinds: type[Mode]) -> bool:
+        """Return True if one of the modes that were pushed is of these kinds."""
+        return any(isinstance(mode, kinds) for mode in self.pushed)
+
+    def is_typing(self) -> bool:
+        """Return True if keys go to the pane in focus, or will behind the prefix or a digit."""
+        return all(isinstance(mode, (PrefixMode, PickingMode)) for mode in self.pushed)
+
+    def push(self, mode: Mode) -> None:
+        """Put a mode on top; a prompt replaces another."""
+        if isinstance(mode, (ConfirmMode, LineMode)):
+            self.drop(ConfirmMode, LineMode)
+        self.pushed.append(mode)
+
+    def drop(self, *kinds: type[Mode]) -> None:
+        """Take the modes of these kinds away."""
+        self.pushed = [mode for mode in self.pushed if not isinstance(mode, kinds)]
+
+    def remove(self, gone: Mode | None) -> None:
+        """Take a mode away, if it is there."""
+        self.pushed = [mode for mode in self.pushed if mode is not gone]
+        if gone is self.drawn:
+            self.drawn = None
+
+    # ---- what takes a key
+
+    def whole(self, keys: list[Key], place: int) -> tuple[Key, int]:
+        """Return the key at a place, and how many of these it is.
+
+        Behind the prefix an escape and the next key are one with Meta, whether or not that is bound, so that no part of an unbound key is
+        typed. An escape that comes alone has waited for more.
+        """
+        is_before = bool(self.pushed) and place + 1 < len(keys) and isinstance(self.pushed[-1], PrefixMode)
+        one = with_meta(keys[place], keys[place + 1]) if is_before else None
+        return (one, 2) if one else (keys[place], 1)
+
+    def takes(self, key: Key, now: float, is_covered: bool = False) -> list[Effect]:
+        """Return what a key asks for. While something stands in place of the panes what is drawn over them takes no key."""
+        if self.pushed:
+            return self.taken_by(self.pushed[-1], key, now, is_covered)
+        return self.taken_by(self.plain if is_covered or not self.drawn else self.drawn, key, now, is_covered)
+
+    def taken_by(self, mode: Mode, key: Key, now: float, is_covered: bool) -> list[Effect]:
+        """Return what a key asks for in a mode, once the modes have changed by it."""
+        found: list[Effect] = []
+        for effect in mode.takes(key, now):
+            if isinstance(effect, PushMode):
+                self.push(effect.mode)
+            elif isinstance(effect, PopMode):
+                self.remove(mode)
+            elif isinstance(effect, PassKey) and mode.is_drawn:
+                found += self.taken_by(self.plain, effect.key, now, is_covered)
+            elif isinstance(effect, PassKey):
+                found += self.takes(effect.key, now, is_covered)
+            elif isinstance(effect, SendLiteral):
+                found += self.literal(effect.key, is_covered)
+            else:
+                found.append(effect)
+        return found
+
+    def literal(self, key: Key, is_covered: bool) -> list[Effect]:
+        """Return what a key asks for as itself."""
+        drawn = self.drawn.literal(key) if self.drawn and not is_covered else None
+        return (drawn if drawn is not None else self.plain.literal(key)) or []
+
+    # ---- the scroll mode
+
+    def scroll_mode(self) -> ScrollMode:
+        """Return the scroll mode, which begins if it is not on the stack."""
+        found = next((mode for mode in self.pushed if isinstance(mode, ScrollMode)), None)
+        if not found:
+            found = ScrollMode(self.keymap)
+            self.push(found)
+        return found
+
+    def scroll_by(self, rows: int) -> tuple[str, str]:
+        """Scroll by rows, as a mouse does: return the act, and the line for the last row. The newest rows end the mode, with no line."""
+        mode = self.scroll_mode()
+        mode.view = min(max(rows + mode.view, 0), MOST_VIEW)
+        if mode.view:
+            return f"view {rows}", mode.status().line
+        self.remove(mode)
+        return NEWEST, ""
+
+
+# ---- while something stands in place of the session
+
+# The wishes that are granted then. Nothing is typed, since nobody would see where it goes.
+UNDER_NOTICE = ("detach", "suspend", "repaint", "help")
+
+# What a wish begins with that goes to a window, which is granted in any case.
+GOES = "go "
+
+
+def is_granted(effect: Effect, wishes: tuple[str, ...]) -> bool:
+    """Return True if an effect is a wish that is one of these, or goes to a window."""
+    return isinstance(effect, Perform) and (effect.wish in wishes or effect.wish.startswith(GOES))
+
+
+def under_notice(effects: list[Effect]) -> list[Effect]:
+    """Return those of the effects that a notice in place of the session lets through."""
+    kept = (BeginPaste, AddPaste, EndPaste, HidePrompt, ShowPrompt, EnterLine, ClearStatus, ScrollHelp, CloseHelp, CopyText)
+    return [effect for effect in effects if isinstance(effect, kept) or effect == TypeActs(NEWEST) or is_granted(effect, UNDER_NOTICE)]
+
+
+def while_paused(effects: list[Effect]) -> list[Effect]:
+    """Return those of the effects that are carried out without a connection to the session."""
+    return [effect for effect in effects if isinstance(effect, (BeginPaste, AddPaste, EndPaste, HidePrompt)) or is_granted(effect, ())]
+
+
+def leaves_paused(key: Key, effects: list[Effect]) -> bool:
+    """Return True if a key leaves a session without a connection: C-c or q, unless it is pasted, or the command for that."""
+    is_pasted = any(isinstance(effect, (AddPaste, EndPaste)) for effect in effects)
+    return Perform("detach") in effects or key.name in ("\x03", "q") and not is_pasted

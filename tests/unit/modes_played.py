@@ -1,0 +1,47 @@
+"""A stack of modes without a front end: what each key of a text asks for, as effects, or told in words."""
+from roam_live.frontend.bindings import Keymap
+from roam_live.frontend.effects import (BeginPaste, ClearStatus, Perform, ShowStatus, TellUnbound, TypeActs, TypeKey)
+from roam_live.frontend.modes import ModeStack, PickingMode
+from roam_live.input.keys import Keys
+
+
+class PlayedModes:
+    """The modes of a person, at a session where no rows are kept: the view that all share scrolls in place of copy mode."""
+
+    def __init__(self, prefix="C-b", own=None):
+        self.stack = ModeStack(Keymap(prefix))
+        self.stack.keymap.own = own or {}
+
+    def asked(self, text, now=1.0, rows=24):
+        """What each key of a text asks for."""
+        keys, found, place = Keys(), [], 0
+        self.stack.keymap.rows = rows
+        typed = self.stack.keymap.joined(keys.fed(text) + keys.ended())
+        while place < len(typed):
+            key, count = self.stack.whole(typed, place)
+            place += count
+            found.append([more for effect in self.stack.takes(key, now) for more in self.follow(effect, now)])
+        return found
+
+    def follow(self, effect, now):
+        """What comes of an effect: those that begin another mode do so."""
+        wish = effect.wish if isinstance(effect, Perform) else ""
+        if wish == "panes":
+            self.stack.push(PickingMode(now))
+        if wish not in ("copy", "copy page"):
+            return [effect]
+        mode = self.stack.scroll_mode()
+        mode.view = 0
+        return mode.scrolled(0, 1) if wish == "copy page" else [mode.status()]
+
+    def told(self, text, now=1.0, rows=24):
+        """What each key of a text asks for, as the acts that are typed, and a word for the rest."""
+        return [in_words(effects) for effects in self.asked(text, now, rows)]
+
+
+def in_words(effects):
+    """The acts of effects, and a word for the rest."""
+    acts = [act for effect in effects if isinstance(effect, (TypeKey, TypeActs)) for act in effect.acts]
+    words = {TellUnbound: "unknown", ShowStatus: "scroll", ClearStatus: "over", BeginPaste: "paste"}
+    rest = [effect.wish if isinstance(effect, Perform) else words.get(type(effect), "") for effect in effects]
+    return acts, " ".join(filter(None, rest))
