@@ -228,6 +228,18 @@ class Opened(Copied):
         self.scrollback.answers()
         self.assertEqual((person.link.acts, person.commands.copying.is_on(), person.display.told), ([], False, GONE))
 
+    def test_not_lent_again(self):
+        """What was typed while no rows were lent is not done again once some are."""
+        person = self.person(opens=False)
+        self.scrollback.is_quick = self.scrollback.lends = False
+        person.types(b"\x02[kkk")
+        self.scrollback.answers()
+        person.types(b"q")
+        self.scrollback.is_quick = self.scrollback.lends = True
+        person.types(b"\x02[")
+        again = self.person()
+        self.assertEqual(self.position(person), self.position(again))
+
     def test_connecting(self):
         """A host that may be connected soon, as one that was launched just before, is waited for; not longer than for a snapshot."""
         person = self.person(opens=False)
