@@ -32,7 +32,8 @@ class PlayedModes:
             return [effect]
         mode = self.stack.scroll_mode()
         mode.view = 0
-        return mode.scrolled(0, 1) if wish == "copy page" else [mode.status()]
+        scrolled = [TypeActs(mode.step(0, 1))] if wish == "copy page" else []
+        return [*scrolled, mode.status()]
 
     def told(self, text, now=1.0, rows=24):
         """What each key of a text asks for, as the acts that are typed, and a word for the rest."""

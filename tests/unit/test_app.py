@@ -255,7 +255,7 @@ class Loop(Fronts):
     def test_left_behind_a_paste(self):
         """Who leaves while a paste is handed over is waited for, for a second and a half at most."""
         self.connect()
-        self.front.commands.pastes.waiting.append(paste.Paste("text", False))
+        self.front.commands.acts.pastes.waiting.append(paste.Paste("text", False))
         self.type(b"\x02d")
         self.assertTrue(self.front.hands_over())
         self.assertEqual(self.front.loop.due["left"][0], self.now + client_link.LAST_WAIT)
@@ -264,14 +264,14 @@ class Loop(Fronts):
         self.now += 0.1
         self.assertFalse(self.front.hands_over())
         self.front.left_at = None
-        self.front.commands.pastes.waiting.clear()
+        self.front.commands.acts.pastes.waiting.clear()
         self.assertFalse(self.front.hands_over())
 
     def test_much_behind_a_paste(self):
         """C-c and the prefix are read however much waits behind a paste."""
         client = self.connect()
         read_now(client)
-        waits = self.front.commands.pastes
+        waits = self.front.commands.acts.pastes
         for text, lines, left in ((b"x\x03", b"char 3\n", None), (b"x\x02d", b"", "[detached]")):
             waits.wait_for([paste.Paste("text", False), paste.Behind(("char 61",) * paste.MOST_BEHIND)])
             self.type(text)
@@ -293,16 +293,16 @@ class Loop(Fronts):
         """There is an outage while the server is silent, or no connection to the pty host is there."""
         client = self.connect()
         commands = self.front.commands
-        self.assertTrue(commands.is_cut())
-        self.front.host_link.peer = mock.Mock()
-        self.assertFalse(commands.is_cut())
+        self.assertTrue(commands.acts.is_cut())
+        commands.acts.host.peer = mock.Mock()
+        self.assertFalse(commands.acts.is_cut())
         client.send(record("silent", 10))
         self.turn()
-        self.assertTrue(commands.pastes.is_cut())
+        self.assertTrue(commands.acts.pastes.is_cut())
         client.send(record("heard"))
         self.turn()
-        self.assertFalse(commands.pastes.is_cut())
-        self.front.host_link.peer = None
+        self.assertFalse(commands.acts.pastes.is_cut())
+        commands.acts.host.peer = None
 
     def test_fault(self):
         """What nobody foresaw brings the terminal back too, from the moment on at which it is taken: that is none before it runs."""
@@ -340,7 +340,7 @@ class Loop(Fronts):
         read_now(client)
         for text in (b"a\x1b]11;rgb:1e/1e/2e\x1b\\b", b"\x1b]10;rgb:ff", b"ff/ffff/ffff\x07c"):
             self.type(text)
-        told = self.front.host_link.colours.known
+        told = self.front.commands.acts.host.colours.known
         self.assertEqual(told, {"background": "1e1e/1e1e/2e2e", "foreground": "ffff/ffff/ffff"})
         self.assertEqual([line for line in read_now(client).split(b"\n") if line.startswith(b"char")], [b"char 61 ; char 62", b"char 63"])
 
@@ -417,7 +417,7 @@ class Loop(Fronts):
         self.now += 0.1
         self.turn()
         self.assertIn(b"no server is in ", self.shown())
-        self.assertTrue(self.front.commands.paused)
+        self.assertTrue(self.front.commands.acts.paused)
         self.assertEqual(self.front.display.notice, f"no server is in {self.place.folder}; tried anew in 1 s; C-c or q leaves")
         self.type(b"q")
         self.assertEqual(self.front.left, "[left]")
@@ -545,7 +545,7 @@ class Loop(Fronts):
         self.now += 0.25
         self.turn()
         self.assertEqual(read_now(client), b"size 30 90\npart 29 90\n")
-        self.front.commands.new_until = self.now + 1
+        self.front.commands.follower.new_until = self.now + 1
         tty.set_size(self.slave, 20, 70)
         self.front.resized()
         self.turn()
@@ -837,27 +837,27 @@ class Wishes(Case):
         person = self.person()
         self.assertEqual(person.types(b"\x02\x1b[C\x02\x1b[B"), ["focus 2", "focus 3"])
         self.now += 9
-        self.assertEqual(person.commands.places().focus, 3)
+        self.assertEqual(person.commands.acts.places().focus, 3)
         # That a client came tells nothing of it.
         self.tell(person, PANES._replace(clients=2))
-        self.assertEqual(person.commands.places().focus, 3)
+        self.assertEqual(person.commands.acts.places().focus, 3)
         self.tell(person, PANES._replace(focus=3))
-        self.assertEqual((person.commands.moved_to, person.types(b"\x02\x1b[D")), (None, ["focus 1"]))
+        self.assertEqual((person.commands.acts.moved_to, person.types(b"\x02\x1b[D")), (None, ["focus 1"]))
         # Another took it elsewhere.
         self.tell(person, PANES._replace(focus=2))
-        self.assertEqual((person.commands.moved_to, person.commands.places().focus), (None, 2))
+        self.assertEqual((person.commands.acts.moved_to, person.commands.acts.places().focus), (None, 2))
         self.assertEqual(person.types(b"\x02o"), ["next"])
         self.tell(person, None)
-        self.assertEqual((person.commands.moved_to, person.commands.places()), (None, None))
+        self.assertEqual((person.commands.acts.moved_to, person.commands.acts.places()), (None, None))
 
     def test_still(self):
         """What moves nothing is waited for by nobody: the pane that is in focus, one that isn't there, the next of one."""
         person = self.person()
         self.assertEqual(person.types(b"\x02q1\x02q9"), ["focus 1", "focus 9"])
-        self.assertIsNone(person.commands.moved_to)
+        self.assertIsNone(person.commands.acts.moved_to)
         alone = self.person(places(24, 80))
-        self.assertEqual((alone.types(b"\x02o"), alone.commands.moved_to), (["next"], None))
-        self.assertEqual((alone.types(b"\x02%"), alone.commands.moved_to), (["split right"], 0))
+        self.assertEqual((alone.types(b"\x02o"), alone.commands.acts.moved_to), (["next"], None))
+        self.assertEqual((alone.types(b"\x02%"), alone.commands.acts.moved_to), (["split right"], 0))
 
     def test_unknown_focus(self):
         """Where it isn't known yet an arrow goes by what is told, and a close asks."""
@@ -927,7 +927,7 @@ class Wishes(Case):
         for text, modes, count in ((b"\x03", "", 1), (b"\x1b[27;5;99~", "keys2", 1), (b"\x1b[27;5;99~", "", 1), (b"\x02[\x03", "", 0)):
             person = self.person()
             person.panes.modes_of = {1: modes}
-            with mock.patch.object(person.commands.pastes, "interrupt") as interrupts:
+            with mock.patch.object(person.commands.acts.pastes, "interrupt") as interrupts:
                 acts = person.types(text)
             self.assertEqual((interrupts.call_count > 0, "char 3" in acts), (bool(count), bool(count) and not modes), text)
 
@@ -967,16 +967,16 @@ class Wishes(Case):
         """A bell rings, and a pane that isn't in focus is told of, where nothing else is told."""
         person = self.person()
         before = person.display.outer.waiting.count(b"\x07")
-        person.commands.ring(1)
+        person.commands.panes.ring(1)
         self.assertEqual((person.display.told, person.display.outer.waiting.count(b"\x07") - before), ("", 1))
-        person.commands.ring(2)
+        person.commands.panes.ring(2)
         self.assertEqual(person.display.told, "bell in pane 2")
-        person.commands.ring(3)
+        person.commands.panes.ring(3)
         self.assertEqual(person.display.told, "bell in pane 2")
 
     def test_fits_told(self):
         person = self.person()
-        person.commands.fit()
+        person.commands.follower.fit()
         self.assertEqual(person.link.acts, [])
         self.assertEqual(person.types(b"\x02r"), ["size 24 80"])
         self.assertEqual(person.said(), ["repaint"])
@@ -984,10 +984,10 @@ class Wishes(Case):
     def test_new(self):
         """A new session goes by its terminal's size for two seconds."""
         person = Person(24, 80, is_new=True)
-        self.assertEqual(person.commands.new_until, 102.0)
-        self.assertTrue(person.commands.is_fresh())
+        self.assertEqual(person.commands.follower.new_until, 102.0)
+        self.assertTrue(person.commands.follower.is_fresh())
         self.now = 102.0
-        self.assertFalse(person.commands.is_fresh())
+        self.assertFalse(person.commands.follower.is_fresh())
 
 
 class Painted(Case):
@@ -1111,10 +1111,10 @@ class Painted(Case):
         person.place.told = places(6, 20)
         person.commands.panes_changed()
         person.types(b"\x02r")
-        self.assertEqual((person.commands.requested_size, person.loop.due["requested size"][0]), ((5, 20), 102.5))
+        self.assertEqual((person.commands.size.requested, person.loop.due["requested size"][0]), ((5, 20), 102.5))
         self.now = 102.5
         person.loop.do_due()
-        self.assertEqual((person.display.told, person.commands.requested_size), ("its panes have no room in 5 by 20", None))
+        self.assertEqual((person.display.told, person.commands.size.requested), ("its panes have no room in 5 by 20", None))
         self.assertFalse(person.display.shows_all())
 
 

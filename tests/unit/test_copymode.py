@@ -84,7 +84,7 @@ class Copied(Case):
 
     def mode(self, person):
         """The copy mode that is open."""
-        return person.commands.copying.mode
+        return person.commands.copying.state.mode
 
     def position(self, person):
         """The place of its cursor."""
@@ -193,7 +193,7 @@ class Opened(Copied):
             self.scrollback.lends = change != "none"
             self.scrollback.is_quick = change != "late"
             if change == "no host":
-                person.commands.host = None
+                person.commands.acts.host = None
             if change == "no making":
                 person.panes.making = lambda pane: ""
             acts = person.types(b"\x02[kk")
@@ -207,7 +207,7 @@ class Opened(Copied):
             self.assertEqual(acts, ["view 1", "view 1"], change)
             self.assertEqual(person.display.told, "2 rows back: PgUp PgDn up down g G scroll, q ends it")
             self.scrollback.answers()
-            self.assertFalse(person.commands.copying.is_on())
+            self.assertFalse(person.commands.copying.state.is_on())
             self.assertEqual(person.types(b"q"), ["view -500"])
             self.assertEqual(person.types(b"\x02\x1b[5~"), ["view 12"] if change != "late" else [])
         person = self.person(opens=False)
@@ -221,12 +221,12 @@ class Opened(Copied):
         self.scrollback.is_quick = self.scrollback.lends = False
         person.types(b"\x02/secret\r")
         self.scrollback.answers()
-        self.assertEqual((person.link.acts, person.commands.copying.is_on()), ([], False))
+        self.assertEqual((person.link.acts, person.commands.copying.state.is_on()), ([], False))
         person = self.person()
         self.scrollback.is_quick = self.scrollback.lends = False
         person.types(b"rjjj")
         self.scrollback.answers()
-        self.assertEqual((person.link.acts, person.commands.copying.is_on(), person.display.told), ([], False, GONE))
+        self.assertEqual((person.link.acts, person.commands.copying.state.is_on(), person.display.told), ([], False, GONE))
 
     def test_not_lent_again(self):
         """What was typed while no rows were lent is not done again once some are."""
@@ -255,7 +255,7 @@ class Opened(Copied):
         person.types(b"\x02[k")
         before = len(person.link.acts)
         self.passes(person, LENDS)
-        self.assertEqual((person.link.acts[before:], person.commands.copying.is_on()), (["view 1"], False))
+        self.assertEqual((person.link.acts[before:], person.commands.copying.state.is_on()), (["view 1"], False))
         self.passes(person, 1)
         self.assertEqual(self.scrollback.asked, [])
 
@@ -267,12 +267,12 @@ class Opened(Copied):
             self.assertEqual(person.types(b"\x02[gj"), [])
             before = len(person.link.acts)
             self.passes(person, LENDS if is_late else 0.3)
-            self.assertEqual(person.commands.copying.is_on(), not is_late)
+            self.assertEqual(person.commands.copying.state.is_on(), not is_late)
             person.panes.place.told = told
             person.commands.panes_changed()
             self.passes(person, 0.3)
             if is_late:
-                self.assertEqual((person.link.acts[before:], person.commands.copying.is_on()), (["view 500", "view -1"], False))
+                self.assertEqual((person.link.acts[before:], person.commands.copying.state.is_on()), (["view 500", "view -1"], False))
             else:
                 self.assertEqual((self.position(person), person.link.acts[before:]), ((1001, 0), []))
 
@@ -286,12 +286,12 @@ class Opened(Copied):
             self.host.connects = True
             self.scrollback.answers()
             self.passes(person, LENDS if is_late else 0.3)
-            self.assertEqual(person.commands.copying.is_on(), not is_late)
+            self.assertEqual(person.commands.copying.state.is_on(), not is_late)
             self.scrollback.is_quick = self.scrollback.lends = True
             self.host.connects = False
             self.passes(person, 0.3)
             if is_late:
-                self.assertEqual((person.link.acts[before:], person.commands.copying.is_on()), (["view 500", "view -1"], False))
+                self.assertEqual((person.link.acts[before:], person.commands.copying.state.is_on()), (["view 500", "view -1"], False))
             else:
                 self.assertEqual(self.position(person), (1001, 0))
 
@@ -301,7 +301,7 @@ class Opened(Copied):
             person = self.person(opens=False)
             self.scrollback.snapshot = lambda pane, generation, told, screen=screen: told(Snapshot(pane, generation, 0, 5, screen))
             self.assertEqual(person.types(b"\x02[k"), ["view 1"])
-            self.assertFalse(person.commands.copying.is_on())
+            self.assertFalse(person.commands.copying.state.is_on())
 
     def test_late_answer(self):
         """An answer that comes after that, or for what was closed meanwhile, opens nothing."""
@@ -309,9 +309,9 @@ class Opened(Copied):
         self.scrollback.is_quick = False
         person.types(b"\x02[")
         person.types(b"\x03")
-        self.assertFalse(person.commands.copying.is_on())
+        self.assertFalse(person.commands.copying.state.is_on())
         self.scrollback.answers()
-        self.assertFalse(person.commands.copying.is_on())
+        self.assertFalse(person.commands.copying.state.is_on())
         self.assertEqual(person.types(b"x"), ["char 78"])
 
     def test_read_only(self):
@@ -393,7 +393,7 @@ class Fed(Copied):
         person = self.person("\n".join(f"row {number}" for number in range(1, 1001)))
         self.scrollback.is_quick = False
         person.types(b"\x1b[5~kkk\x03")
-        self.assertFalse(person.commands.copying.is_on())
+        self.assertFalse(person.commands.copying.state.is_on())
         self.scrollback.answers()
         self.assertEqual(person.types(b"x"), ["char 78"])
         self.assertNotIn("copy waits", person.loop.due)
@@ -403,7 +403,7 @@ class Fed(Copied):
         person = self.person("\n".join(f"row {number}" for number in range(1, 1001)))
         self.scrollback.lends = False
         person.types(b"\x1b[5~k")
-        self.assertEqual((person.commands.copying.is_on(), person.display.told), (False, GONE))
+        self.assertEqual((person.commands.copying.state.is_on(), person.display.told), (False, GONE))
 
     def test_connection_lost(self):
         """Where the connection to the host is lost rows are asked for again once there is another."""
@@ -411,7 +411,7 @@ class Fed(Copied):
         self.scrollback.lends, self.host.connects = False, True
         person.types(b"gj")
         self.passes(person, 0.3)
-        self.assertTrue(person.commands.copying.is_on())
+        self.assertTrue(person.commands.copying.state.is_on())
         self.scrollback.lends, self.host.connects = True, False
         self.passes(person, 0.3)
         self.assertEqual((self.position(person), person.shown()[0]), ((1001, 0), "row 1"))
@@ -426,7 +426,7 @@ class Fed(Copied):
         person.types(b"500j")
         self.host.connects = False
         self.passes(person, 0.3)
-        self.assertEqual((person.commands.copying.is_on(), person.display.told), (False, GONE))
+        self.assertEqual((person.commands.copying.state.is_on(), person.display.told), (False, GONE))
 
     def test_full(self):
         """No more is read while too much waits."""
@@ -460,7 +460,7 @@ class Keeps(Copied):
         person = self.person()
         person.types(b"gw e\r")
         self.assertEqual((self.scrollback.texts, person.display.outer.clips), ([b"1 of"], [base64.b64encode(b"1 of").decode()]))
-        self.assertEqual((person.display.told, person.commands.copying.is_on()), ("4 characters copied; C-b ] pastes", False))
+        self.assertEqual((person.display.told, person.commands.copying.state.is_on()), ("4 characters copied; C-b ] pastes", False))
 
     def test_clipboard(self):
         """Where ROAM_CLIPBOARD is off the clipboard isn't set."""
@@ -504,7 +504,7 @@ class Keeps(Copied):
         """Where nothing is selected nothing is copied."""
         person = self.person()
         person.types(b"\r")
-        self.assertEqual((self.scrollback.texts, person.display.outer.clips, person.commands.copying.is_on()), ([], [], False))
+        self.assertEqual((self.scrollback.texts, person.display.outer.clips, person.commands.copying.state.is_on()), ([], [], False))
 
 
 class Meanwhile(Copied):
@@ -514,7 +514,7 @@ class Meanwhile(Copied):
         """A paste ends it and is pasted; into a line that is asked for it is typed."""
         person = self.person()
         self.assertEqual(person.types(b"\x1b[200~ab\x1b[201~"), ["char 61", "char 62"])
-        self.assertFalse(person.commands.copying.is_on())
+        self.assertFalse(person.commands.copying.state.is_on())
         person = self.person()
         self.assertEqual(person.types(b"?\x1b[200~the 7th\nmore\x1b[201~"), [])
         self.assertEqual(person.display.line(), "(search up) the 7th")
@@ -522,7 +522,7 @@ class Meanwhile(Copied):
         self.assertEqual(self.position(person), (1006, 15))
         person.types(b"?\x1b[200~half")
         person.tell(Places({2: Rect(1, 1, 23, 80)}, 2, 1))
-        self.assertEqual((person.types(b" of it\x1b[201~x"), person.commands.copying.is_on()), (["char 78"], False))
+        self.assertEqual((person.types(b" of it\x1b[201~x"), person.commands.copying.state.is_on()), (["char 78"], False))
 
     def test_prefix(self):
         """Keys behind the prefix mean what they always do; the prefix twice is a key of copy mode."""
@@ -535,7 +535,7 @@ class Meanwhile(Copied):
             person.display.end_told()
         self.now += 1
         self.assertEqual(person.types(b"\x1b[1;5A"), [])
-        self.assertTrue(person.commands.copying.is_on())
+        self.assertTrue(person.commands.copying.state.is_on())
         person.types(b"\x02d")
         self.assertEqual(person.left, "[detached]")
 
@@ -549,9 +549,9 @@ class Meanwhile(Copied):
         self.assertEqual(person.types(b"\x02\x02\x1b\x02"), [])
         self.assertEqual(self.position(person), (1000, 2))
         person.types(b"\x1b")
-        self.assertTrue(person.commands.copying.is_on())
+        self.assertTrue(person.commands.copying.state.is_on())
         self.passes(person, 0.03)
-        self.assertFalse(person.commands.copying.is_on())
+        self.assertFalse(person.commands.copying.state.is_on())
 
     def test_help(self):
         """The help stands in its place until the next key, which means nothing else; then all is drawn again."""
@@ -569,21 +569,21 @@ class Meanwhile(Copied):
         self.settle(person)
         self.assertEqual((person.types(b"gj"), self.position(person)), ([], (1001, 0)))
         self.assertEqual(person.types(b"\x02q3"), ["focus 3"])
-        self.assertFalse(person.commands.copying.is_on())
+        self.assertFalse(person.commands.copying.state.is_on())
         for keys in (b"\x02o", b"\x02\x1b[C", b"\x02%"):
             person = self.person(told=PANES)
             person.types(keys)
-            self.assertFalse(person.commands.copying.is_on(), keys)
+            self.assertFalse(person.commands.copying.state.is_on(), keys)
 
     def test_pane_ends(self):
         """The pane's end ends it, and so does another life of its number."""
         person = self.person(told=PANES)
         person.tell(Places({2: Rect(1, 1, 11, 80), 3: Rect(13, 1, 11, 80)}, 2, 1))
-        self.assertFalse(person.commands.copying.is_on())
+        self.assertFalse(person.commands.copying.state.is_on())
         person = self.person(told=PANES)
         person.panes.making = lambda pane: f"{pane} 2"
         person.commands.panes_changed()
-        self.assertFalse(person.commands.copying.is_on())
+        self.assertFalse(person.commands.copying.state.is_on())
 
     def test_pane_resized(self):
         """Where the pane has another size its rows are laid out for that, under another mask."""
@@ -617,7 +617,7 @@ class Meanwhile(Copied):
         self.assertEqual(shown[6], "z" * 10 + "row 100 of many, the 100th")
         self.assertEqual(shown[7], "z" * 50)
         person.display.take(DisplayRecord("part", (20, 0)))
-        self.assertEqual((person.commands.copying.is_on(), person.display.told), (False, NO_ROOM))
+        self.assertEqual((person.commands.copying.state.is_on(), person.display.told), (False, NO_ROOM))
 
     def test_client_lost(self):
         """Another connection to a start is told of the mask, and the part is the same."""
@@ -635,7 +635,7 @@ class Meanwhile(Copied):
     def test_paused(self):
         """While there is no connection C-c and q leave, as without it."""
         person = self.person()
-        person.commands.paused = True
+        person.commands.acts.paused = True
         person.types(b"q")
         self.assertEqual(person.left, "[left]")
 
@@ -678,12 +678,12 @@ class Pointed(Copied):
         self.points(person, (64, 5, 5), (64, 5, 5), (65, 5, 5))
         self.assertEqual(person.display.line(), "[6/77] copy mode")
         self.points(person, (65, 5, 5), (65, 5, 5))
-        self.assertFalse(person.commands.copying.is_on())
+        self.assertFalse(person.commands.copying.state.is_on())
         person.types(b"\x02[")
         self.points(person, (64, 5, 5), (65, 5, 5))
-        self.assertTrue(person.commands.copying.is_on())
+        self.assertTrue(person.commands.copying.state.is_on())
         self.points(person, (65, 5, 5))
-        self.assertFalse(person.commands.copying.is_on())
+        self.assertFalse(person.commands.copying.state.is_on())
 
     def test_wheel_selected(self):
         """While something is selected the wheel doesn't close it."""
@@ -692,13 +692,13 @@ class Pointed(Copied):
         self.settle(person)
         person.types(b" ")
         self.points(person, *[(65, 5, 5)] * 5)
-        self.assertTrue(person.commands.copying.is_on())
+        self.assertTrue(person.commands.copying.state.is_on())
 
     def test_wheel_elsewhere(self):
         """Over another pane it opens there, and puts that in focus."""
         person = self.person(told=PANES, opens=False)
         self.assertEqual(self.points(person, (64, 5, 50)), ["focus 2"])
-        self.assertEqual((person.commands.copying.pane, person.said()), (2, ["part 0 0 23 80", "mask 0 40 11 40", "focus 2"]))
+        self.assertEqual((person.commands.copying.state.pane, person.said()), (2, ["part 0 0 23 80", "mask 0 40 11 40", "focus 2"]))
 
     def test_wheel_not_lent(self):
         """Where no rows are lent the wheel scrolls the view that all share, each notch that came meanwhile too."""
@@ -714,7 +714,7 @@ class Pointed(Copied):
         self.assertEqual(self.points(person, (0, 23, 5), (32, 23, 6)), [])
         self.settle(person)
         self.points(person, (32, 23, 8), (0, 23, 11, True))
-        self.assertEqual((self.scrollback.texts, person.commands.copying.is_on()), ([b"100 of "], False))
+        self.assertEqual((self.scrollback.texts, person.commands.copying.state.is_on()), ([b"100 of "], False))
 
     def test_drag_out(self):
         """What is dragged above the pane has rows shown, one more each twentieth of a second, until it is let go."""
@@ -742,12 +742,12 @@ class Pointed(Copied):
                 self.passes(person, 0.1)
             self.assertEqual(self.scrollback.texts, [])
             self.passes(person, 0.3)
-            self.assertEqual((self.scrollback.texts, person.commands.copying.is_on()), ([text], False))
+            self.assertEqual((self.scrollback.texts, person.commands.copying.state.is_on()), ([text], False))
         person = self.person(opens=False)
         for _ in range(3):
             self.points(person, (0, 23, 14), (0, 23, 14, True))
             self.passes(person, 0.4)
-        self.assertEqual((self.scrollback.texts, person.commands.copying.is_on()), ([], False))
+        self.assertEqual((self.scrollback.texts, person.commands.copying.state.is_on()), ([], False))
 
     def test_click(self):
         """A click puts the cursor there; one in another pane puts that in focus, which ends it."""
@@ -755,7 +755,7 @@ class Pointed(Copied):
         self.points(person, (0, 3, 6), (0, 3, 6, True))
         self.assertEqual(self.position(person), (1079, 5))
         self.assertEqual(self.points(person, (0, 3, 50)), ["focus 2"])
-        self.assertFalse(person.commands.copying.is_on())
+        self.assertFalse(person.commands.copying.state.is_on())
 
     def test_program(self):
         """A program that has the mouse is sent reports, but not while copy mode is over its pane."""
@@ -781,7 +781,7 @@ class Chosen(Copied):
         (name, number), = self.host.stored
         self.assertEqual(number, 1)
         person.said()
-        person.commands.pastes.answered(name, "stored", "")
+        person.commands.acts.pastes.answered(name, "stored", "")
         self.assertEqual((person.said(), person.link.acts[-1]), ([" ; ".join(["paste", *placeholder_acts(name)])], "char 78"))
 
     def test_cut(self):
@@ -811,7 +811,7 @@ class Chosen(Copied):
             person = self.person(opens=False)
             self.scrollback.texts = [b"one"]
             person.types(b"\x02]x")
-            person.commands.pastes.answered(self.host.stored[0][0], word, more)
+            person.commands.acts.pastes.answered(self.host.stored[0][0], word, more)
             self.assertEqual((person.display.told, person.link.acts), (f"{told}; what was typed behind it is dropped", []))
 
     def test_ends_copy_mode(self):
@@ -819,7 +819,7 @@ class Chosen(Copied):
         person = self.person()
         self.scrollback.texts = [b"one"]
         person.types(b"\x02]")
-        self.assertEqual((person.commands.copying.is_on(), len(self.host.stored)), (False, 1))
+        self.assertEqual((person.commands.copying.state.is_on(), len(self.host.stored)), (False, 1))
 
     def test_read_only(self):
         """Who only watches pastes nothing."""
@@ -860,7 +860,7 @@ class Chosen(Copied):
         self.assertEqual(person.types(b"\r"), [])
         self.assertEqual((self.host.stored[0][1], person.commands.lists.is_on()), (1, False))
         self.assertEqual(self.settle(person), ["unmask", "part 23 80"])
-        person.commands.pastes.answered(self.host.stored[0][0], "stored", "")
+        person.commands.acts.pastes.answered(self.host.stored[0][0], "stored", "")
         person.types(b"\x02=")
         self.settle(person)
         self.assertEqual(person.types(b"Gkkkq"), [])

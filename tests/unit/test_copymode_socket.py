@@ -19,8 +19,8 @@ class Connected(Rows):
         self.person.panes.making = lambda pane: f"{pane} 5"
         self.link = LinkedClient(self.folder, self.loop, lambda: (24, 80), False, lambda: None)
         self.addCleanup(self.link.leave)
-        self.person.commands.host = self.person.commands.pastes.host = self.link
-        self.link.answers = self.person.commands.pastes.answered
+        self.person.commands.acts.host = self.person.commands.acts.pastes.host = self.link
+        self.link.answers = self.person.commands.acts.pastes.answered
         self.person.paints(23, 80)
         self.loop.turns(4)
 
@@ -55,11 +55,11 @@ class Connected(Rows):
         """A text is found in rows that went on, and round the end."""
         self.opened()
         self.types(b"?beta\r")
-        self.assertEqual(self.person.commands.copying.mode.view.position, (1, 0))
+        self.assertEqual(self.person.commands.copying.state.mode.view.position, (1, 0))
         self.types(b"/screen 9\r")
-        self.assertEqual(self.person.commands.copying.mode.view.position, (11, 0))
+        self.assertEqual(self.person.commands.copying.state.mode.view.position, (11, 0))
         self.types(b"/alph\r")
-        self.assertEqual(self.person.commands.copying.mode.view.position, (0, 0))
+        self.assertEqual(self.person.commands.copying.state.mode.view.position, (0, 0))
 
     def test_copied(self):
         """What is copied is the newest buffer, which C-b ] has put where its placeholder is typed."""
@@ -97,12 +97,12 @@ class Connected(Rows):
         self.socket.close()
         self.loop.turns(6)
         self.types(b"k")
-        self.assertTrue(self.person.commands.copying.is_on())
+        self.assertTrue(self.person.commands.copying.state.is_on())
         self.types(b"g")
         for _ in range(50):
-            if not self.person.commands.copying.is_on():
+            if not self.person.commands.copying.state.is_on():
                 break
             self.now += 0.1
             self.loop.turns(2)
             self.person.loop.do_due()
-        self.assertEqual((self.person.commands.copying.is_on(), self.person.display.told), (False, GONE))
+        self.assertEqual((self.person.commands.copying.state.is_on(), self.person.display.told), (False, GONE))

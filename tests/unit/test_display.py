@@ -208,11 +208,11 @@ class Person:
         self.commands = Commands(self.place, self.panes, self.link, self.display, self.loop, self.leave, self.modes, lambda places: is_new,
                                  is_whole, host)
         self.keyboard = Interpreter(self.modes, self.display, self.loop, lambda: self.commands)
-        self.commands.takes = self.keyboard.take
+        self.commands.copying.gives_back = self.keyboard.take
         self.keyboard.choose("C-b")
         self.display.begin()
         self.commands.show_known()
-        self.commands.fit_first()
+        self.commands.follower.fit_first()
 
     def leave(self, line):
         """Keeps the line with which the person leaves."""
@@ -258,11 +258,11 @@ class Person:
 
     def resize(self, rows, cols):
         """Gives the terminal another size, which stands."""
-        self.commands.resized()
+        self.commands.follower.resized()
         self.display.outer.rows, self.display.outer.cols = rows, cols
         self.display.resized()
         self.display.choose(is_painted=True)
-        self.commands.fit()
+        self.commands.follower.fit()
 
     def shown(self):
         """The rows that the terminal shows."""
@@ -298,10 +298,10 @@ class Sizes(unittest.TestCase):
         with mock.patch.object(PlayedPanes, "awaited", True):
             person = Person(30, 100)
             person.paints(10, 40)
-            person.commands.fit_first()
-            self.assertEqual((person.sizes(), person.commands.is_fitted, "fit" in person.loop.due), ([], False, True))
+            person.commands.follower.fit_first()
+            self.assertEqual((person.sizes(), person.commands.follower.is_fitted, "fit" in person.loop.due), ([], False, True))
             person.tell(places(40, 80))
-            self.assertEqual((person.sizes(), person.commands.is_fitted), ([], True))
+            self.assertEqual((person.sizes(), person.commands.follower.is_fitted), ([], True))
         with mock.patch.object(PlayedPanes, "awaited", True):
             person = Person(30, 100)
             person.paints(10, 40)
@@ -320,10 +320,10 @@ class Sizes(unittest.TestCase):
     def test_unknown_at_first(self):
         """Where nothing tells its panes its size is that of what is painted whole."""
         person = Person(50, 132)
-        self.assertEqual((person.sizes(), person.commands.is_fitted), ([], False))
+        self.assertEqual((person.sizes(), person.commands.follower.is_fitted), ([], False))
         person.paints(24, 80)
-        person.commands.fit_first()
-        self.assertEqual((person.sizes(), person.commands.is_fitted), (["size 50 132"], True))
+        person.commands.follower.fit_first()
+        self.assertEqual((person.sizes(), person.commands.follower.is_fitted), (["size 50 132"], True))
 
     def test_smaller_shows_a_part(self):
         """A smaller terminal shows the part with the cursor, and is told the key; the session's size stays."""
@@ -339,7 +339,7 @@ class Sizes(unittest.TestCase):
         self.assertEqual(person.said(), [])
         person.paints(24, 100, "secret")
         self.assertEqual(person.said(), ["part 11 40"])
-        person.commands.fit_first()
+        person.commands.follower.fit_first()
         self.assertEqual(person.sizes(), [])
         self.assertNotIn(b"secret", person.display.outer.waiting)
         person.paints(11, 40, "part")
@@ -348,12 +348,12 @@ class Sizes(unittest.TestCase):
     def test_smaller_anew(self):
         """Once a session has a smaller size that it was given what is shown of it is asked for anew, where that began further on."""
         person = Person(12, 60, told=places(13, 60))
-        person.commands.requested_size = 12, 60
+        person.commands.size.requested = 12, 60
         person.commands.show_known()
         person.answers()
         person.display.place = 1, 0
         person.tell(places(12, 60))
-        self.assertEqual((person.said(), person.commands.requested_size), (["part 0 0 11 60"], None))
+        self.assertEqual((person.said(), person.commands.size.requested), (["part 0 0 11 60"], None))
 
     def test_chosen_before(self):
         """The client may choose the part that has all panes over an earlier, larger screen: whatever it says, and whenever the smaller size
@@ -466,12 +466,9 @@ class Sizes(unittest.TestCase):
             person.answers()
             person.resize(30, 90)
             self.assertEqual(person.sizes(), ["size 30 90"] if types is False else [], types)
-        # It grows where no pty host is there at all, and not where one may tell later.
-        for is_known, is_there, sizes in ((True, False, []), (False, True, []), (False, False, ["size 50 132"])):
-            host = PlayedHost(None)
-            host.is_known, host.is_there = is_known, is_there
-            self.assertEqual(Person(50, 132, told=places(24, 80), host=host).sizes(), sizes, (is_known, is_there))
-        self.assertEqual(Person(50, 132, told=places(24, 80)).sizes(), ["size 50 132"])
+        with mock.patch("roam_live.frontend.session_size.has_others", return_value=True):
+            self.assertEqual(Person(50, 132, told=places(24, 80), host=PlayedHost(False)).sizes(), ["size 50 132"])
+            self.assertEqual(Person(50, 132, told=places(24, 80), host=PlayedHost(None)).sizes(), [])
         person = Person(50, 132, told=places(24, 80), host=PlayedHost(True))
         self.assertEqual((person.sizes(), person.display.told), ([], "24 by 80, as another terminal has it; C-b r fits this one"))
         small = Person(12, 40, told=places(24, 80), host=PlayedHost(False))
@@ -488,9 +485,9 @@ class Sizes(unittest.TestCase):
         self.assertEqual((person.sizes(), "others" in person.loop.due), ([], True))
         person.resize(18, 60)
         host.awaited, host.types = False, False
-        person.commands.others_told()
+        person.commands.follower.others_told()
         self.assertEqual((person.sizes(), "others" in person.loop.due), (["size 18 60"], False))
-        person.commands.others_told()
+        person.commands.follower.others_told()
         self.assertEqual(person.sizes(), ["size 18 60"])
         host.awaited = True
         self.assertEqual(Person(20, 60, is_new=True, host=host).sizes(), ["size 20 60"])
@@ -521,14 +518,14 @@ class Sizes(unittest.TestCase):
         """A session that has no room for its panes in a size goes on with the one that it has, and that is told."""
         person = Person(5, 8, told=places(24, 80))
         person.types(b"\x02r")
-        self.assertEqual((person.sizes(), person.commands.requested_size), (["size 5 8"], (5, 8)))
+        self.assertEqual((person.sizes(), person.commands.size.requested), (["size 5 8"], (5, 8)))
         # A session that hasn't taken it yet may still have it.
         person.link.has_taken = False
-        person.commands.refused()
-        self.assertEqual((person.display.told, person.commands.requested_size, "requested size" in person.loop.due), ("", (5, 8), True))
+        person.commands.size.refused()
+        self.assertEqual((person.display.told, person.commands.size.requested, "requested size" in person.loop.due), ("", (5, 8), True))
         person.link.has_taken = True
-        person.commands.refused()
-        self.assertEqual((person.display.told, person.commands.requested_size), ("its panes have no room in 5 by 8", None))
+        person.commands.size.refused()
+        self.assertEqual((person.display.told, person.commands.size.requested), ("its panes have no room in 5 by 8", None))
         person.display.end_told()
         self.assertTrue(person.display.shows_all() is False)
 
@@ -757,7 +754,7 @@ class UnderNotice(unittest.TestCase):
         begin, end = BRACKETS
         person = Person(24, 80, told=places(24, 80))
         person.answers()
-        person.commands.panes.brackets = True
+        person.commands.acts.panes.brackets = True
         self.assertEqual(person.types(b"\x1b[200~a\r\nb\nc\x1b[201~d"),
                          [*begin, "char 61", "char d", "char 62", "char d", "char 63", *end, "char 64"])
         self.assertEqual(person.types(b"\x1b[200~\x9b201~\xc2\x9b201~\x1b\x7f\x07\t\x1b[201~"),
@@ -765,7 +762,7 @@ class UnderNotice(unittest.TestCase):
         self.assertEqual(person.types(b"\x1b[200~\x1b[A\x1b[201~"), [*begin, "char 5b", "char 41", *end])
         self.assertEqual(person.types(b"\x1b[200~x"), [])
         self.assertEqual(person.types(b"y\x1b[201~"), [*begin, "char 78", "char 79", *end])
-        person.commands.panes.brackets = False
+        person.commands.acts.panes.brackets = False
         self.assertEqual(person.types(b"\x1b[200~a\r\x1b[201~"), ["char 61", "key return"])
         # An end without a beginning is nothing, and so is a paste of nothing.
         self.assertEqual(person.types(b"a\x1b[201~b\x1b[200~\x1b[201~\x1b[200~\x03\x1b[201~c"), ["char 61", "char 62", "char 63"])
@@ -774,7 +771,7 @@ class UnderNotice(unittest.TestCase):
         """Of a paste over which something comes to stand nothing is typed, nor its brackets; nor of one that begins there."""
         person = Person(24, 80, told=places(24, 80))
         person.answers()
-        person.commands.panes.brackets = True
+        person.commands.acts.panes.brackets = True
         self.assertEqual(person.types(b"\x1b[200~a"), [])
         person.resize(2, 80)
         self.assertEqual(person.types(b"b\x1b[201~"), [])
@@ -795,7 +792,7 @@ class UnderNotice(unittest.TestCase):
 
     def test_paused(self):
         person = Person(24, 80, told=places(24, 80))
-        person.commands.paused = True
+        person.commands.acts.paused = True
         person.display.show("no server is there")
         self.assertEqual(person.types(b"ls\r\x1b[200~q\x1b[201~"), [])
         self.assertIsNone(person.left)

@@ -140,7 +140,7 @@ class Typed(Attached):
         self.attach(session)
         self.heard.clear()
         commands = self.person.commands
-        commands.panes.modes_of[1] = "keys2"
+        commands.acts.panes.modes_of[1] = "keys2"
         form = " ; ".join(acts_of(Key("text", told("27;5;9"))))
         self.types(told("27;5;9").encode())
         self.types(b"\x02o")

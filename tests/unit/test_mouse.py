@@ -191,7 +191,7 @@ class Programs(Pointed):
         person.display.is_stale = True
         self.assertEqual(self.points(person, (0, 1, 1)), [])
         person.display.is_stale = False
-        person.commands.paused = True
+        person.commands.acts.paused = True
         self.assertEqual(self.points(person, (0, 1, 1)), [])
 
     def test_prefix(self):
@@ -221,9 +221,9 @@ class Programs(Pointed):
         person = self.person({})
         person.types(b"\x02q2")
         person.tell(PANES._replace(rects={**PANES.rects, 1: PANES.rects[1]._replace(rows=5)}))
-        self.assertEqual(person.commands.places().focus, 2)
+        self.assertEqual(person.commands.acts.places().focus, 2)
         person.tell(PANES._replace(focus=2))
-        self.assertIsNone(person.commands.moved_to)
+        self.assertIsNone(person.commands.acts.moved_to)
 
 
 class Own(Pointed):
@@ -259,7 +259,7 @@ class Own(Pointed):
         person = self.having({3: "drags sgr"})
         reports = (0, 3, 3), (0, 3, 3, True), (0, 2, 45), (0, 2, 45, True), (2, 2, 45), (2, 2, 45, True)
         self.assertEqual(self.points(person, *reports), [("focus 2",)])
-        self.assertEqual(person.commands.places().focus, 2)
+        self.assertEqual(person.commands.acts.places().focus, 2)
         self.assertEqual(self.points(person, (0, 13, 41), (32, 14, 41), (0, 14, 41, True)),
                          [("focus 3", "\x1b[<0;1;1M"), ("focus 3", "\x1b[<32;1;2M"), ("focus 3", "\x1b[<0;1;2m")])
         self.assertEqual(self.points(person, (0, 1, 1), (32, 13, 41), (0, 13, 41, True)), [("focus 1",)])

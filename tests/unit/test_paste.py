@@ -544,7 +544,7 @@ class Persons(unittest.TestCase):
     def test_asked(self):
         """At a question a paste is a no, and nothing of it is typed, nor an answer."""
         person = self.person()
-        person.commands.ask("close it? y closes it", ClosePane(0))
+        person.commands.acts.ask("close it? y closes it", ClosePane(0))
         self.assertEqual(person.types(b"\x1b[200~y"), [])
         self.assertEqual((person.types(b"y\x1b[201~z"), person.display.told), (["char 7a"], "nothing is pasted: a question was there"))
 
@@ -558,7 +558,7 @@ class Persons(unittest.TestCase):
     def test_paused(self):
         """Where no start is there nothing is pasted, which is told; what is in it neither leaves nor is a key."""
         person = self.person()
-        person.commands.paused = True
+        person.commands.acts.paused = True
         self.assertEqual(person.types(b"\x1b[200~q\x03\x1b[201~"), [])
         self.assertEqual((person.left, person.display.told), (None, "nothing is pasted where the session isn't shown"))
 

@@ -136,15 +136,15 @@ class Gone(Fronts):
         self.connect()
         self.paints()
         commands = self.front.commands
-        commands.copying.is_opening = True
-        commands.copying.events.append(None)
+        commands.copying.state.is_opening = True
+        commands.copying.state.events.append(None)
 
         def fails():
             raise ModuleNotFoundError("none")
 
         self.front.loop.later("anything", 0.0, fails)
         self.turn(1)
-        self.assertEqual((self.front.display.told, commands.copying.is_on(), len(commands.copying.events)), (REPLACED, False, 0))
+        self.assertEqual((self.front.display.told, commands.copying.state.is_on(), len(commands.copying.state.events)), (REPLACED, False, 0))
         self.assertIn(REPLACED.encode(), self.shown())
 
     def test_width(self):

@@ -118,14 +118,16 @@ class AtFrontEnd(Case):
     """A person's front end."""
 
     def setUp(self):
-        self.loop, self.commands = StillLoop(lambda: self.now), mock.Mock()
-        self.commands.loop, self.commands.link.is_read_only = self.loop, False
-        self.commands.awaits_focus.return_value = self.commands.host.is_connecting.return_value = False
-        self.commands.places.return_value = self.commands.zooming.unzoomed.return_value = Places({1: FIRST}, 1)
-        self.commands.panes.making.return_value = "1 7"
+        self.loop, self.commands, self.acts = StillLoop(lambda: self.now), mock.Mock(), mock.Mock()
+        self.commands.acts, self.commands.display, self.commands.link = self.acts, self.acts.display, self.acts.link
+        self.acts.loop, self.acts.link.is_read_only = self.loop, False
+        self.acts.awaits_focus.return_value = self.acts.host.is_connecting.return_value = False
+        self.acts.places.return_value = self.commands.zooming.unzoomed.return_value = Places({1: FIRST}, 1)
+        self.acts.panes.making.return_value = "1 7"
         self.commands.windows.why_one.return_value = ""
         self.patch_of(spawn_commands, "random_name", return_value=NAME)
-        self.commands.handing = Handing(self.commands)
+        self.commands.handing = Handing(self.acts, self.commands.zooming)
+        self.commands.handing.windows = self.commands.windows
         self.runner = CommandRunner(mock.Mock(commands=self.commands, number=1), self.loop)
 
     def told(self):
@@ -136,44 +138,44 @@ class AtFrontEnd(Case):
         """The pane is split once the command waits; what stands behind in the line is done then."""
         self.runner.typed("split-window -h htop -d 5; send-keys x")
         data = Begins(["htop", "-d", "5"]).packed()
-        self.commands.host.ask_with.assert_called_once_with(f"run {NAME} 1 7 {len(data)}", data)
-        self.assertFalse(self.commands.act_together.called or self.commands.type_key.called)
-        self.commands.host.ran(f"{NAME} ready")
-        self.commands.act_together.assert_called_once_with("split right")
+        self.acts.host.ask_with.assert_called_once_with(f"run {NAME} 1 7 {len(data)}", data)
+        self.assertFalse(self.acts.act_together.called or self.commands.type_key.called)
+        self.acts.host.ran(f"{NAME} ready")
+        self.acts.act_together.assert_called_once_with("split right")
         self.commands.type_key.assert_called_once_with(["char 78"])
-        self.commands.host.ran(f"{NAME} done")
+        self.acts.host.ran(f"{NAME} done")
         self.now += 3
         self.loop.turns(2)
         self.assertEqual(self.told(), [])
-        self.commands.host.ran(f"{NAME} late")
+        self.acts.host.ran(f"{NAME} late")
         self.assertEqual(self.told(), ["not run: no pane came in its place"])
 
     def test_scroll_paint(self):
         """It is split where the person asked for that, and with -d the focus is there again."""
         self.runner.typed("splitw -d htop")
-        self.commands.places.return_value = Places({1: FIRST, 2: RIGHT}, 2)
-        self.commands.host.ran(f"{NAME} ready")
-        self.commands.act_together.assert_called_once_with("focus 1", "split down", "focus 1")
+        self.acts.places.return_value = Places({1: FIRST, 2: RIGHT}, 2)
+        self.acts.host.ran(f"{NAME} ready")
+        self.acts.act_together.assert_called_once_with("focus 1", "split down", "focus 1")
 
     def test_window(self):
         for line, stays in (("neww -n logs htop", False), ("neww -d", True)):
             self.commands.windows.open.reset_mock()
             self.runner.typed(line)
-            self.commands.host.ran(f"{NAME} ready")
+            self.acts.host.ran(f"{NAME} ready")
             self.commands.windows.open.assert_called_once_with(NAME, stays)
 
     def test_awaited(self):
         """Where it isn't known yet which pane is in focus, or no connection is there, that is waited for, no longer than two seconds."""
-        self.commands.awaits_focus.return_value = True
+        self.acts.awaits_focus.return_value = True
         self.runner.typed("splitw htop")
         self.now += 0.1
         self.loop.turns(2)
-        self.assertFalse(self.commands.host.ask_with.called)
-        self.commands.awaits_focus.return_value = False
+        self.assertFalse(self.acts.host.ask_with.called)
+        self.acts.awaits_focus.return_value = False
         self.now += 0.1
         self.loop.turns(2)
-        self.assertTrue(self.commands.host.ask_with.called)
-        self.commands.host.ask_with.return_value, self.commands.host.is_connecting.return_value = False, True
+        self.assertTrue(self.acts.host.ask_with.called)
+        self.acts.host.ask_with.return_value, self.acts.host.is_connecting.return_value = False, True
         self.runner.typed("splitw htop")
         for _ in range(3):
             self.now += 0.9
@@ -183,19 +185,19 @@ class AtFrontEnd(Case):
     def test_refused(self):
         """Why nothing is run is told, and nothing is split then."""
         self.runner.typed("splitw htop; send-keys x")
-        self.commands.host.ran(f"{NAME} refused the folder \x1b isn't there")
+        self.acts.host.ran(f"{NAME} refused the folder \x1b isn't there")
         self.runner.typed("splitw htop; send-keys x")
         self.now += 2.1
         self.loop.turns(2)
-        self.commands.host.ran(f"{NAME} ready")
-        self.commands.host.ask_with.return_value = False
+        self.acts.host.ran(f"{NAME} ready")
+        self.acts.host.ask_with.return_value = False
         self.runner.typed("splitw htop")
-        self.commands.link.is_read_only = True
+        self.acts.link.is_read_only = True
         self.runner.typed("splitw htop")
         self.assertEqual(self.told(), ["not run: the folder ? isn't there", "not run: the pty host is silent",
                                        "not run: the pty host isn't there just now",
                                        "a terminal that only watches runs nothing"])
-        self.assertFalse(self.commands.act_together.called or self.commands.type_key.called)
+        self.assertFalse(self.acts.act_together.called or self.commands.type_key.called)
 
 
 class Outside(Case):

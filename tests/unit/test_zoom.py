@@ -5,7 +5,7 @@ import unittest
 from lived import Attached, Lived, by_chance
 from roam_live.common.tty import MOST
 from roam_live.frontend import sizes, zoom
-from roam_live.frontend.commands import REFUSES
+from roam_live.frontend.session_size import REFUSES
 from roam_live.frontend.split_math import above, size_at, size_for
 from roam_live.protocol.display_records import DisplayRecord
 from roam_live.protocol.panes import Places, Rect
@@ -257,11 +257,11 @@ class Ends(Zoomed):
         """With another connection the size that is awaited is asked for again, there and back; where none is, none is."""
         self.attach(self.grid())
         for size, keys in (("size 48 160", b"\x02z"), ("size 24 80", b"\x02z")):
-            self.person.commands.request_size_again()
+            self.person.commands.follower.request_again()
             self.assertEqual(self.person.said(), [])
             self.person.keyboard.fed(keys)
             self.person.said()
-            self.person.commands.request_size_again()
+            self.person.commands.follower.request_again()
             self.take()
             self.assertEqual(self.heard[-1], size)
 
@@ -391,7 +391,7 @@ class Noted(Zoomed):
             self.attach(session, host=PlayedHost(types), is_read_only=is_read_only)
             self.by_another(*filter(None, [changed]))
             self.person.host.zoomed = maker, note
-            self.person.commands.others_told()
+            self.person.commands.follower.others_told()
             self.take()
             self.assertEqual(session.places().size(), soon, (maker, is_read_only, types, changed))
             self.now += zoom.LEFT
@@ -408,13 +408,13 @@ class Noted(Zoomed):
             session.do("size 48 160")
             self.attach(session, host=PlayedHost(True))
             self.person.host.zoomed = 0, note
-            self.person.commands.others_told()
+            self.person.commands.follower.others_told()
             self.now += zoom.LEFT / 2
             self.person.loop.do_due()
             self.by_another("grow 1")
             self.assertEqual((session.places().size(), self.person.host.zooms), ((48, 160), []))
             self.person.host.zoomed = 9 if is_told else 0, note
-            self.person.commands.others_told()
+            self.person.commands.follower.others_told()
             self.now += zoom.LEFT
             self.person.loop.do_due()
             self.take()
@@ -426,7 +426,7 @@ class Noted(Zoomed):
         for key, after in ((b"", (24, 80)), (b"\x02r", (48, 160))):
             self.attach(self.grid(), host=PlayedHost(True))
             self.person.host.zoomed = 0, note
-            self.person.commands.others_told()
+            self.person.commands.follower.others_told()
             self.types(key)
             self.by_another("size 48 160")
             self.now += zoom.LEFT
@@ -441,21 +441,21 @@ class Noted(Zoomed):
         for told, after in ((False, (24, 80)), (True, (48, 160))):
             self.attach(self.grid(), host=PlayedHost(True))
             self.person.host.zoomed = 0, note
-            self.person.commands.others_told()
+            self.person.commands.follower.others_told()
             self.by_another("size 48 160")
             self.assertEqual(self.session.places().size(), (48, 160))
             self.now += zoom.LEFT / 2
             self.person.loop.do_due()
             self.by_another("grow 1")
             self.person.host.zoomed = 9 if told else 0, note
-            self.person.commands.others_told()
+            self.person.commands.follower.others_told()
             self.now += zoom.LEFT / 2
             self.person.loop.do_due()
             self.take()
             self.assertEqual((self.session.places().size(), self.person.host.zooms), (after, [] if told else ["None"]))
         # Once that one is left too it has the size, at once where nobody else is left.
         self.person.host.zoomed, self.person.host.types = (0, note), False
-        self.person.commands.others_told()
+        self.person.commands.follower.others_told()
         self.take()
         self.assertEqual(self.session.places().size(), (24, 80))
 
@@ -470,7 +470,7 @@ class Noted(Zoomed):
             self.person.host.zoomed = (9, ZoomNote((24, 80), ((48, 160),))) if tells else (0, None)
             if tells:
                 self.person.host.awaited = False
-                self.person.commands.others_told()
+                self.person.commands.follower.others_told()
             else:
                 self.now += zoom.FOCUS_WAIT
                 self.person.loop.do_due()

@@ -159,18 +159,23 @@ class FrontEnd:
         panes = PanesSubscriber(session.folder, self.loop, lambda: self.commands.panes_changed(), self.untold)
         panes.rings = lambda pane: self.commands.ring(pane)
         if self.has_clips:
-            panes.follow_clips(lambda text, making: self.commands.clip(text, making))
+            panes.follow_clips(lambda text, making: self.commands.acts.set_clip(text, making))
         self.loop.later("untold", AWAITED, lambda: self.commands.show_known())
         return panes
+
+    def heard_bells(self, session: AnySession) -> BellSubscriber:
+        """What follows the bells of a window."""
+        return BellSubscriber(session.folder, self.loop, lambda pane: self.commands.panes.ring(pane),
+                              lambda words: self.display.tell(words, LOSS_TOLD))
 
     def begun(self, session: AnySession) -> WindowView:
         """A view of a window."""
         loop, display = self.loop, self.display
         link, panes = ClientLink(session.terminals, self.is_read_only, self.prediction), self.followed(session)
-        host = HostClient(session.folder, loop, display.outer.size, self.is_read_only, lambda: commands.others_told())
+        host = HostClient(session.folder, loop, display.outer.size, self.is_read_only, lambda: commands.follower.others_told())
         host.leaves, host.others_left = lambda: self.leave(DETACHED), lambda count: self.commands.others_left(count)
         commands = Commands(session, panes, link, display, loop, self.leave, self.modes, self.is_new, self.is_whole, host)
-        commands.takes = self.keyboard.take
+        commands.copying.gives_back = self.keyboard.take
         commands.synchronizing.remember(self.synchronized, session.number, lambda: self.prediction)
         return WindowView(session, link, Reconnector(session, link, panes.is_full), panes, host, commands)
 
@@ -225,7 +230,7 @@ class FrontEnd:
             view.commands.synchronizing.choose_prediction()
         row, self.row = self.row, text_of("status")
         if self.row != row and self.display.is_row_hidden != (self.row == "off"):
-            self.commands.switch_row()
+            self.commands.follower.switch_row()
         self.commands.show_metadata()
         self.tell_settings(otherwise)
 
@@ -248,7 +253,7 @@ class FrontEnd:
         session = self.view.session.window(number)
         server = opened_server(session)
         before, view = self.view, self.draining.taken(number)
-        self.shown_whole[before.number] = before.commands.session_size() if self.display.shows_all() else NO_SIZE
+        self.shown_whole[before.number] = before.commands.size.now() if self.display.shows_all() else NO_SIZE
         self.draining.add(before)
         if view:
             view.take_up(self.followed(session))
@@ -295,7 +300,7 @@ class FrontEnd:
         loss = self.reconnector.connected()
         self.show_window()
         if loss:
-            self.commands.request_size_again()
+            self.commands.follower.request_again()
             self.display.tell(loss, LOSS_TOLD)
 
     def is_window_gone(self) -> bool:
@@ -308,12 +313,12 @@ class FrontEnd:
         link = self.link
         self.loop.add(link, self.hear, self.send, hears=lambda: len(self.display.outer.waiting) < PAINTED_LIMIT,
                       has_more=lambda: link.waiting)
-        self.commands.paused = False
+        self.commands.acts.paused = False
         self.display.notice = ""
         self.display.begin()
         self.commands.show_known()
-        self.commands.fit_first()
-        self.commands.act(*([] if self.modes.has(ScrollMode) else [NEWEST]))
+        self.commands.follower.fit_first()
+        self.commands.acts.act(*([] if self.modes.has(ScrollMode) else [NEWEST]))
 
     def say(self, line: str) -> None:
         """Says a line about what is shown here, where there is a client: each that is connected to is told anew."""
@@ -327,7 +332,7 @@ class FrontEnd:
 
     def pause(self, said: str, wait: float) -> None:
         """Says what is in the way for so long."""
-        self.commands.paused = wait >= 1
+        self.commands.acts.paused = wait >= 1
         self.display.show(f"{said}; tried anew in {wait} s" + ("; C-c or q leaves" if wait >= 1 else ""))
 
     def lost(self) -> None:
@@ -348,9 +353,9 @@ class FrontEnd:
     def resized(self) -> None:
         """Goes by a new size of the terminal."""
         self.display.outer.is_known = False
-        self.commands.resized()
+        self.commands.follower.resized()
         self.display.resized()
-        self.loop.later("size", 0.0 if self.commands.is_fresh() else SIZES, self.commands.fit)
+        self.loop.later("size", 0.0 if self.commands.follower.is_fresh() else SIZES, self.commands.follower.fit)
 
     def continued(self) -> None:
         """Takes the terminal again, which another may have had."""
@@ -424,8 +429,8 @@ class FrontEnd:
         if record.word in ("paint", "anew"):
             self.untaken.heard()
             self.preloading.begin()
-        if record.word == "size" and not self.commands.is_fitted and "size" not in self.loop.due:
-            self.loop.later("size", SIZES, self.commands.fit_first)
+        if record.word == "size" and not self.commands.follower.is_fitted and "size" not in self.loop.due:
+            self.loop.later("size", SIZES, self.commands.follower.fit_first)
 
     def send(self) -> None:
         """Sends what the client takes."""
@@ -464,11 +469,11 @@ class FrontEnd:
         if self.left_at is None:
             self.left_at = self.loop.clock()
             self.loop.later("left", LAST_WAIT, lambda: None)
-        return (self.commands.pastes.hands_over() or self.draining.hands_over()) and self.loop.clock() < self.left_at + LAST_WAIT
+        return (self.commands.acts.pastes.hands_over() or self.draining.hands_over()) and self.loop.clock() < self.left_at + LAST_WAIT
 
     def unpasted(self) -> str:
         """What is said of a paste that couldn't be handed over any more."""
-        hands_over = self.commands.pastes.hands_over() or self.draining.hands_over()
+        hands_over = self.commands.acts.pastes.hands_over() or self.draining.hands_over()
         return " what was pasted last isn't typed" if hands_over else ""
 
     def run(self) -> int:

@@ -1,17 +1,13 @@
-"""The borders between panes: which splits there are, as far as rectangles tell it, whose own split a border is, and how it is dragged."""
+"""The borders between panes: which splits there are, as far as rectangles tell it, and whose own split a border is."""
 from __future__ import annotations
 
 from collections import namedtuple
-from collections.abc import Callable
 
-from roam_live.common.event_loop import Loop
-from roam_live.protocol.panes import Places, Rect
+from roam_live.protocol.panes import Rect
 
 TYPE_CHECKING = False
 if TYPE_CHECKING:
     from typing import Union
-
-    from roam_live.frontend.commands import Commands
 
     # What a session, or a part of it, is made of: a pane, by its number, or two parts.
     Parts = Union[int, "PaneSplit"]
@@ -21,10 +17,6 @@ if TYPE_CHECKING:
 # A pane has so many columns and rows at least; and it grows by so many at once at most.
 LEAST = {"right": 4, "down": 2}
 MOST_GROWTH = 99
-
-# So many seconds after a growth was taken, of which nothing is told, it was refused.
-SETTLES = 0.25
-NO_PANE = "this border can't be moved: the panes at both sides are split themselves"
 
 
 class PaneSplit(namedtuple("PaneSplit", "way first second")):
@@ -147,91 +139,3 @@ def border_at(rects: dict[int, Rect], row: int, col: int) -> Border | None:
                           before, behind, leaves)
         parts = parts.first if place < at else parts.second
     return None
-
-
-class BorderDrag:
-    """A border that a person drags. It goes by growths of a pane whose own split it is, one after another, each once what came of the one
-    before is told. Whose it is may be known wrongly, where panes were closed: a growth that moves another border is undone, and the pane
-    on the other side tried."""
-
-    def __init__(self, commands: Commands, loop: Loop, border: Border, ended: Callable[[], object], moment: str = "border") -> None:
-        self.commands, self.loop, self.border, self.ended = commands, loop, border, ended
-        # What the moment is called at which it is settled.
-        self.moment = moment
-        others = [leaf for leaf in ((border.before, 1), (border.behind, -1)) if leaf not in border.leaves]
-        self.leaves = border.leaves + others if border.leaves else []
-        self.aim = 0
-        # The pane that grows, by how much, and the places before that; whether it is undone by that; and whether it is let go.
-        self.grown: tuple[int, int, Places] | None = None
-        self.is_undone = self.is_over = False
-        # True if this person moved the focus to a pane that isn't known yet: a growth would put it back.
-        self.awaits_focus = False
-
-    def to(self, row: int, col: int) -> None:
-        """Drags it to a place of the session."""
-        self.aim = min(max(col if self.border.way == "right" else row, self.border.least), self.border.most)
-        self.pull()
-
-    def let_go(self) -> None:
-        """Leaves it where it is dragged to, once it is there."""
-        self.is_over = True
-        self.pull()
-
-    def pull(self) -> None:
-        """Has it go where it is to be, unless it goes already."""
-        places = self.commands.places()
-        if self.grown:
-            return
-        at = self.border.at(places.rects) if places else 0
-        self.awaits_focus = bool(places and not places.focus and at and self.aim and self.aim != at)
-        if self.awaits_focus:
-            self.loop.later(self.moment, SETTLES, self.settle)
-        elif not places or not at or not self.aim or self.aim == at:
-            self.end_over()
-        elif not self.leaves:
-            self.commands.display.tell(NO_PANE)
-            self.ended()
-        else:
-            pane, sign = self.leaves[0]
-            self.grow(pane, min(max(sign * (self.aim - at), -MOST_GROWTH), MOST_GROWTH), places)
-
-    def grow(self, pane: int, by: int, places: Places) -> None:
-        """Has a pane grow, with the focus where it was in the end."""
-        self.grown = pane, by, places
-        self.loop.later(self.moment, SETTLES, self.settle)
-        self.commands.act_together(f"focus {pane}", f"grow {by}", *[f"focus {places.focus}"] * (places.focus != pane))
-
-    def panes_changed(self) -> None:
-        """Takes note of what is told of the panes: of what comes of a growth where the pane has another size."""
-        places = self.commands.panes.places
-        if self.awaits_focus and self.commands.moved_to is None:
-            self.loop.drop(self.moment)
-            self.pull()
-        if not self.grown or not places:
-            return
-        pane, by, before = self.grown
-        now, then = places.rects.get(pane), before.rects[pane]
-        if now and (now.rows, now.cols) == (then.rows, then.cols):
-            return
-        self.loop.drop(self.moment)
-        self.grown = None
-        if now and not self.is_undone and self.border.at(places.rects) == self.border.at(before.rects):
-            self.leaves.pop(0)
-            self.is_undone = True
-            self.grow(pane, -by, places)
-        else:
-            self.is_undone = False
-            self.pull()
-
-    def settle(self) -> None:
-        """Goes on where nothing comes of a growth that was taken: it is no further than it can be."""
-        if self.commands.link.untaken():
-            self.loop.later(self.moment, SETTLES, self.settle)
-            return
-        self.grown, self.is_undone, self.awaits_focus, self.aim = None, False, False, 0
-        self.end_over()
-
-    def end_over(self) -> None:
-        """Ends once it is let go."""
-        if self.is_over:
-            self.ended()

@@ -180,7 +180,7 @@ class CommandRunner:
 
     def ask(self, text: str = "") -> None:
         """Asks for a command."""
-        self.front.commands.ask_line(CommandLine(self.lines), "command")
+        self.front.commands.acts.ask_line(CommandLine(self.lines), "command")
 
     def typed(self, text: str) -> None:
         """Does what was typed."""

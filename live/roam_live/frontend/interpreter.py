@@ -42,16 +42,16 @@ ANYBODY: dict[str, Callable[[Commands], object]] = {
     "detach": lambda commands: commands.leave("[detached]"),
     # The signal comes as from elsewhere, once what was typed is taken.
     "suspend": lambda commands: os.kill(os.getpid(), signal.SIGTSTP),
-    "repaint": lambda commands: commands.repaint(),
-    "row": lambda commands: commands.switch_row(),
+    "repaint": lambda commands: commands.follower.repaint(),
+    "row": lambda commands: commands.follower.switch_row(),
 }
 EDITORS: dict[str, Callable[[Commands], object]] = {
-    "close": lambda commands: commands.close(),
+    "close": lambda commands: commands.panes.close(),
     "mouse": lambda commands: commands.pointing.switch(),
     "leave others": lambda commands: commands.leave_others(),
     "zoom": lambda commands: commands.zooming.switch(),
     "even": lambda commands: commands.border_keys.ask("even"),
-    "last": lambda commands: commands.go_back(),
+    "last": lambda commands: commands.panes.go_back(),
     "synchronize": lambda commands: commands.synchronizing.switch(),
 }
 
@@ -73,13 +73,13 @@ class Interpreter:
         now = commands
         self.does: dict[type[Effect], Callable[..., object]] = {
             effects.TypeKey: lambda asked: now().type_key(asked.acts, asked.key),
-            effects.TypeActs: lambda asked: now().act(*asked.acts),
+            effects.TypeActs: lambda asked: now().acts.act(*asked.acts),
             effects.ClosePane: self.close_pane,
             effects.SendRequest: lambda asked: self.windows and self.windows.say(asked.line),
-            effects.BeginPaste: lambda asked: now().pastes.begin(asked.why),
-            effects.AddPaste: lambda asked: now().pastes.add(asked.text),
+            effects.BeginPaste: lambda asked: now().acts.pastes.begin(asked.why),
+            effects.AddPaste: lambda asked: now().acts.pastes.add(asked.text),
             effects.EndPaste: lambda asked: now().end_paste(),
-            effects.PasteBuffer: lambda asked: now().pastes.paste_buffer(asked.number),
+            effects.PasteBuffer: lambda asked: now().acts.pastes.paste_buffer(asked.number),
             effects.Perform: lambda asked: self.grant(asked.wish),
             effects.TellUnbound: self.tell_unbound,
             effects.ShowStatus: lambda asked: display.tell(asked.line, asked.seconds),
@@ -116,7 +116,7 @@ class Interpreter:
     def typed(self, keys: list[Key]) -> None:
         """Take keys; those behind one that goes to another window, or opens one, are for that."""
         here = self.commands()
-        here.follow_latest()
+        here.follower.follow_latest()
         keys = self.modes.keymap.joined(keys)
         place = 0
         while place < len(keys):
@@ -124,7 +124,7 @@ class Interpreter:
                 break
             if self.commands() is not here:
                 here = self.commands()
-                here.follow_latest()
+                here.follower.follow_latest()
             key, count = self.modes.whole(keys, place)
             self.take_any(key)
             place += count
@@ -149,11 +149,13 @@ class Interpreter:
         elif key.name == ANSWERED:
             self.display.outer.take_answer(key.text)
         else:
-            self.commands().tell_colour(key.text)
+            host = self.commands().acts.host
+            if host:
+                host.tell_colour(key.text)
 
     def take(self, key: Key) -> None:
         """Take a key. Under a notice nothing is typed; the prefix means there what it always does."""
-        modes, is_paused, now = self.modes, self.commands().paused, time.monotonic()
+        modes, is_paused, now = self.modes, self.commands().acts.paused, time.monotonic()
         if modes.pushed and self.display.notice != self.help:
             modes.drop(HelpMode)
         is_covered = is_paused or bool(self.display.notice)
@@ -195,7 +197,7 @@ class Interpreter:
         if wish in EDITORS:
             EDITORS[wish](commands)
         elif word == "split":
-            commands.split(wish)
+            commands.panes.split(wish)
         elif word == "border":
             commands.border_keys.ask(wish.split()[-1])
         elif wish == "panes":
@@ -205,14 +207,14 @@ class Interpreter:
             commands.copying.close()
             commands.lists.ask_buffers(is_newest=wish == "paste")
         elif wish in BESIDE:
-            commands.go(wish)
+            commands.panes.go(wish)
 
     def close_pane(self, asked: effects.ClosePane) -> None:
         """Close the pane in focus of a window, also of one that the person has left since he was asked."""
         here = self.commands()
         commands = here if here.session.number == asked.window else self.left_window(asked.window)
         if commands:
-            commands.act("close")
+            commands.acts.act("close")
 
     def tell_unbound(self, asked: effects.TellUnbound) -> None:
         """Tell that a key is not bound."""

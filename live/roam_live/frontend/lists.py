@@ -2,6 +2,8 @@
 that are only read."""
 from __future__ import annotations
 
+from collections.abc import Callable
+
 from roam_live.common.text import printable
 from roam_live.frontend.effects import GoToWindow, PasteBuffer
 from roam_live.frontend.modes import ListLine, ListMode
@@ -12,8 +14,8 @@ from roam_live.protocol.panes import Rect
 TYPE_CHECKING = False
 if TYPE_CHECKING:
     from roam_live.frontend.bindings import Keymap
-    from roam_live.frontend.commands import Commands
     from roam_live.frontend.effects import Effect
+    from roam_live.frontend.window_acts import WindowActs
     from roam_live.protocol.scrollback_client import BufferNote
 
 # So many seconds a line stands.
@@ -65,8 +67,8 @@ def painted(mode: ListMode, rect: Rect) -> list[bytes]:
 class Lists:
     """The list of one person that is open in a window, if there is one."""
 
-    def __init__(self, commands: Commands) -> None:
-        self.commands = commands
+    def __init__(self, acts: WindowActs, is_copying: Callable[[], bool]) -> None:
+        self.acts, self.is_copying = acts, is_copying
         self.mode: ListMode | None = None
         # What the list is of: `buffers`, `lines` or `windows`; and the making of the pane over which it is drawn, and where.
         self.kind = self.pane = ""
@@ -81,13 +83,13 @@ class Lists:
     def open(self, kind: str, mode: ListMode) -> bool:
         """Show a list over the pane in focus, and return True if that is possible."""
         self.close()
-        places, commands = self.commands.places(), self.commands
+        places, acts = self.acts.places(), self.acts
         pane = places.focus if places else 0
-        rect = commands.display.visible(places.rects[pane]) if places and pane else None
-        if not rect or not mode.lines or commands.display.notice or commands.copying.is_on():
+        rect = acts.display.visible(places.rects[pane]) if places and pane else None
+        if not rect or not mode.lines or acts.display.notice or self.is_copying():
             return False
-        self.mode, self.kind, self.rect, self.pane = mode, kind, rect, commands.panes.making(pane)
-        commands.modes.drawn = mode
+        self.mode, self.kind, self.rect, self.pane = mode, kind, rect, acts.panes.making(pane)
+        acts.modes.drawn = mode
         self.lay(mode)
         return True
 
@@ -95,15 +97,15 @@ class Lists:
         """End the list, and wait for no answer."""
         self.asked += 1
         if self.mode:
-            self.commands.modes.remove(self.mode)
+            self.acts.modes.remove(self.mode)
             self.mode = None
-            self.commands.display.lift()
-            self.commands.display.change_line()
+            self.acts.display.lift()
+            self.acts.display.change_line()
 
     def lay(self, mode: ListMode) -> None:
         """Draw it."""
-        self.commands.display.lay(Popup(self.rect, lambda: painted(mode, self.rect), lambda: self.cursor(mode)))
-        self.commands.display.say_line(mode.lines[mode.chosen].status)
+        self.acts.display.lay(Popup(self.rect, lambda: painted(mode, self.rect), lambda: self.cursor(mode)))
+        self.acts.display.say_line(mode.lines[mode.chosen].status)
 
     def cursor(self, mode: ListMode) -> tuple[int, int]:
         """Return where the terminal's cursor stands: on the chosen line."""
@@ -112,19 +114,19 @@ class Lists:
     def draw(self) -> None:
         """Show which line is chosen."""
         if self.mode:
-            self.commands.display.say_line(self.mode.lines[self.mode.chosen].status)
-            self.commands.display.draw()
+            self.acts.display.say_line(self.mode.lines[self.mode.chosen].status)
+            self.acts.display.draw()
 
     def fit(self) -> None:
         """Go by where its pane is now, whose end ends the list."""
-        places = self.commands.panes.places
+        places = self.acts.panes.places
         if not self.mode or not places:
             return
         rect = places.rects.get(int(self.pane.split()[0]) if self.pane else 0)
-        shown = self.commands.display.visible(rect) if rect else None
-        if not shown or self.commands.panes.making(int(self.pane.split()[0])) != self.pane:
+        shown = self.acts.display.visible(rect) if rect else None
+        if not shown or self.acts.panes.making(int(self.pane.split()[0])) != self.pane:
             self.close()
-        elif shown != self.rect or not self.commands.display.is_masked:
+        elif shown != self.rect or not self.acts.display.is_masked:
             self.rect = shown
             self.lay(self.mode)
 
@@ -133,42 +135,42 @@ class Lists:
     def ask_buffers(self, is_newest: bool) -> None:
         """Paste the newest buffer, or open a list of them, once the host has reported which there are."""
         self.close()
-        if self.commands.host:
+        if self.acts.host:
             self.ask_again(self.asked, is_newest)
         else:
-            self.commands.display.tell(NONE_KEPT, TOLD)
+            self.acts.display.tell(NONE_KEPT, TOLD)
 
     def ask_again(self, asked: int, is_newest: bool) -> None:
         """Ask which buffers there are, unless something else was asked since."""
-        host = self.commands.host
+        host = self.acts.host
         if host and asked == self.asked:
             host.scrollback.buffers(lambda notes: self.answered(asked, notes, is_newest))
 
     def answered(self, asked: int, notes: list[BufferNote] | None, is_newest: bool) -> None:
         """Take which buffers there are, None if the host did not report them."""
-        host = self.commands.host
+        host = self.acts.host
         if asked != self.asked:
             return
         if notes is None and host and host.is_connecting():
-            self.commands.loop.later("buffers", AGAIN, lambda: self.ask_again(asked, is_newest))
+            self.acts.loop.later("buffers", AGAIN, lambda: self.ask_again(asked, is_newest))
         elif not notes:
-            self.commands.display.tell(UNTOLD if notes is None else NONE_KEPT, TOLD)
+            self.acts.display.tell(UNTOLD if notes is None else NONE_KEPT, TOLD)
         elif is_newest:
-            self.commands.pastes.paste_buffer(notes[0].number)
+            self.acts.pastes.paste_buffer(notes[0].number)
         else:
-            self.open("buffers", buffer_list(self.commands.modes.keymap, notes))
+            self.open("buffers", buffer_list(self.acts.modes.keymap, notes))
 
     # ---- lines, and windows
 
     def show_lines(self, lines: list[str]) -> bool:
         """Show lines that are only read, and return True if that is possible: prompts and copy mode go first."""
-        if self.commands.modes.pushed or self.commands.paused:
+        if self.acts.modes.pushed or self.acts.paused:
             return False
-        return self.open("lines", read_list(self.commands.modes.keymap, lines))
+        return self.open("lines", read_list(self.acts.modes.keymap, lines))
 
     def show_windows(self, described: dict[int, str], here: int) -> bool:
         """Show windows, and return True if that is possible."""
-        return self.open("windows", window_list(self.commands.modes.keymap, described, here))
+        return self.open("windows", window_list(self.acts.modes.keymap, described, here))
 
     def refresh_windows(self, described: dict[int, str]) -> None:
         """Go by other windows, or other names of them: the chosen one stays chosen if it is there still."""
@@ -178,6 +180,6 @@ class Lists:
             self.close()
             return
         effects, place = self.mode.lines[self.mode.chosen].effects, self.mode.chosen
-        self.mode.lines = window_list(self.commands.modes.keymap, described, 0).lines
+        self.mode.lines = window_list(self.acts.modes.keymap, described, 0).lines
         self.mode.choose(next((at for at, line in enumerate(self.mode.lines) if line.effects == effects), place))
         self.draw()

@@ -173,16 +173,16 @@ class ScrollMode(Mode):
     def takes(self, key: Key, now: float) -> list[Effect]:
         """Return what a key asks for. The prefix and a paste end it and keep their meanings; a key that has none here does nothing."""
         if key.name in SCROLLS:
-            return self.scrolled(*SCROLLS[key.name])
+            return [TypeActs(self.step(*SCROLLS[key.name])), self.status()]
         if key.name in (self.keymap.prefix, "paste"):
             return [PopMode(), TypeActs(NEWEST), ClearStatus(), PassKey(key)]
         return [PopMode(), TypeActs(NEWEST), ClearStatus()] if key.name in SCROLL_ENDS else []
 
-    def scrolled(self, lines: int, pages: int) -> list[Effect]:
-        """Return what scrolls by lines and by pages, which are half of the terminal."""
+    def step(self, lines: int, pages: int) -> str:
+        """Return the act that scrolls by lines and by pages, which are half of the terminal."""
         step = lines + pages * max(1, self.keymap.rows // 2)
         self.view = min(max(self.view + step, 0), MOST_VIEW)
-        return [TypeActs(f"view {step}"), self.status()]
+        return f"view {step}"
 
 
 class HelpMode(Mode):

@@ -2,15 +2,18 @@
 mouse itself."""
 from __future__ import annotations
 
-from roam_live.common.event_loop import Loop
-from roam_live.frontend.borders import BorderDrag, border_at
+from collections.abc import Callable
+
+from roam_live.frontend.border_drag import BorderDrag
+from roam_live.frontend.borders import border_at
 from roam_live.frontend.copymode.mouse import Clicks
 from roam_live.frontend.modes import ScrollMode
 from roam_live.input.mouse_reports import DOWN, UP, MouseReport, is_wanted, report_of, sent, tracking_of
 
 TYPE_CHECKING = False
 if TYPE_CHECKING:
-    from roam_live.frontend.commands import Commands
+    from roam_live.frontend.copymode.mouse import CopyPointing
+    from roam_live.frontend.window_acts import WindowActs
     from roam_live.protocol.panes import Places, Rect
 
     # A row and a column of the session, from 1.
@@ -39,8 +42,11 @@ def inside(rect: Rect, place: Place) -> Place:
 class Pointing:
     """The mouse of one person."""
 
-    def __init__(self, commands: Commands, loop: Loop) -> None:
-        self.commands, self.loop = commands, loop
+    def __init__(self, acts: WindowActs, copying: CopyPointing) -> None:
+        self.acts, self.copying, self.loop = acts, copying, acts.loop
+        # What asks the terminal for reports anew; and what goes to the window whose label has a place in the last row, if it may.
+        self.asks: Callable[[], object] = lambda: None
+        self.goes_to: Callable[[int], object] | None = None
         # Whether roam has the mouse itself; and the border that is dragged.
         self.is_on = False
         self.border: BorderDrag | None = None
@@ -57,8 +63,8 @@ class Pointing:
     def asked(self) -> str:
         """Which reports the outer terminal is asked for, where this person types at all and the panes are known: those that the program in
         the pane in focus has asked for, or roam itself."""
-        panes = self.commands.panes
-        if self.commands.link.is_read_only or not panes.places:
+        panes = self.acts.panes
+        if self.acts.link.is_read_only or not panes.places:
             return ""
         tracking = tracking_of(panes.focus_modes)
         return "motion" if tracking == "motion" else "drags" if tracking or self.is_on else ""
@@ -66,8 +72,8 @@ class Pointing:
     def switch(self) -> None:
         """Has roam have the mouse itself, or no more."""
         self.is_on = not self.is_on
-        self.commands.show_metadata()
-        self.commands.display.tell(ON.format(self.commands.modes.keymap.name) if self.is_on else OFF, TOLD)
+        self.asks()
+        self.acts.display.tell(ON.format(self.acts.modes.keymap.name) if self.is_on else OFF, TOLD)
 
     def panes_changed(self) -> None:
         """Takes note of what is told of the panes."""
@@ -76,7 +82,7 @@ class Pointing:
 
     def take(self, text: str) -> None:
         """Takes a report of the outer terminal."""
-        report, commands = report_of(text), self.commands
+        report, acts = report_of(text), self.acts
         if not report:
             return
         holder = self.held.get(report.number(), 0) if report.moves() or report.is_release else 0
@@ -92,25 +98,25 @@ class Pointing:
             # That it was let go wasn't told.
             self.end_drag()
         is_near = holder > 0 or self.border is not None
-        place, places = commands.display.shown_at(report.row, report.col, is_near), commands.places()
-        if not place or not places or commands.paused or commands.link.is_read_only:
+        place, places = acts.display.shown_at(report.row, report.col, is_near), acts.places()
+        if not place or not places or acts.paused or acts.link.is_read_only:
             self.end_drag()
         elif self.border and (report.moves() or report.is_release):
             self.drag(self.border, report, place)
-        elif commands.modes.has(ScrollMode):
+        elif acts.modes.has(ScrollMode):
             self.point_back(report, places, place)
-        elif commands.modes.is_typing():
+        elif acts.modes.is_typing():
             self.point(report, places, place, holder)
 
     def goes(self, report: MouseReport) -> bool:
         """Goes to the window whose label in the last row a button is held on, and tells whether it does."""
-        commands = self.commands
+        acts = self.acts
         is_press = not report.is_release and not report.moves() and report.number() == 0
-        place = commands.display.window_at(report.row, report.col) if is_press and commands.modes.is_typing() else None
-        if place is None or not commands.windows:
+        place = acts.display.window_at(report.row, report.col) if is_press and acts.modes.is_typing() else None
+        if place is None or not self.goes_to:
             return False
         self.end_drag()
-        commands.windows.go_to(commands.windows.shown[place])
+        self.goes_to(place)
         return True
 
     def point(self, report: MouseReport, places: Places, place: Place, holder: int = 0) -> None:
@@ -119,7 +125,7 @@ class Pointing:
         pane = holder or places.pane_at(*place)
         if self.grasped and report.moves() and report.number() == 0:
             (pane, pressed), self.grasped = self.grasped, None
-            self.commands.copying.pointing.open_by_drag(pane, pressed, (report.row, report.col))
+            self.copying.open_by_drag(pane, pressed, (report.row, report.col))
         elif not pane and self.is_on and report.button == 0 and not report.is_release:
             self.grip(places, place)
         elif pane == 0 or report.is_release and not holder or pane != places.focus and (not self.is_on or report.moves() or holder):
@@ -142,7 +148,7 @@ class Pointing:
             self.turn(report, pane)
         else:
             if not has_focus:
-                self.commands.act_together(f"focus {pane}")
+                self.acts.act_together(f"focus {pane}")
             if self.is_on and report.number() == 0:
                 self.grasp(pane, (report.row, report.col))
 
@@ -150,10 +156,10 @@ class Pointing:
 
     def copies(self, report: MouseReport) -> bool:
         """Whether copy mode takes a report."""
-        commands = self.commands
-        if not commands.copying.is_on() or commands.paused or commands.display.notice or not commands.modes.is_typing():
+        acts = self.acts
+        if not self.copying.is_on() or acts.paused or acts.display.notice or not acts.modes.is_typing():
             return False
-        return commands.copying.pointing.take(report)
+        return self.copying.take(report)
 
     def grasp(self, pane: int, place: Place) -> None:
         """Takes note of where the first button is held, at a place of the terminal: what is dragged from there is selected, and a word by a
@@ -161,7 +167,7 @@ class Pointing:
         self.grasped = pane, place
         if self.clicks.press(place, self.loop.clock()) == 2:
             self.grasped = None
-            self.commands.copying.pointing.open_by_click(pane, place)
+            self.copying.open_by_click(pane, place)
 
     # ---- where roam has the mouse
 
@@ -171,35 +177,26 @@ class Pointing:
         way = {UP: "up", DOWN: "down"}.get(report.number())
         if not self.is_on or not way:
             return
-        if OTHER in self.commands.panes.modes(pane):
-            self.commands.act_together(f"focus {pane}", *[f"key {way}"] * NOTCH)
+        if OTHER in self.acts.panes.modes(pane):
+            self.acts.act_together(f"focus {pane}", *[f"key {way}"] * NOTCH)
         elif way == "up":
-            self.commands.copying.pointing.open_by_wheel(pane)
-
-    def scroll(self, pane: int, rows: int) -> None:
-        """Scrolls a pane; where the newest rows are there again that is over."""
-        act, line = self.commands.modes.scroll_by(rows)
-        self.commands.act_together(f"focus {pane}", act)
-        if line:
-            self.commands.display.tell(line, None)
-        else:
-            self.commands.display.end_told()
+            self.copying.open_by_wheel(pane)
 
     def point_back(self, report: MouseReport, places: Places, place: Place) -> None:
         """Goes by a report while rows are shown that scrolled off: the wheel scrolls, and where roam has the mouse what another pane is
         pointed at with ends that."""
         pane, is_press = places.pane_at(*place), not report.moves() and not report.is_release
         if pane == places.focus and report.number() in (UP, DOWN):
-            self.scroll(pane, NOTCH if report.number() == UP else -NOTCH)
+            self.acts.scroll(pane, NOTCH if report.number() == UP else -NOTCH)
         elif pane != places.focus and self.is_on and is_press:
-            self.commands.end_scroll()
+            self.acts.end_scroll()
             self.point(report, places, place)
 
     def grip(self, places: Places, place: Place) -> None:
         """Takes the border at a place, to be dragged."""
         border = border_at(places.rects, *place)
         if border:
-            self.border = BorderDrag(self.commands, self.loop, border, self.end_drag)
+            self.border = BorderDrag(self.acts, border, self.end_drag)
 
     def drag(self, drag: BorderDrag, report: MouseReport, place: Place) -> None:
         """Drags a border, until its button is let go."""
@@ -220,12 +217,12 @@ class Pointing:
         with it, in one line of acts: nobody else's focus comes between."""
         text = self.text(pane, report, place)
         if text:
-            self.commands.act_together(f"focus {pane}", *(f"char {ord(letter):x}" for letter in text))
+            self.acts.act_together(f"focus {pane}", *(f"char {ord(letter):x}" for letter in text))
         return text != ""
 
     def text(self, pane: int, report: MouseReport, place: Place) -> str:
         """What a pane's program is sent for a report; nothing where it is none for it."""
-        modes, places = self.commands.panes.modes(pane), self.commands.panes.places
+        modes, places = self.acts.panes.modes(pane), self.acts.panes.places
         rect = places.rects.get(pane) if places else None
         if not rect or not is_wanted(report, modes):
             return ""
@@ -239,15 +236,10 @@ class Pointing:
             return
         pane, report, place = self.motion
         due = self.moved_at + APART
-        if self.moved == (pane, place, report.button) or pane != self.focus():
+        if self.moved == (pane, place, report.button) or pane != self.acts.focus():
             self.motion = None
-        elif not is_now and (self.loop.clock() < due or self.commands.link.untaken() >= MOST_ON_WAY):
+        elif not is_now and (self.loop.clock() < due or self.acts.link.untaken() >= MOST_ON_WAY):
             self.loop.at("motion", max(due, self.loop.clock() + APART / 2), self.put_motion)
         else:
             self.motion, self.moved, self.moved_at = None, (pane, place, report.button), self.loop.clock()
             self.type(pane, report, place)
-
-    def focus(self) -> int:
-        """The pane in focus, as far as it is known."""
-        places = self.commands.places()
-        return places.focus if places else 0

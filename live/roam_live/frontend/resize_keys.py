@@ -3,15 +3,17 @@ from __future__ import annotations
 
 from collections import deque
 
-from roam_live.common.event_loop import Loop
-from roam_live.frontend.borders import NO_PANE, SETTLES, Border, BorderDrag, begin_of, border_at, end_of, is_told_by_numbers, splits_of
+from roam_live.frontend.border_drag import NO_PANE, SETTLES, BorderDrag
+from roam_live.frontend.borders import Border, begin_of, border_at, end_of, is_told_by_numbers, splits_of
 from roam_live.frontend.split_math import Evened
 from roam_live.frontend.zoom import FOCUS_WAIT
 from roam_live.protocol.panes import BESIDE
 
 TYPE_CHECKING = False
 if TYPE_CHECKING:
-    from roam_live.frontend.commands import Commands
+    from roam_live.frontend.session_size import SessionSize
+    from roam_live.frontend.window_acts import WindowActs
+    from roam_live.frontend.zoom import Zooming
     from roam_live.protocol.panes import Places, Rect
 
 # So many keys wait at most until the session has its size again; and even shares take so many lines of acts at most, each once what comes
@@ -64,8 +66,8 @@ def is_across(rect: Rect, other: Rect, side: str) -> bool:
 class BorderKeys:
     """What one person does with borders by keys."""
 
-    def __init__(self, commands: Commands, loop: Loop) -> None:
-        self.commands, self.loop = commands, loop
+    def __init__(self, acts: WindowActs, size: SessionSize, zooming: Zooming) -> None:
+        self.acts, self.size, self.zooming, self.loop = acts, size, zooming, acts.loop
         # The border that goes, and keys that wait until the session has its size again.
         self.drag: BorderDrag | None = None
         self.waiting: deque[str] = deque(maxlen=MOST_WAITING)
@@ -75,20 +77,20 @@ class BorderKeys:
 
     def ask(self, wish: str) -> None:
         """Does what a key asks for, `even` or a side: once nothing is zoomed any more."""
-        if self.commands.zooming.is_on():
-            self.commands.zooming.end()
+        if self.zooming.is_on():
+            self.zooming.end()
         self.waiting.append(wish)
         self.loop.later("border keys", FOCUS_WAIT, lambda: self.do_waiting(is_late=True))
         self.do_waiting()
 
     def do_waiting(self, is_late: bool = False) -> None:
         """Does what waits, once it is told where the panes are at the session's size, and where the focus is that was moved."""
-        places, here = self.commands.panes.places, self.commands.places()
+        places, here = self.acts.panes.places, self.acts.places()
         is_known = here is None or here.focus > 0
         if is_late and self.waiting and not is_known:
             self.waiting.clear()
-            self.commands.display.tell(NO_FOCUS)
-        while self.waiting and is_known and not self.commands.requested_size and (not places or places.is_covered()):
+            self.acts.display.tell(NO_FOCUS)
+        while self.waiting and is_known and not self.size.requested and (not places or places.is_covered()):
             wish = self.waiting.popleft()
             if wish == "even":
                 self.even()
@@ -97,7 +99,7 @@ class BorderKeys:
 
     def panes_changed(self) -> None:
         """Goes by what is told of the panes."""
-        places = self.commands.panes.places
+        places = self.acts.panes.places
         if self.drag:
             self.drag.panes_changed()
         if places and self.wanted is not None and places.rects == self.wanted:
@@ -108,30 +110,30 @@ class BorderKeys:
 
     def move(self, side: str) -> None:
         """Moves the border on a side of the pane in focus towards that side, or where it has none there the one on the other side."""
-        places, way = self.commands.places(), axis_of(side)
+        places, way = self.acts.places(), axis_of(side)
         if not places:
-            self.commands.display.tell(UNTOLD)
+            self.acts.display.tell(UNTOLD)
             return
         found = [side_border(places.rects, places.focus, one) for one in (side, OPPOSITE[side])]
         border = found[0] or found[1]
         if not border:
-            self.commands.display.tell(NO_BORDER[way].format(places.focus))
+            self.acts.display.tell(NO_BORDER[way].format(places.focus))
             return
         is_same = self.drag is not None and self.drag.aim > 0 and (self.drag.border.way, self.drag.border.before) == (way, border.before)
         if not is_same or not self.drag:
             self.drop()
-            self.drag = BorderDrag(self.commands, self.loop, border, self.end_move, "border by key")
+            self.drag = BorderDrag(self.acts, border, self.end_move, "border by key")
         at = self.drag.aim if is_same else border.at(places.rects)
         self.pull(self.drag, at + sum(BESIDE[side]))
 
     def pull(self, drag: BorderDrag, aim: int) -> None:
         """Has a border go to a column or a row, as far as it may."""
         if not drag.leaves:
-            self.commands.display.tell(NO_PANE)
+            self.acts.display.tell(NO_PANE)
             self.drop()
             return
         if not drag.border.least <= aim <= drag.border.most:
-            self.commands.display.tell(NO_ROOM)
+            self.acts.display.tell(NO_ROOM)
         drag.to(aim, aim)
         if self.drag is drag:
             drag.let_go()
@@ -157,30 +159,30 @@ class BorderKeys:
         """Types what is left to do for even shares: what a pane's own split hides is told once that has room."""
         self.wanted = None
         self.loop.drop("even")
-        places = self.commands.panes.places
+        places = self.acts.panes.places
         parts = splits_of(places.rects) if places and places.is_covered() else None
         if not places or not parts or not places.focus:
-            self.commands.display.tell(UNTOLD)
+            self.acts.display.tell(UNTOLD)
             return
         evened = Evened(parts, places.rects)
         if evened.acts and self.lines_left:
             self.lines_left -= 1
             self.wanted = evened.rects
             self.loop.later("even", SETTLES, self.settle)
-            self.commands.act_together(*evened.acts, *self.back(places))
+            self.acts.act_together(*evened.acts, *self.back(places))
         elif evened.is_stuck:
-            self.commands.display.tell(STUCK, TOLD)
+            self.acts.display.tell(STUCK, TOLD)
         elif is_first:
-            self.commands.display.tell(EVEN)
+            self.acts.display.tell(EVEN)
 
     def back(self, places: Places) -> list[str]:
         """The act that puts the focus back where this person has it."""
-        here = self.commands.places()
+        here = self.acts.places()
         return [f"focus {here.focus if here and here.focus else places.focus}"]
 
     def settle(self) -> None:
         """Goes on by what is told by now, once what was typed is taken."""
-        if self.commands.link.untaken():
+        if self.acts.link.untaken():
             self.loop.later("even", SETTLES, self.settle)
         else:
             self.go_on()

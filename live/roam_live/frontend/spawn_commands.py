@@ -11,7 +11,9 @@ from roam_live.protocol.spawn_request import LATE, RAN, READY, REFUSED, WAITS, B
 
 TYPE_CHECKING = False
 if TYPE_CHECKING:
-    from roam_live.frontend.commands import Commands
+    from roam_live.frontend.window_acts import WindowActs
+    from roam_live.frontend.windows import WindowWishes
+    from roam_live.frontend.zoom import Zooming
 
 NOBODY = "not run: the pty host isn't there just now"
 SILENT = "not run: the pty host is silent"
@@ -29,16 +31,18 @@ SAID = 4.0
 class Handing:
     """What is handed over at one window, while it isn't known what becomes of it: by its name, what is done once it waits there."""
 
-    def __init__(self, commands: Commands) -> None:
-        self.commands = commands
+    def __init__(self, acts: WindowActs, zooming: Zooming) -> None:
+        self.acts, self.zooming = acts, zooming
+        # The windows of the session, if it may have several.
+        self.windows: WindowWishes | None = None
         self.waits: dict[str, Callable[[str], object]] = {}
 
     def begin(self, wish: str, begins: Begins, goes_on: Callable[[], object], until: float = 0.0) -> None:
         """Has the pane in focus split for a command, or a window opened, as soon as that can be; then goes on. BadCommand tells why it
         can't."""
-        loop, host = self.commands.loop, self.commands.host
+        loop, host = self.acts.loop, self.acts.host
         until = until or loop.clock() + WAITS
-        is_awaited = self.commands.awaits_focus() or host is not None and host.is_connecting()
+        is_awaited = self.acts.awaits_focus() or host is not None and host.is_connecting()
         if is_awaited and loop.clock() < until:
             loop.later("hand over", AGAIN, lambda: self.begin_again(wish, begins, goes_on, until))
         elif wish.startswith("split"):
@@ -51,28 +55,28 @@ class Handing:
         try:
             self.begin(wish, begins, goes_on, until)
         except BadCommand as fault:
-            self.commands.display.tell(str(fault), SAID)
+            self.acts.display.tell(str(fault), SAID)
 
     def split(self, way: str, begins: Begins, goes_on: Callable[[], object]) -> None:
         """Has the pane in focus split for a command; then goes on."""
-        commands, places = self.commands, self.commands.places()
+        acts, places = self.acts, self.acts.places()
         if not places or not places.focus:
             raise BadCommand(NO_FOCUS)
-        pane, unzoomed = places.focus, commands.zooming.unzoomed(places)
+        pane, unzoomed = places.focus, self.zooming.unzoomed(places)
         why = unzoomed.unsplit(way) if unzoomed else ""
         if why:
             raise BadCommand(why)
 
         def split(name: str) -> None:
-            now = commands.places()
+            now = acts.places()
             moves = [] if now and now.focus == pane else [f"focus {pane}"]
-            commands.act_together(*moves, f"split {way}", *([f"focus {pane}"] if begins.is_aside else []))
+            acts.act_together(*moves, f"split {way}", *([f"focus {pane}"] if begins.is_aside else []))
             goes_on()
-        self.hand(begins, commands.panes.making(pane), split)
+        self.hand(begins, acts.panes.making(pane), split)
 
     def open(self, begins: Begins, goes_on: Callable[[], object]) -> None:
         """Has a window opened for a command; then goes on."""
-        windows = self.commands.windows
+        windows = self.windows
         if not windows or windows.why_one():
             raise BadCommand(windows.why_one() if windows else NOBODY)
         opens = windows
@@ -84,29 +88,29 @@ class Handing:
 
     def hand(self, begins: Begins, beside: str, goes_on: Callable[[str], object]) -> None:
         """Hands a command over, for a pane beside that making of one, or for a window."""
-        host, name, data = self.commands.host, random_name(), begins.packed()
-        if self.commands.link.is_read_only:
+        host, name, data = self.acts.host, random_name(), begins.packed()
+        if self.acts.link.is_read_only:
             raise BadCommand(READ_ONLY)
         if not beside or not host or not host.ask_with(f"{RAN} {name} {beside} {len(data)}", data):
             raise BadCommand(NOBODY)
         host.ran = self.take
         self.waits[name] = goes_on
-        self.commands.loop.later(f"{RAN} {name}", WAITS, lambda: self.give_up(name))
+        self.acts.loop.later(f"{RAN} {name}", WAITS, lambda: self.give_up(name))
 
     def give_up(self, name: str) -> None:
         """Waits no more for an answer, and tells that nothing is run."""
         if self.waits.pop(name, None):
-            self.commands.display.tell(SILENT, SAID)
+            self.acts.display.tell(SILENT, SAID)
 
     def take(self, told: str) -> None:
         """Takes what is told of one."""
         name, _, rest = told.partition(" ")
         word, _, why = rest.partition(" ")
         goes_on = self.waits.pop(name, None)
-        self.commands.loop.drop(f"{RAN} {name}")
+        self.acts.loop.drop(f"{RAN} {name}")
         if word == READY and goes_on:
             goes_on(name)
         elif word == REFUSED and goes_on:
-            self.commands.display.tell(f"not run: {printable(why)[:80]}", SAID)
+            self.acts.display.tell(f"not run: {printable(why)[:80]}", SAID)
         elif word == LATE:
-            self.commands.display.tell(NO_PANE, SAID)
+            self.acts.display.tell(NO_PANE, SAID)

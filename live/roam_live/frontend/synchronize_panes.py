@@ -5,13 +5,12 @@ from __future__ import annotations
 from collections.abc import Callable
 from functools import partial
 
-from roam_live.common.event_loop import Loop
 from roam_live.config.environment import text_of
 from roam_live.frontend.status_line import ALL_PANES
 
 TYPE_CHECKING = False
 if TYPE_CHECKING:
-    from roam_live.frontend.commands import Commands
+    from roam_live.frontend.window_acts import WindowActs
     from roam_live.protocol.panes import Places
 
     # What a key types in a pane.
@@ -76,8 +75,10 @@ def lines_of(panes: list[int], keys: list[Typed]) -> list[list[str]]:
 class Synchronizing:
     """Whether one person's keys go to all panes of a window, and those that are on their way there."""
 
-    def __init__(self, commands: Commands, loop: Loop) -> None:
-        self.commands, self.loop = commands, loop
+    def __init__(self, acts: WindowActs, is_zoomed: Callable[[], bool]) -> None:
+        self.acts, self.is_zoomed, self.loop = acts, is_zoomed, acts.loop
+        # What shows whether it is on.
+        self.shows: Callable[[], object] = lambda: None
         # For which windows of this front end that was switched, by their numbers, and the number of this one; and which predictions are
         # shown else.
         self.switched: dict[int, bool] = {}
@@ -94,28 +95,28 @@ class Synchronizing:
 
     def is_on(self) -> bool:
         """Whether it is so, also while a pane is zoomed."""
-        return self.switched.get(self.number, text_of(OPTION) == "on") and not self.commands.link.is_read_only
+        return self.switched.get(self.number, text_of(OPTION) == "on") and not self.acts.link.is_read_only
 
     def is_working(self) -> bool:
         """Whether keys that are typed now go to all panes: a pane that is zoomed has them alone."""
-        return self.is_on() and not self.commands.zooming.is_on()
+        return self.is_on() and not self.is_zoomed()
 
     def switch(self) -> None:
         """Switches it."""
         self.settle(is_last=True)
         self.switched[self.number] = not self.is_on()
         self.choose_prediction()
-        self.commands.show_known()
-        places = self.commands.panes.places
-        self.commands.display.tell(OFF if not self.is_on() else ALL_PANES if places else UNTOLD, TOLD)
+        self.shows()
+        places = self.acts.panes.places
+        self.acts.display.tell(OFF if not self.is_on() else ALL_PANES if places else UNTOLD, TOLD)
 
     def choose_prediction(self) -> None:
         """Has no predictions be shown while it is on: what a key shows in one pane isn't known of the others."""
-        self.commands.link.predict("never" if self.is_on() else self.predictions())
+        self.acts.link.predict("never" if self.is_on() else self.predictions())
 
     def panes(self) -> list[int]:
         """The panes that have what is typed, of which the first is in focus; none where it isn't known which that is."""
-        places = self.commands.places()
+        places = self.acts.places()
         return [places.focus, *(pane for pane in places.rects if pane != places.focus)] if places and places.focus else []
 
     def pasted_in(self) -> list[int]:
@@ -124,7 +125,7 @@ class Synchronizing:
             return []
         panes = self.panes()
         if not panes:
-            self.commands.display.tell(ALONE.format("where the panes are isn't told"), TOLD)
+            self.acts.display.tell(ALONE.format("where the panes are isn't told"), TOLD)
         return panes if len(panes) > 1 else []
 
     def is_full(self) -> bool:
@@ -144,19 +145,19 @@ class Synchronizing:
         if not self.keys:
             return
         panes = self.panes()
-        may_be_told = self.commands.places() is not None or self.commands.panes.is_awaited()
+        may_be_told = self.acts.places() is not None or self.acts.panes.is_awaited()
         if not panes and may_be_told and not is_last:
             if "synchronize" not in self.loop.due:
                 self.loop.later("synchronize", FOCUS_WAIT, lambda: self.settle(is_last=True))
             return
-        if panes and not is_last and self.commands.link.untaken() * 2 * len(panes) > ON_THEIR_WAY:
+        if panes and not is_last and self.acts.link.untaken() * 2 * len(panes) > ON_THEIR_WAY:
             self.loop.later("synchronize", AGAIN, self.settle)
             return
         self.loop.drop("synchronize")
         keys, self.keys = self.keys, []
         if len(panes) < 2:
             focus = panes[0] if panes else 0
-            self.commands.pastes.type(*(act for key in keys for act in key(focus)))
+            self.acts.pastes.type(*(act for key in keys for act in key(focus)))
         else:
-            self.commands.pastes.type_lines(lines_of(panes, keys))
-        self.commands.note_key()
+            self.acts.pastes.type_lines(lines_of(panes, keys))
+        self.acts.note_key()

@@ -60,10 +60,10 @@ class WindowView:
         if self.link.peer:
             loop.remove(self.link)
 
-    def take_up(self, panes: PanesSubscriber) -> None:
-        """Follow the window again, by another subscription of its panes."""
-        self.panes = panes
-        self.commands.follow_panes(panes)
+    def take_up(self, panes: PanesSubscriber, bells: BellSubscriber) -> None:
+        """Follows the window again, by others who tell where the panes are, and of bells."""
+        self.panes, self.bells = panes, bells
+        self.commands.acts.follow_panes(panes)
         self.reconnector.is_full = panes.is_full
 
     def is_over(self) -> bool:
@@ -73,7 +73,7 @@ class WindowView:
         if is_taken:
             # The session has its size back.
             self.commands.zooming.drop_note()
-        return is_taken and not link.waiting and not self.commands.pastes.hands_over() and not (host.peer and host.waiting)
+        return is_taken and not link.waiting and not self.commands.acts.pastes.hands_over() and not (host.peer and host.waiting)
 
     def close(self, loop: Loop) -> None:
         """Lets all connections go."""
@@ -158,4 +158,4 @@ class DrainingViews:
 
     def hands_over(self) -> bool:
         """Whether a paste is still handed over in one of them."""
-        return any(view.commands.pastes.hands_over() for view in self.views.values())
+        return any(view.commands.acts.pastes.hands_over() for view in self.views.values())

@@ -259,7 +259,7 @@ class WindowWishes:
         """Opens a list of the windows over the pane in focus. While it isn't told yet which that is, as where the person has just come
         there, the list waits, and keys for it, but no longer than a moment."""
         commands, waited = self.front.commands, self.is_listing
-        self.is_listing = not waited and commands.awaits_focus()
+        self.is_listing = not waited and commands.acts.awaits_focus()
         if self.is_listing:
             self.loop.later("list waits", LISTS, self.list_all)
             return
@@ -272,7 +272,7 @@ class WindowWishes:
 
     def told_panes(self) -> None:
         """Opens a list that waits for what is told of the panes."""
-        if self.is_listing and not self.front.commands.awaits_focus():
+        if self.is_listing and not self.front.commands.acts.awaits_focus():
             self.list_all()
 
     def go_by(self, what: str) -> None:
@@ -281,7 +281,7 @@ class WindowWishes:
         if what == "last":
             self.go_to(self.last(), "there is no last window")
         elif what == "asked":
-            self.front.commands.ask_line(AskedLine("window", most=2), "window")
+            self.front.commands.acts.ask_line(AskedLine("window", most=2), "window")
         elif what in ("next", "previous"):
             others = [number for number in numbers if (number > here) == (what == "next") and number != here] or numbers
             self.go_to((others[0] if what == "next" else others[-1]) if others else 0, "there is no other window")
@@ -308,6 +308,10 @@ class WindowWishes:
             return
         self.visited = [*(one for one in self.visited if one not in (here, number)), here]
         self.show()
+
+    def go_to_shown(self, place: int) -> None:
+        """Goes to the window whose label stands at a place in the last row."""
+        self.go_to(self.shown[place])
 
     def say(self, line: str) -> bool:
         """Says a line to the host, and tells whether it is there; where it isn't a person is told."""
@@ -376,7 +380,7 @@ class WindowWishes:
         self.is_opening = self.is_late = False
         if [key.name for key in dropped if key.name in ("paste", "pasted")][-1:] == ["paste"]:
             # What comes of it still isn't typed either.
-            self.front.commands.refuse_paste(why + DROPPED)
+            self.front.commands.acts.refuse_paste(why + DROPPED)
         if why:
             self.front.display.tell(why + DROPPED * bool(dropped), SAID)
         elif was_told:
@@ -413,7 +417,7 @@ class WindowWishes:
         """Asks for the name of the window where the person is."""
         number = self.here()
         asked = AskedName(number, self.told.names.get(number, ""))
-        self.front.commands.ask_line(asked, f"name {number}")
+        self.front.commands.acts.ask_line(asked, f"name {number}")
 
     def ask_shut(self) -> None:
         """Shuts the window where the person is: once that is confirmed, where something runs there, or it is the last."""
@@ -424,4 +428,4 @@ class WindowWishes:
             self.say(f"shut {number}")
             return
         end = " and end the session, whose last it is" if is_last else ""
-        self.front.commands.ask(f"shut window {number}{runs}{end}? y shuts it", SendRequest(f"shut {number}"))
+        self.front.commands.acts.ask(f"shut window {number}{runs}{end}? y shuts it", SendRequest(f"shut {number}"))

@@ -2,8 +2,9 @@
 back that it had."""
 from __future__ import annotations
 
+from collections.abc import Callable
+
 from roam_live.common import tty
-from roam_live.common.event_loop import Loop
 from roam_live.frontend import sizes
 from roam_live.frontend.sizes import NO_SIZE, Zoom, places_at
 from roam_live.protocol.zoom_record import LEFT, ZoomNote
@@ -11,7 +12,8 @@ from roam_live.protocol.zoom_record import LEFT, ZoomNote
 TYPE_CHECKING = False
 if TYPE_CHECKING:
     from roam_live.common.tty import Size
-    from roam_live.frontend.commands import Commands
+    from roam_live.frontend.session_size import SessionSize
+    from roam_live.frontend.window_acts import WindowActs
     from roam_live.protocol.panes import Places, Rect
 
 # So many seconds after a larger size was taken, of which nothing is told, it was refused.
@@ -32,8 +34,10 @@ ENDS = ("split", "close", "next", "grow", "size")
 class Zooming:
     """The zoom of one person, if there is one."""
 
-    def __init__(self, commands: Commands, loop: Loop) -> None:
-        self.commands, self.loop = commands, loop
+    def __init__(self, acts: WindowActs, size: SessionSize) -> None:
+        self.acts, self.size, self.loop = acts, size, acts.loop
+        # What gives the session its size back once nothing else can have asked for that of a zoom which was left.
+        self.mends_late: Callable[[], object] = lambda: None
         # The pane that is zoomed, 0 for none; where the panes are without that, and what the session is to have again and was asked for.
         self.pane = 0
         self.before: Places | None = None
@@ -59,7 +63,7 @@ class Zooming:
 
     def area(self) -> Size:
         """The rows and columns that a pane has to fill."""
-        rows, cols = tty.largest(self.commands.display.room())
+        rows, cols = tty.largest(self.acts.display.room())
         return rows - 1, cols
 
     def unzoomed(self, places: Places | None) -> Places | None:
@@ -73,26 +77,26 @@ class Zooming:
         if self.pane:
             self.end()
             return
-        places = self.commands.places()
+        places = self.acts.places()
         if places and not self.waits and not self.is_told(places):
             self.waits = True
             self.loop.later("zoom waits", FOCUS_WAIT, self.switch)
             return
         self.drop_wait()
-        places = self.commands.panes.places if places and not places.focus else places
+        places = self.acts.panes.places if places and not places.focus else places
         size = self.own_size(places)
         before = places_at(places, size) if places and places.focus and places.is_covered() else None
         why = sizes.zoom_refusal(before, self.area())
         if why or not places:
-            self.commands.display.tell(why, TOLD)
+            self.acts.display.tell(why, TOLD)
             return
-        self.pane, self.before, self.showed_all = places.focus, before, self.commands.display.shows_all()
+        self.pane, self.before, self.showed_all = places.focus, before, self.acts.display.shows_all()
         self.note = ZoomNote(size, ())
         self.ask(places)
 
     def is_told(self, places: Places | None) -> bool:
         """Whether it is told which pane is in focus, and by the host whether another has a zoom, where one is about to."""
-        return bool(places and places.focus) and not (self.commands.host and self.commands.host.is_awaited())
+        return bool(places and places.focus) and not (self.acts.host and self.acts.host.is_awaited())
 
     def drop_wait(self) -> None:
         """Waits no more for what is told of the focus."""
@@ -101,7 +105,7 @@ class Zooming:
 
     def own_size(self, places: Places | None) -> Size:
         """The session's size where nobody has a zoom: that which another's end gives back."""
-        host, size = self.commands.host, self.commands.requested_size or (places.size() if places else NO_SIZE)
+        host, size = self.acts.host, self.size.requested or (places.size() if places else NO_SIZE)
         return sizes.unzoomed_size(size, host.zoomed[1] if host else None)
 
     def ask(self, places: Places) -> None:
@@ -114,32 +118,32 @@ class Zooming:
         self.tell_host()
         self.awaited = places
         self.loop.later("zoom", REFUSES, self.give_up)
-        self.commands.display.hold()
-        self.commands.type_together(tty.size_act(size))
+        self.acts.display.hold()
+        self.acts.type_together(tty.size_act(size))
 
     def show(self, places: Places) -> None:
         """Shows the pane alone."""
         self.awaited, self.rects = None, places.rects
         self.loop.drop("zoom")
-        self.commands.display.zoom(places.rects[self.pane])
+        self.acts.display.zoom(places.rects[self.pane])
 
     def stop(self) -> list[str]:
         """Ends it, and tells the acts that give the session its size back."""
         note, self.pane = self.note, 0
         self.forget()
         if not note.asked:
-            self.commands.display.zoom(None)
+            self.acts.display.zoom(None)
             return []
-        self.commands.display.zoomed = None
-        self.commands.display.hold()
-        self.commands.expect(note.size)
+        self.acts.display.zoomed = None
+        self.acts.display.hold()
+        self.size.expect(note.size)
         return [tty.size_act(note.size)]
 
     def end(self) -> None:
         """Ends it."""
         acts = self.stop()
         if acts:
-            self.commands.type_together(*acts)
+            self.acts.type_together(*acts)
 
     def forget(self) -> None:
         """Knows no more of it, but for what the host was told."""
@@ -148,10 +152,10 @@ class Zooming:
 
     def give_up(self) -> None:
         """Ends it where the session hasn't got the size, and has taken all that was typed."""
-        if not self.commands.link.is_done():
+        if not self.acts.link.is_done():
             self.loop.later("zoom", REFUSES, self.give_up)
             return
-        self.commands.display.tell(REFUSED, TOLD)
+        self.acts.display.tell(REFUSED, TOLD)
         self.end()
 
     def ended_by(self, acts: tuple[str, ...]) -> tuple[str, ...]:
@@ -165,7 +169,7 @@ class Zooming:
     def panes_changed(self) -> None:
         """Goes by what is told of the panes: it is over where another is in focus, or they are others, or the session's size is another
         than it was asked for."""
-        places = self.commands.places()
+        places = self.acts.places()
         if self.waits and self.is_told(places):
             self.switch()
             return
@@ -183,20 +187,20 @@ class Zooming:
     def lose(self) -> None:
         """Ends it where somebody gave the session another size, which stays."""
         self.forget()
-        self.commands.display.zoom(None)
-        self.commands.display.tell(OTHERS, TOLD)
+        self.acts.display.zoom(None)
+        self.acts.display.tell(OTHERS, TOLD)
         self.tell_over()
 
     def resized(self) -> None:
         """Goes by another size of the terminal, and by the one that the session would have there if nothing were zoomed."""
-        places, own = self.commands.panes.places, tty.largest(self.commands.display.room())
+        places, own = self.acts.panes.places, tty.largest(self.acts.display.room())
         if not places or not self.before or not places.is_covered() or not tty.is_large_enough(own):
             return
-        size = own if self.commands.follows(self.note.size, own, self.showed_all) else self.note.size
+        size = own if self.size.follows(self.note.size, own, self.showed_all) else self.note.size
         self.before, self.note = places_at(self.before, size), ZoomNote(size, self.note.asked[-1:])
         why = sizes.zoom_refusal(self.before._replace(focus=self.pane), self.area())
         if why:
-            self.commands.display.tell(why, TOLD)
+            self.acts.display.tell(why, TOLD)
             self.end()
             return
         self.tell_host()
@@ -207,25 +211,25 @@ class Zooming:
         if self.pane:
             self.forget()
             self.drop_note()
-            self.commands.display.zoom(None)
+            self.acts.display.zoom(None)
 
     # ---- what the host knows
 
     def tell_host(self) -> None:
         """Tells the host of this zoom, before the session is asked for a size."""
-        if self.commands.host:
-            self.commands.host.note_zoom(self.note)
+        if self.acts.host:
+            self.acts.host.note_zoom(self.note)
 
     def tell_over(self) -> None:
         """Tells the host that a zoom is over, once the session hasn't a size of it any more."""
-        host, places = self.commands.host, self.commands.panes.places
+        host, places = self.acts.host, self.acts.panes.places
         if host and host.zoom and not self.pane and places and places.is_covered() and places.size() not in host.zoom.asked:
             host.note_zoom(None)
 
     def drop_note(self) -> None:
         """Tells the host that a zoom is over, whatever size the session has."""
-        if self.commands.host and self.commands.host.zoom and not self.pane:
-            self.commands.host.note_zoom(None)
+        if self.acts.host and self.acts.host.zoom and not self.pane:
+            self.acts.host.note_zoom(None)
 
     def leave(self) -> None:
         """Ends it where the person leaves, and is told of no more."""
@@ -234,42 +238,38 @@ class Zooming:
 
     def left_by(self) -> ZoomNote | None:
         """The zoom that a front end has left, as one that was killed, and that isn't looked after yet; None where there is none."""
-        host = self.commands.host
+        host = self.acts.host
         maker, note = host.zoomed if host else (0, None)
         if maker or not note:
             self.mended = self.unseen = None
-        return None if maker or self.pane or self.commands.link.is_read_only or note == self.mended else note
+        return None if maker or self.pane or self.acts.link.is_read_only or note == self.mended else note
 
     def mend(self, is_late: bool = False) -> bool:
         """Gives the session its size back where a front end made it larger that has left, and tells whether it does: what that typed last
         may not be taken yet. Where somebody else types, or the session had another size meanwhile, it may have that of his zoom: of that
         the host tells, maybe a moment after the panes are told, which is late enough."""
-        note, size = self.left_by(), self.session_size()
-        step = sizes.left_zoom(note, size, note == self.unseen, self.commands.has_others() if note else None, is_late)
+        note, size = self.left_by(), self.size.coming()
+        step = sizes.left_zoom(note, size, note == self.unseen, self.size.has_others() if note else None, is_late)
         if step == sizes.UNSEEN:
             self.unseen = note
             self.loop.drop("zoom comes")
             self.loop.later("zoom left", LEFT, self.overrule_late)
         elif step == sizes.GIVES and note:
             self.loop.drop("zoom comes")
-            self.commands.request_size(note.size)
+            self.size.request(note.size)
         elif step == sizes.AWAITS and "zoom comes" not in self.loop.due:
-            self.loop.later("zoom comes", LEFT, lambda: self.commands.mend(is_late=True))
+            self.loop.later("zoom comes", LEFT, self.mends_late)
         return step == sizes.GIVES
-
-    def session_size(self) -> Size:
-        """The session's size, or the one that it was given and may still get."""
-        return self.commands.requested_size or self.commands.session_size()
 
     def overrule_late(self) -> None:
         """Tells the host that such a zoom is over, where nothing has come of it."""
-        note, size = self.left_by(), self.session_size()
+        note, size = self.left_by(), self.size.coming()
         if note and size != NO_SIZE and size not in note.asked:
             self.overrule()
 
     def overrule(self) -> None:
         """Tells the host that a zoom which a front end has left is over: the session's size is one that it was given otherwise."""
         note = self.left_by()
-        if note and self.commands.host:
+        if note and self.acts.host:
             self.mended = note
-            self.commands.host.note_zoom(None)
+            self.acts.host.note_zoom(None)

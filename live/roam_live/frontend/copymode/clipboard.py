@@ -5,7 +5,7 @@ from roam_live.config.environment import may_set_clipboard
 
 TYPE_CHECKING = False
 if TYPE_CHECKING:
-    from roam_live.frontend.commands import Commands
+    from roam_live.frontend.window_acts import WindowActs
     from roam_live.protocol.scrollback_client import BufferNote, ScrollbackClient
 
 # A text has so many bytes at most, also where it is put behind another.
@@ -28,19 +28,19 @@ def counted(text: bytes) -> str:
 class CopiedTexts:
     """Where what one person copies goes."""
 
-    def __init__(self, commands: Commands) -> None:
-        self.commands = commands
+    def __init__(self, acts: WindowActs) -> None:
+        self.acts = acts
 
     def tell(self, line: str) -> None:
         """Tells a person what became of it."""
-        self.commands.display.tell(line, TOLD)
+        self.acts.display.tell(line, TOLD)
 
     def take(self, text: bytes | None, is_appended: bool = False) -> None:
         """Takes a text, to be put behind the newest buffer or to be one; None stands for one that is too long."""
-        scrollback = self.commands.host.scrollback if self.commands.host else None
+        scrollback = self.acts.host.scrollback if self.acts.host else None
         if text is None:
             self.tell(TOO_LONG)
-        elif text and is_appended and scrollback and not self.commands.link.is_read_only:
+        elif text and is_appended and scrollback and not self.acts.link.is_read_only:
             self.append(scrollback, text)
         elif text:
             self.put(text)
@@ -58,16 +58,16 @@ class CopiedTexts:
 
     def put(self, text: bytes) -> None:
         """Has a text be a buffer, of who doesn't only watch, and be on the clipboard."""
-        scrollback, commands = self.commands.host.scrollback if self.commands.host else None, self.commands
+        scrollback, acts = self.acts.host.scrollback if self.acts.host else None, self.acts
         if len(text) > MOST_COPIED:
             self.tell(TOO_LONG)
             return
         if may_set_clipboard():
             from base64 import b64encode
 
-            commands.display.outer.set_clip(b64encode(text).decode())
-        if scrollback and not commands.link.is_read_only:
-            told = COPIED.format(counted(text), commands.modes.keymap.name)
+            acts.display.outer.set_clip(b64encode(text).decode())
+        if scrollback and not acts.link.is_read_only:
+            told = COPIED.format(counted(text), acts.modes.keymap.name)
             scrollback.add_buffer(text, lambda number: self.tell(NOT_KEPT.format(counted(text)) if number is None else told))
         else:
             self.tell(COPIED_HERE.format(counted(text)))

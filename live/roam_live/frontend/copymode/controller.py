@@ -2,22 +2,20 @@
 while the session goes on below. Nobody else sees of it. What is typed waits in order for the rows that it needs."""
 from __future__ import annotations
 
-from collections import deque, namedtuple
 from collections.abc import Callable
 
-from roam_live.common.event_loop import Loop
 from roam_live.frontend.copymode.clipboard import CopiedTexts
-from roam_live.frontend.copymode.mouse import CopyPointing
 from roam_live.frontend.copymode.popup import CopyScreen
 from roam_live.frontend.copymode.row_requests import GONE, CopyAsking
+from roam_live.frontend.copymode.state import CopyEvent, CopyState, nothing
 from roam_live.frontend.modes import CopyKeysMode
-from roam_live.protocol.panes import MOVES, Rect
+from roam_live.protocol.panes import MOVES
 
 TYPE_CHECKING = False
 if TYPE_CHECKING:
-    from roam_live.frontend.commands import Commands
     from roam_live.frontend.copymode.commands import CopyWish
     from roam_live.frontend.copymode.mode import CopyMode
+    from roam_live.frontend.window_acts import WindowActs
     from roam_live.input.keys import Key
     from roam_live.protocol.scrollback_client import ScrollbackClient, Snapshot
 
@@ -39,57 +37,25 @@ INTERRUPT = "\x03"
 INTERRUPTS = (INTERRUPT, f"M-{INTERRUPT}")
 
 
-def nothing() -> None:
-    """Does nothing."""
-
-
-class CopyEvent(namedtuple("CopyEvent", "does instead", defaults=(nothing,))):
-    """Something that was typed or pointed at: what it does in copy mode, and what it does where no rows are lent."""
-
-    does: Callable[[CopyMode], object]
-    instead: Callable[[], object]
-
-
 class Copying:
     """The copy mode of one person, where one is open."""
 
-    def __init__(self, commands: Commands, loop: Loop) -> None:
-        self.commands, self.loop = commands, loop
-        self.mode: CopyMode | None = None
-        # The pane and its life, of which a snapshot was asked for or is had, and a number for each time that one was.
-        self.pane = self.generation = self.opening = 0
-        self.is_opening = False
+    def __init__(self, acts: WindowActs) -> None:
+        self.acts, self.loop, self.state = acts, acts.loop, CopyState(acts)
         # What is done where no snapshot is lent; it tells whether what was typed meanwhile is for that.
         self.instead: Callable[[], object] = nothing
-        # What was typed and pointed at and isn't done yet.
-        self.events: deque[CopyEvent] = deque()
-        # What takes its keys.
+        # What takes its keys; what takes those that it gives back; and what is called once it is closed.
         self.keys: CopyKeysMode | None = None
+        self.gives_back: Callable[[Key], object] = lambda key: None
+        self.closed: Callable[[], object] = nothing
         # What was searched for last, and which way, which stays when it is closed.
         self.sought = "", False
-        self.screen, self.asking = CopyScreen(self), CopyAsking(self, loop)
-        self.pointing, self.texts = CopyPointing(self, loop), CopiedTexts(commands)
-
-    @property
-    def rect(self) -> Rect:
-        """The rectangle of the terminal on which it is drawn."""
-        return self.screen.rect
-
-    def scrollback(self) -> ScrollbackClient | None:
-        """Who lends rows; None where nobody does."""
-        return self.commands.host.scrollback if self.commands.host else None
-
-    def is_on(self) -> bool:
-        """Whether it is open, or will be once a snapshot is lent."""
-        return self.mode is not None or self.is_opening
-
-    def is_connecting(self) -> bool:
-        """Whether the host isn't connected, and may be soon."""
-        return self.commands.host is not None and self.commands.host.is_connecting()
+        self.screen, self.asking = CopyScreen(self.state), CopyAsking(self.state, self.go_on, self.close)
+        self.texts = CopiedTexts(acts)
 
     def is_full(self) -> bool:
-        """Whether so much waits that nothing more is to come."""
-        return len(self.events) >= MOST_WAITING
+        """Return True if so much waits that nothing more is to come."""
+        return len(self.state.events) >= MOST_WAITING
 
     # ---- opening and closing
 
@@ -97,46 +63,46 @@ class Copying:
         """Opens it in a pane, with what is done first; where no rows are lent something else is done instead, which tells whether what was
         typed meanwhile is for that."""
         self.close()
-        making, scrollback, rect = self.commands.panes.making(pane).split(), self.scrollback(), self.screen.visible(pane)
+        making, scrollback, rect = self.acts.panes.making(pane).split(), self.state.scrollback(), self.screen.visible(pane)
         if not scrollback or len(making) != 2 or not rect:
             instead()
             return
-        self.pane, self.generation, self.screen.rect, self.instead = pane, int(making[1]), rect, instead
+        self.state.pane, self.state.generation, self.state.rect, self.instead = pane, int(making[1]), rect, instead
         self.take_keys()
-        self.events.extend(begins)
+        self.state.events.extend(begins)
         self.ask_snapshot(scrollback)
 
     def await_focus(self, instead: Callable[[], object], *begins: CopyEvent) -> None:
         """Opens it in the pane in focus once that is told, as where a relay goes another way; where it isn't in time something else is done
         instead."""
         self.close()
-        self.pane, self.instead = 0, instead
+        self.state.pane, self.instead = 0, instead
         self.take_keys()
-        self.events.extend(begins)
+        self.state.events.extend(begins)
         self.begin_opening()
 
     def take_keys(self) -> None:
         """Has the keys be copy mode's."""
         from roam_live.frontend.copymode.keys import KeyPairs
 
-        self.keys = self.commands.modes.drawn = CopyKeysMode(self.commands.modes.keymap, KeyPairs())
+        self.keys = self.acts.modes.drawn = CopyKeysMode(self.acts.modes.keymap, KeyPairs())
 
     def drop_keys(self) -> None:
         """Has the keys be copy mode's no more, and drops what waits."""
-        self.commands.modes.remove(self.keys)
+        self.acts.modes.remove(self.keys)
         self.keys = None
-        self.events.clear()
+        self.state.events.clear()
 
     def find_focus(self) -> None:
         """Opens it in the pane in focus, where that is told by now."""
-        places = self.commands.places()
+        places = self.acts.places()
         if places and places.focus:
-            self.open(places.focus, self.instead, *self.events)
+            self.open(places.focus, self.instead, *self.state.events)
 
     def begin_opening(self) -> int:
         """Waits for what opens it, no longer than for a snapshot; tells its number."""
-        self.opening += 1
-        opening, self.is_opening = self.opening, True
+        self.state.opening += 1
+        opening, self.state.is_opening = self.state.opening, True
         self.loop.later("copy opens", LENDS, lambda: self.lent(opening, None))
         self.asking.tell_later()
         return opening
@@ -147,39 +113,39 @@ class Copying:
 
     def ask_connected(self, opening: int, scrollback: ScrollbackClient) -> None:
         """Asks for it once the host is connected, where that may be soon."""
-        if opening != self.opening or not self.is_opening:
+        if opening != self.state.opening or not self.state.is_opening:
             return
-        if self.is_connecting():
+        if self.state.is_connecting():
             self.loop.later("copy connects", CONNECTS, lambda: self.ask_connected(opening, scrollback))
         else:
-            scrollback.snapshot(self.pane, self.generation, lambda snapshot: self.answered(opening, scrollback, snapshot))
+            scrollback.snapshot(self.state.pane, self.state.generation, lambda snapshot: self.answered(opening, scrollback, snapshot))
 
     def answered(self, opening: int, scrollback: ScrollbackClient, snapshot: Snapshot | None) -> None:
         """Takes what the host answers. Where the connection was lost instead, as by a relay that goes another way, it is asked again once
         there is another."""
-        if snapshot is None and self.is_connecting():
+        if snapshot is None and self.state.is_connecting():
             self.ask_connected(opening, scrollback)
         else:
             self.lent(opening, snapshot)
 
     def lent(self, opening: int, snapshot: Snapshot | None) -> None:
         """Takes a snapshot; None where none is lent."""
-        if opening != self.opening or not self.is_opening:
+        if opening != self.state.opening or not self.state.is_opening:
             return
         for name in ("copy opens", "copy connects"):
             self.loop.drop(name)
-        self.is_opening = False
+        self.state.is_opening = False
         self.asking.settle()
         from roam_live.frontend.copymode.rows import MOST_SCREEN_ROWS
 
-        scrollback = self.scrollback()
+        scrollback = self.state.scrollback()
         if scrollback and snapshot and 0 < len(snapshot.screen) <= MOST_SCREEN_ROWS:
             self.begin(snapshot, scrollback)
             return
-        if self.mode:
+        if self.state.mode:
             self.close(GONE)
             return
-        instead, events = self.instead, list(self.events)
+        instead, events = self.instead, list(self.state.events)
         self.drop_keys()
         for event in events if instead() else []:
             event.instead()
@@ -190,16 +156,16 @@ class Copying:
         from roam_live.frontend.copymode.mode import CopyMode
         from roam_live.frontend.copymode.rows import MOST_SCREEN_ROWS, Rows
 
-        places = self.commands.panes.places
-        pane_cols = places.rects[self.pane].cols if places and self.pane in places.rects else self.rect.cols
-        rows = Rows(snapshot.first, snapshot.end + len(snapshot.screen), self.rect.cols, pane_cols)
+        places = self.acts.panes.places
+        pane_cols = places.rects[self.state.pane].cols if places and self.state.pane in places.rects else self.state.rect.cols
+        rows = Rows(snapshot.first, snapshot.end + len(snapshot.screen), self.state.rect.cols, pane_cols)
         rows.put(snapshot.end, snapshot.screen)
         rows.stays = snapshot.end - MOST_SCREEN_ROWS
-        self.mode = CopyMode(rows, self.rect.rows, wants_vi())
-        self.mode.sought, self.mode.is_back = self.sought
-        self.screen.came, scrollback.on_more = 0, self.more
+        self.state.mode = CopyMode(rows, self.state.rect.rows, wants_vi())
+        self.state.mode.sought, self.state.mode.is_back = self.sought
+        self.state.came, scrollback.on_more = 0, self.more
         self.asking.end()
-        self.events.appendleft(CopyEvent(lambda mode: mode.open()))
+        self.state.events.appendleft(CopyEvent(lambda mode: mode.open()))
         self.screen.lay()
         self.go_on()
 
@@ -210,19 +176,19 @@ class Copying:
 
     def close(self, why: str = "") -> None:
         """Closes it, where it is open, and drops what waits; tells why, where there is something to tell."""
-        if not self.is_on():
+        if not self.state.is_on():
             return
-        scrollback, display = self.scrollback(), self.commands.display
-        if scrollback and self.pane:
-            scrollback.release(self.pane, self.generation)
-        was_shown, self.mode = self.mode is not None, None
-        self.is_opening = False
-        self.opening += 1
+        scrollback, display = self.state.scrollback(), self.acts.display
+        if scrollback and self.state.pane:
+            scrollback.release(self.state.pane, self.state.generation)
+        was_shown, self.state.mode = self.state.mode is not None, None
+        self.state.is_opening = False
+        self.state.opening += 1
         self.drop_keys()
         for name in ("copy opens", "copy connects"):
             self.loop.drop(name)
         self.asking.end()
-        self.pointing.end()
+        self.closed()
         if was_shown:
             display.lift()
             display.change_line()
@@ -231,42 +197,42 @@ class Copying:
 
     def fit(self) -> None:
         """Goes by where the panes are now: the end of its pane ends it, and another size has its rows laid out anew."""
-        panes = self.commands.panes
-        if not self.is_on() or not panes.places:
+        panes = self.acts.panes
+        if not self.state.is_on() or not panes.places:
             return
-        if not self.pane:
+        if not self.state.pane:
             self.find_focus()
             return
-        if panes.making(self.pane) != f"{self.pane} {self.generation}":
+        if panes.making(self.state.pane) != f"{self.state.pane} {self.state.generation}":
             self.close()
             return
-        rect = self.screen.visible(self.pane)
-        if not self.mode:
-            self.screen.rect = rect or self.rect
+        rect = self.screen.visible(self.state.pane)
+        if not self.state.mode:
+            self.state.rect = rect or self.state.rect
         elif not rect:
             self.close(NO_ROOM)
-        elif rect != self.rect or not self.commands.display.is_masked:
-            self.screen.rect = rect
+        elif rect != self.state.rect or not self.acts.display.is_masked:
+            self.state.rect = rect
             self.screen.lay()
             self.add(CopyEvent(lambda mode: mode.resize(rect.rows, rect.cols)))
 
     def focus_moved(self, acts: tuple[str, ...]) -> None:
         """Ends it where this person's acts put another pane in focus."""
         moves = [act for act in acts if act.split(" ")[0] in MOVES]
-        if moves and moves[-1] != f"focus {self.pane}":
+        if moves and moves[-1] != f"focus {self.state.pane}":
             self.close()
 
     def more(self, pane: int, generation: int, count: int) -> None:
         """Takes how many rows came since the snapshot."""
-        if self.mode and (pane, generation) == (self.pane, self.generation):
-            self.screen.came = count
+        if self.state.mode and (pane, generation) == (self.state.pane, self.state.generation):
+            self.state.came = count
             self.screen.say()
 
     # ---- what is typed
 
     def takes_paste(self) -> bool:
         """Return True if a paste is for a line that copy mode asks for."""
-        return self.mode is not None and self.mode.prompt is not None and not self.events
+        return self.state.mode is not None and self.state.mode.prompt is not None and not self.state.events
 
     def take_text(self, text: str) -> None:
         """Takes what of a paste is for such a line."""
@@ -274,15 +240,15 @@ class Copying:
 
     def take_key(self, key: Key) -> None:
         """Takes a key."""
-        if key.name in INTERRUPTS and (self.asking.is_waiting or self.is_opening):
+        if key.name in INTERRUPTS and (self.asking.is_waiting or self.state.is_opening):
             self.close()
         else:
-            self.add(CopyEvent(lambda mode: mode.take(key), lambda: self.commands.takes(key)))
+            self.add(CopyEvent(lambda mode: mode.take(key), lambda: self.gives_back(key)))
 
     def add(self, *events: CopyEvent) -> None:
         """Has something be done behind what waits."""
-        if self.is_on():
-            self.events.extend(events)
+        if self.state.is_on():
+            self.state.events.extend(events)
             self.go_on()
 
     # ---- what is done
@@ -292,10 +258,10 @@ class Copying:
         from roam_live.frontend.copymode.rows import Missing
 
         try:
-            while self.mode and self.events and not self.asking.is_waiting and not self.is_opening:
-                self.do(self.mode, self.events[0])
-            if self.mode and not self.events and not self.asking.is_waiting:
-                self.look(self.mode)
+            while self.state.mode and self.state.events and not self.asking.is_waiting and not self.state.is_opening:
+                self.do(self.state.mode, self.state.events[0])
+            if self.state.mode and not self.state.events and not self.asking.is_waiting:
+                self.look(self.state.mode)
         except Missing as lack:
             self.asking.ask(lack)
 
@@ -303,8 +269,8 @@ class Copying:
         """Does the first thing that waits; Missing where something for it isn't here."""
         mode.attempt(lambda: event.does(mode))
         self.asking.asks, self.sought = 0, (mode.sought, mode.is_back)
-        if self.events and self.events[0] is event:
-            self.events.popleft()
+        if self.state.events and self.state.events[0] is event:
+            self.state.events.popleft()
         asked, mode.asked = mode.asked, []
         for one in asked:
             self.grant(one)
@@ -320,11 +286,11 @@ class Copying:
         """Does what a key asked for beside what is shown."""
         from roam_live.frontend.copymode.commands import LEAVE, REFRESH
 
-        scrollback = self.scrollback()
+        scrollback = self.state.scrollback()
         if asked.word == LEAVE:
             self.close()
         elif asked.word != REFRESH:
-            self.events.appendleft(CopyEvent(lambda mode: self.copy(asked)))
+            self.state.events.appendleft(CopyEvent(lambda mode: self.copy(asked)))
         elif scrollback:
             self.ask_snapshot(scrollback)
 

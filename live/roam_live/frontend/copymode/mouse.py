@@ -4,12 +4,12 @@ from __future__ import annotations
 
 from collections.abc import Callable
 
-from roam_live.common.event_loop import Loop
+from roam_live.frontend.copymode.state import CopyEvent
 from roam_live.input.mouse_reports import DOWN, UP, MouseReport
 
 TYPE_CHECKING = False
 if TYPE_CHECKING:
-    from roam_live.frontend.copymode.controller import CopyEvent, Copying
+    from roam_live.frontend.copymode.controller import Copying
     from roam_live.frontend.copymode.mode import CopyMode
 
 # A notch of the wheel is so many rows.
@@ -67,8 +67,8 @@ class Clicks:
 class CopyPointing:
     """The mouse of one person in copy mode."""
 
-    def __init__(self, copying: Copying, loop: Loop) -> None:
-        self.copying, self.loop = copying, loop
+    def __init__(self, copying: Copying) -> None:
+        self.copying, self.state, self.acts, self.loop = copying, copying.state, copying.acts, copying.acts.loop
         # Whether the wheel opened it; where the first button is held since it was pressed, whether it was dragged, and where to.
         self.is_wheeled = False
         self.pressed: tuple[int, int] | None = None
@@ -82,56 +82,50 @@ class CopyPointing:
         self.loop.drop("copy drag")
         self.loop.drop("copy click")
 
-    def event(self, does: Callable[[CopyMode], object], instead: Callable[[], object] = lambda: None) -> CopyEvent:
-        """Something to be done behind what waits."""
-        from roam_live.frontend.copymode.controller import CopyEvent
-
-        return CopyEvent(does, instead)
+    def is_on(self) -> bool:
+        """Return True if copy mode is open, or will be soon."""
+        return self.state.is_on()
 
     def wheel(self, rows: int) -> CopyEvent:
         """Scrolling by so many rows."""
-        copying = self.copying
-        return self.event(lambda mode: scroll(mode, rows, self.is_wheeled),
-                          lambda: copying.commands.pointing.scroll(copying.pane, rows))
+        return CopyEvent(lambda mode: scroll(mode, rows, self.is_wheeled), lambda: self.acts.scroll(self.state.pane, rows))
 
     # ---- what opens it
 
     def open_by_wheel(self, pane: int) -> None:
         """Opens copy mode in a pane, by a notch of the wheel."""
-        pointing = self.copying.commands.pointing
-
         def instead() -> bool:
-            pointing.scroll(pane, NOTCH)
+            self.acts.scroll(pane, NOTCH)
             return True
 
-        self.copying.open(pane, instead, self.event(lambda mode: scroll(mode, NOTCH, True)))
-        self.is_wheeled = self.copying.is_on()
-        if self.is_wheeled and pane != pointing.focus():
-            self.copying.commands.act_together(f"focus {pane}")
+        self.copying.open(pane, instead, CopyEvent(lambda mode: scroll(mode, NOTCH, True)))
+        self.is_wheeled = self.state.is_on()
+        if self.is_wheeled and pane != self.acts.focus():
+            self.acts.act_together(f"focus {pane}")
 
     def open_by_drag(self, pane: int, pressed: tuple[int, int], place: tuple[int, int]) -> None:
         """Opens copy mode in a pane, by what is dragged from a place of the terminal to another."""
         self.copying.open(pane, lambda: None)
-        if self.copying.is_on():
+        if self.state.is_on():
             self.pressed = self.within(pressed)
             self.drag(self.within(place))
 
     def open_by_click(self, pane: int, place: tuple[int, int]) -> None:
         """Opens copy mode in a pane, by a double click on a place of the terminal."""
         self.copying.open(pane, lambda: None)
-        if self.copying.is_on():
+        if self.state.is_on():
             self.click(self.within(place), 2)
 
     # ---- while it is open
 
     def within(self, place: tuple[int, int]) -> tuple[int, int]:
         """A place of the terminal as one of the rectangle, from 0."""
-        rect = self.copying.rect
+        rect = self.state.rect
         return place[0] - rect.row, place[1] - rect.col
 
     def is_within(self, place: tuple[int, int]) -> bool:
         """Whether a place lies in the rectangle."""
-        return 0 <= place[0] < self.copying.rect.rows and 0 <= place[1] < self.copying.rect.cols
+        return 0 <= place[0] < self.state.rect.rows and 0 <= place[1] < self.state.rect.cols
 
     def take(self, report: MouseReport) -> bool:
         """Takes a report of the outer terminal, and tells whether it is for copy mode: in its rectangle, or dragged from there."""
@@ -155,16 +149,16 @@ class CopyPointing:
         """Goes by so many clicks at a place: the second selects a word and the third a line, which is copied a moment later."""
         self.loop.drop("copy click")
         if count < 2:
-            self.copying.add(self.event(lambda mode: point_at(mode, *place)))
+            self.copying.add(CopyEvent(lambda mode: point_at(mode, *place)))
             return
         self.clicks.place, self.clicks.at, self.clicks.count = place, self.loop.clock(), count
         what = "select-word" if count == 2 else "select-line"
-        self.copying.add(self.event(lambda mode: select_at(mode, *place, what)))
+        self.copying.add(CopyEvent(lambda mode: select_at(mode, *place, what)))
         self.loop.later("copy click", CLICKED, self.copy)
 
     def copy(self) -> None:
         """Copies what is selected, and leaves."""
-        self.copying.add(self.event(lambda mode: mode.copy(True)))
+        self.copying.add(CopyEvent(lambda mode: mode.copy(True)))
 
     def drag(self, place: tuple[int, int]) -> None:
         """Selects from where the button was pressed to a place."""
@@ -173,10 +167,10 @@ class CopyPointing:
         if begin and not self.is_dragged:
             self.is_dragged = True
             row, col = begin
-            self.copying.add(self.event(lambda mode: select_from(mode, row, col)))
+            self.copying.add(CopyEvent(lambda mode: select_from(mode, row, col)))
         self.place = place
-        self.copying.add(self.event(lambda mode: point_at(mode, *place)))
-        if 0 <= place[0] < self.copying.rect.rows:
+        self.copying.add(CopyEvent(lambda mode: point_at(mode, *place)))
+        if 0 <= place[0] < self.state.rect.rows:
             self.loop.drop("copy drag")
         else:
             self.loop.later("copy drag", DRAGGED, lambda: self.drag(self.place))
@@ -186,7 +180,7 @@ class CopyPointing:
         self.loop.drop("copy drag")
         was_dragged, self.pressed, self.is_dragged = self.is_dragged, None, False
         if was_dragged:
-            self.copying.add(self.event(lambda mode: point_at(mode, max(0, min(place[0], mode.view.height - 1)), place[1])))
+            self.copying.add(CopyEvent(lambda mode: point_at(mode, max(0, min(place[0], mode.view.height - 1)), place[1])))
             self.copy()
 
 

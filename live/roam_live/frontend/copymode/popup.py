@@ -2,11 +2,11 @@
 from __future__ import annotations
 
 from roam_live.frontend.popup import Popup
-from roam_live.protocol.panes import Rect
 
 TYPE_CHECKING = False
 if TYPE_CHECKING:
-    from roam_live.frontend.copymode.controller import Copying
+    from roam_live.frontend.copymode.state import CopyState
+    from roam_live.protocol.panes import Rect
 
 # No wide character has room in fewer columns.
 LEAST_COLS = 2
@@ -15,22 +15,19 @@ LEAST_COLS = 2
 class CopyScreen:
     """What one person's copy mode shows."""
 
-    def __init__(self, copying: Copying) -> None:
-        self.copying, self.display = copying, copying.commands.display
-        # The rectangle of the terminal on which it is drawn, and how many rows came since the snapshot.
-        self.rect = Rect(1, 1, 1, 1)
-        self.came = 0
+    def __init__(self, state: CopyState) -> None:
+        self.state, self.display = state, state.acts.display
 
     def visible(self, pane: int) -> Rect | None:
         """The rectangle of the terminal on which a pane is shown, as far as it is; None where no character of it is."""
-        places = self.copying.commands.panes.places
+        places = self.state.acts.panes.places
         rect = places.rects.get(pane) if places else None
         shown = self.display.visible(rect) if rect else None
         return shown if shown and shown.cols >= LEAST_COLS else None
 
     def lay(self) -> None:
         """Draws it over its rectangle."""
-        self.display.lay(Popup(self.rect, self.lines, self.cursor))
+        self.display.lay(Popup(self.state.rect, self.lines, self.cursor))
         self.say()
 
     def lines(self) -> list[bytes]:
@@ -38,46 +35,46 @@ class CopyScreen:
         from roam_live.frontend.copymode.render import LinePainter
         from roam_live.frontend.copymode.rows import Missing
 
-        mode, blank = self.copying.mode, b"\x1b[0m" + b" " * self.rect.cols
+        mode, blank = self.state.mode, b"\x1b[0m" + b" " * self.state.rect.cols
         try:
-            found = LinePainter(mode, self.rect.col, self.rect.cols).lines(self.rect.rows) if mode else []
+            found = LinePainter(mode, self.state.rect.col, self.state.rect.cols).lines(self.state.rect.rows) if mode else []
         except Missing:
             # They come soon, and all is drawn then.
             found = []
-        return (found + [blank] * self.rect.rows)[: self.rect.rows]
+        return (found + [blank] * self.state.rect.rows)[: self.state.rect.rows]
 
     def cursor(self) -> tuple[int, int]:
         """Where the terminal's cursor stands: in the last row while a line is asked for there."""
         from roam_live.frontend.copymode.rows import Missing, width_of
 
-        mode, (rows, cols) = self.copying.mode, self.display.outer.size()
+        mode, (rows, cols) = self.state.mode, self.display.outer.size()
         if mode and mode.prompt:
             return rows, min(sum(map(width_of, mode.prompt.line())) + 1, cols)
         try:
             row, col = mode.view.cursor() if mode else (0, 0)
         except Missing:
             row, col = 0, 0
-        return self.rect.row + min(row, self.rect.rows - 1), self.rect.col + min(col, self.rect.cols - 1)
+        return self.state.rect.row + min(row, self.state.rect.rows - 1), self.state.rect.col + min(col, self.state.rect.cols - 1)
 
     def line(self) -> str:
         """The line in the last row: what is asked for; or how many rows lie below those that are shown, of how many, how many came since, a
         count, and what is told of the last key."""
         from roam_live.frontend.copymode.rows import Missing
 
-        mode = self.copying.mode
+        mode = self.state.mode
         if not mode or mode.prompt:
             return mode.prompt.line() if mode and mode.prompt else ""
         try:
             back, most = mode.view.back()
         except Missing:
             return self.display.popup_line
-        came = f"{self.came} row{'s' * (self.came != 1)} came since" if self.came else ""
+        came = f"{self.state.came} row{'s' * (self.state.came != 1)} came since" if self.state.came else ""
         count = f"(repeat) {mode.count.digits}" if mode.count.digits else ""
         return "; ".join(filter(None, (f"[{back}/{most}] copy mode", came, count, mode.told)))
 
     def say(self) -> None:
         """Has that line stand there: one that is asked for in any case."""
-        mode = self.copying.mode
+        mode = self.state.mode
         self.display.say_line(self.line(), is_asking=mode is not None and mode.prompt is not None)
 
     def draw(self) -> None:

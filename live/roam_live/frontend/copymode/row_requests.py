@@ -2,13 +2,13 @@
 on its way; what needs the answer is done again once that is there."""
 from __future__ import annotations
 
-from roam_live.common.event_loop import Loop
+from collections.abc import Callable
 
 TYPE_CHECKING = False
 if TYPE_CHECKING:
-    from roam_live.frontend.copymode.controller import Copying
     from roam_live.frontend.copymode.rows import Missing
     from roam_live.frontend.copymode.search import MissingFind
+    from roam_live.frontend.copymode.state import CopyState
     from roam_live.protocol.scrollback_client import ScrollbackClient
 
 # So many rows are asked for at once at most, and so many pages at first: the one that is needed, and one ahead.
@@ -25,10 +25,11 @@ GONE = "the rows that were shown aren't kept any more"
 
 
 class CopyAsking:
-    """The questions of one person's copy mode."""
+    """The questions of one person's copy mode. Two calls go on with what waited for an answer, and close copy mode for a reason."""
 
-    def __init__(self, copying: Copying, loop: Loop) -> None:
-        self.copying, self.loop = copying, loop
+    def __init__(self, state: CopyState, goes_on: Callable[[], object], closes: Callable[[str], object]) -> None:
+        self.state, self.goes_on, self.closes = state, goes_on, closes
+        self.loop, self.display = state.acts.loop, state.acts.display
         # Whether an answer is awaited, and how many rows were asked for last for what is to be done.
         self.is_waiting = False
         self.asks = 0
@@ -42,21 +43,20 @@ class CopyAsking:
     def tell_later(self) -> None:
         """Has it be told that an answer is awaited, once that takes long."""
         if "copy waits" not in self.loop.due:
-            self.loop.later("copy waits", WAITS, lambda: self.copying.commands.display.tell(WAITING, None))
+            self.loop.later("copy waits", WAITS, lambda: self.display.tell(WAITING, None))
 
     def settle(self) -> None:
         """Tells no more that an answer is awaited."""
-        display = self.copying.commands.display
         self.loop.drop("copy waits")
-        if display.told == WAITING:
-            display.end_told()
+        if self.display.told == WAITING:
+            self.display.end_told()
 
     def ask(self, lack: Missing) -> None:
         """Asks for what isn't here."""
         from roam_live.frontend.copymode.rows import MissingRows
         from roam_live.frontend.copymode.search import MissingFind
 
-        scrollback = self.copying.scrollback()
+        scrollback = self.state.scrollback()
         if not scrollback:
             return
         self.is_waiting = True
@@ -68,32 +68,32 @@ class CopyAsking:
 
     def ask_find(self, scrollback: ScrollbackClient, lack: MissingFind) -> None:
         """Asks where a text is next."""
-        copying, opening = self.copying, self.copying.opening
+        state, opening = self.state, self.state.opening
 
         def take(row: int | None) -> None:
-            if not copying.mode or opening != copying.opening:
+            if not state.mode or opening != state.opening:
                 return
-            if row is None and copying.is_connecting():
+            if row is None and state.is_connecting():
                 self.loop.later("copy asks again", ASKS_AGAIN, self.answered)
                 return
-            copying.mode.finds.put(lack, row)
+            state.mode.finds.put(lack, row)
             self.answered()
 
-        scrollback.find(copying.pane, copying.generation, lack.first, lack.is_back, lack.text, take)
+        scrollback.find(state.pane, state.generation, lack.first, lack.is_back, lack.text, take)
 
     def ask_rows(self, scrollback: ScrollbackClient, row: int) -> None:
         """Asks for a row and those behind it, or before it where those behind it are here: ever more while one thing needs them."""
-        copying, opening = self.copying, self.copying.opening
-        if not copying.mode:
+        state, opening = self.state, self.state.opening
+        if not state.mode:
             return
-        rows = copying.mode.rows
-        self.asks = min(MOST_ASKED, max(PAGES_ASKED * copying.rect.rows, 2 * self.asks))
+        rows = state.mode.rows
+        self.asks = min(MOST_ASKED, max(PAGES_ASKED * state.rect.rows, 2 * self.asks))
         is_back = rows.has(row + 1)
         first = max(rows.first, row - self.asks + 1) if is_back else row
         count = min(self.asks, (row + 1 if is_back else rows.end) - first)
 
         def take(at: int, lines: list[bytes]) -> None:
-            if not copying.mode or opening != copying.opening:
+            if not state.mode or opening != state.opening:
                 return
             rows.put(at, lines[:MOST_ASKED])
             rows.forget_far(row)
@@ -101,17 +101,17 @@ class CopyAsking:
                 self.answered()
             elif lines and first <= at and at + len(lines) <= row:
                 # Fewer came than were asked for.
-                scrollback.rows(copying.pane, copying.generation, at + len(lines), row - at - len(lines) + 1, take)
-            elif not lines and copying.is_connecting():
+                scrollback.rows(state.pane, state.generation, at + len(lines), row - at - len(lines) + 1, take)
+            elif not lines and state.is_connecting():
                 # Rows keep their numbers: they are asked for again once there is another connection.
                 self.loop.later("copy asks again", ASKS_AGAIN, self.answered)
             else:
-                copying.close(GONE)
+                self.closes(GONE)
 
-        scrollback.rows(copying.pane, copying.generation, first, count, take)
+        scrollback.rows(state.pane, state.generation, first, count, take)
 
     def answered(self) -> None:
         """Goes on with what waited for an answer."""
         self.is_waiting = False
         self.settle()
-        self.copying.go_on()
+        self.goes_on()

@@ -1,0 +1,83 @@
+"""What a person does with panes: splits and closes one, and puts another in focus."""
+from __future__ import annotations
+
+from roam_live.frontend.effects import ClosePane
+from roam_live.session.foreground import told
+
+TYPE_CHECKING = False
+if TYPE_CHECKING:
+    from roam_live.frontend.window_acts import WindowActs
+    from roam_live.frontend.windows import WindowWishes
+    from roam_live.frontend.zoom import Zooming
+
+# What is told where no pane is known that was in focus before.
+NO_LAST = "no other pane was in focus"
+
+
+class PaneActions:
+    """The panes of a window, as one person has them."""
+
+    def __init__(self, acts: WindowActs, zooming: Zooming) -> None:
+        self.acts, self.zooming = acts, zooming
+        # The windows of the session, if it may have several.
+        self.windows: WindowWishes | None = None
+        # The panes that were in focus, the newest first, each by its making: another pane of the number is another.
+        self.makings: list[str] = []
+
+    def panes_changed(self) -> None:
+        """Take note of what is reported: where the focus is, and which panes there are."""
+        places, making = self.acts.panes.places, self.acts.panes.making
+        if not places:
+            return
+        there, now = [making(pane) for pane in places.rects], making(places.focus)
+        self.makings = [now, *(one for one in self.makings if one != now and one in there)] if now else self.makings
+
+    def ring(self, pane: int) -> None:
+        """Ring, and tell of a pane that isn't in focus."""
+        display = self.acts.display
+        display.ring()
+        if self.acts.focus() != pane and not display.told:
+            display.tell(f"bell in pane {pane}")
+
+    def split(self, wish: str) -> None:
+        """Split the pane in focus, or tell why that can't be done."""
+        places = self.zooming.unzoomed(self.acts.places())
+        why = places.unsplit(wish.split()[1]) if places else ""
+        if why:
+            self.acts.display.tell(why)
+        else:
+            self.acts.act(wish)
+
+    def close(self) -> None:
+        """Close the pane in focus, once that is confirmed if something else than a shell may run there."""
+        places, busy = self.acts.places(), self.acts.session.busy()
+        pane = places.focus if places else 0
+        if places and pane and len(places.rects) == 1 and self.windows and not self.windows.why_one():
+            self.windows.ask_shut()
+        elif places and pane and len(places.rects) == 1:
+            self.acts.display.tell("the last pane goes with its shell, and the session with it")
+        elif busy == {} or busy and pane and pane not in busy:
+            self.acts.act("close")
+        else:
+            runs = told({pane: busy[pane]}) if busy and pane else f"whatever runs in {f'pane {pane}' if pane else 'this pane'}"
+            self.acts.ask(f"close {runs}? y closes it", ClosePane(self.acts.session.number))
+
+    def go(self, way: str) -> None:
+        """Put the pane on a side in focus; the next one if no rectangle is known."""
+        places = self.acts.places()
+        if places and not places.focus:
+            places = self.acts.panes.places
+        places = self.zooming.unzoomed(places)
+        pane = places.neighbour(way) if places else None
+        if pane or not places:
+            self.acts.act(f"focus {pane}" if pane else "next")
+
+    def go_back(self) -> None:
+        """Put the pane in focus that was before this one."""
+        places = self.acts.places()
+        others = (pane for pane in (int(one.partition(" ")[0]) for one in self.makings) if places and pane != places.focus)
+        pane = next(others, 0)
+        if pane:
+            self.acts.act(f"focus {pane}")
+        else:
+            self.acts.display.tell(NO_LAST)

@@ -1,0 +1,198 @@
+"""What one person types in a window, in the order in which it is typed, and which pane is in focus by that."""
+from __future__ import annotations
+
+from collections.abc import Callable
+
+from roam_live.frontend.bindings import NEWEST
+from roam_live.frontend.modes import ConfirmMode, CopyPasteMode, LineMode, ModeStack, PastingMode, ScrollMode
+from roam_live.frontend.paste import Pastes
+from roam_live.protocol.client_link import TYPES
+from roam_live.protocol.panes import MOVES
+
+TYPE_CHECKING = False
+if TYPE_CHECKING:
+    from roam_live.common.event_loop import Loop
+    from roam_live.frontend.display import Display
+    from roam_live.frontend.effects import Effect
+    from roam_live.frontend.line_editor import AskedLine
+    from roam_live.protocol.client_link import ClientLink
+    from roam_live.protocol.host_client import HostClient
+    from roam_live.protocol.panes import Places
+    from roam_live.protocol.panes_client import PanesSubscriber
+    from roam_live.protocol.session_interface import AnySession
+
+# So many seconds a line stands that tells what became of a paste.
+PASTE_TOLD = 3.0
+
+
+def nothing() -> None:
+    """Do nothing."""
+
+
+class WindowActs:
+    """The connections of a front end to one window, and the acts that a person types there.
+
+    It knows none of the parts that type by it. What they do before and behind acts are calls that their owner sets: `settles` types the
+    keys that wait for all panes, `ends_zoom` returns acts with those before them that end a zoom, `focus_moves` takes acts that move the
+    focus, and `borders_move` returns True while a border is on its way.
+    """
+
+    def __init__(self, session: AnySession, panes: PanesSubscriber, link: ClientLink, display: Display, loop: Loop, modes: ModeStack,
+                 host: HostClient | None = None) -> None:
+        self.session, self.panes, self.link, self.display, self.loop = session, panes, link, display, loop
+        self.modes, self.host = modes, host
+        # True without a connection to the session.
+        self.paused = False
+        # Where a command of this person moved the focus, since it was reported: to a pane, or to one that isn't known, 0; and what was
+        # reported then.
+        self.moved_to: int | None = None
+        self.moved_from: Places | None = None
+        # The making of the pane to which this person's last key went, where that is known.
+        self.typed_in = ""
+        self.pastes = Pastes(link, panes, host, loop, self.unpasted, lambda line: display.tell(line, PASTE_TOLD))
+        self.pastes.is_cut = self.is_cut
+        self.settles: Callable[[], object] = nothing
+        self.ends_zoom: Callable[[tuple[str, ...]], tuple[str, ...]] = lambda acts: acts
+        self.focus_moves: Callable[[tuple[str, ...]], object] = lambda acts: None
+        self.borders_move: Callable[[], bool] = lambda: False
+
+    def follow_panes(self, panes: PanesSubscriber) -> None:
+        """Go by what another subscriber reports of the panes."""
+        self.panes = self.pastes.panes = panes
+
+    # ---- acts
+
+    def act(self, *acts: str) -> None:
+        """Type acts, unless this terminal only watches."""
+        if self.link.is_read_only:
+            return
+        if acts:
+            self.settles()
+        self.pastes.type(*self.ends_zoom(acts))
+        self.note_moves(*acts)
+
+    def act_together(self, *acts: str) -> None:
+        """Type acts in a line of their own, unless this terminal only watches: nothing comes between them."""
+        if not self.link.is_read_only:
+            self.type_together(*self.ends_zoom(acts))
+
+    def type_together(self, *acts: str) -> None:
+        """Type acts in a line of their own, whatever is zoomed."""
+        self.settles()
+        self.pastes.type_together(*acts)
+        self.note_moves(*acts)
+
+    def unpasted(self) -> str:
+        """Return why nothing is pasted now, "" if something is."""
+        if self.link.is_read_only:
+            return "nothing is pasted: this terminal only watches"
+        return "nothing is pasted where the session isn't shown" if self.paused or self.display.notice else ""
+
+    def is_cut(self) -> bool:
+        """Return True during an outage: the server is silent, or there is no connection to the pty host."""
+        return self.display.silent > 0 or self.host is not None and self.host.peer is None
+
+    def refuse_paste(self, why: str) -> None:
+        """Type nothing of a paste whose end hasn't come yet, and tell why once it has."""
+        self.modes.drop(PastingMode, CopyPasteMode)
+        self.modes.push(PastingMode())
+        self.pastes.begin(why)
+
+    def set_clip(self, text: str, making: str) -> None:
+        """Set the terminal's clipboard by what the program in focus sets, in base64, if this person's last key went to it."""
+        if making and making == self.typed_in:
+            self.display.outer.set_clip(text)
+
+    # ---- the focus
+
+    def places(self) -> Places | None:
+        """Return where the panes are, with the focus where this person put it: 0 if that isn't reported yet."""
+        places = self.panes.places
+        if places is None or self.moved_to is None:
+            return places
+        return places._replace(focus=self.moved_to if self.moved_to in places.rects else 0)
+
+    def focus(self) -> int:
+        """Return the pane in focus, 0 if it isn't known."""
+        places = self.places()
+        return places.focus if places else 0
+
+    def awaits_focus(self) -> bool:
+        """Return True if it isn't reported yet which pane is in focus, and may be soon."""
+        places = self.places()
+        return not places.focus if places else self.panes.is_awaited()
+
+    def note_moves(self, *acts: str) -> None:
+        """Take note of those of these acts that move the focus, and of where the last one goes, if it is a key."""
+        moves = [act for act in acts if act.startswith(MOVES)]
+        for act in moves:
+            word, _, pane = act.partition(" ")
+            self.move(word, int(pane) if word == "focus" else 0)
+        if moves:
+            self.focus_moves(acts)
+        if acts and acts[-1].startswith(TYPES):
+            self.note_key()
+
+    def note_key(self) -> None:
+        """Take note of where this person's last key goes."""
+        places = self.places()
+        self.typed_in = self.panes.making(places.focus) if places else ""
+
+    def move(self, word: str, pane: int) -> None:
+        """Take note that this person moves the focus, to a pane or to one that isn't known: what was reported of it isn't so then. What
+        moves nothing is never reported."""
+        places = self.panes.places
+        others = [other for other in places.rects if other != places.focus] if places else [pane]
+        if self.moved_to is not None or word in ("split", "close") or (pane in others if word == "focus" else others):
+            self.moved_to, self.moved_from = pane, places
+
+    def is_moved(self, now: Places, before: Places) -> bool:
+        """Return True if the focus that this person moved is reported. If it goes to a pane that is known the size of one doesn't say so:
+        that may come of what was typed before."""
+        if now.focus == self.moved_to or now.focus != before.focus:
+            return True
+        return set(now.rects) != set(before.rects) if self.moved_to or self.borders_move() else now.rects != before.rects
+
+    def panes_changed(self) -> None:
+        """Go by what is reported of the panes."""
+        now, before = self.panes.places, self.moved_from
+        if now is None or before is None or self.is_moved(now, before):
+            self.moved_to = None
+
+    # ---- prompts, and the view that all share
+
+    def ask(self, text: str, *yes: Effect) -> None:
+        """Ask a question, whose answer by y has these effects."""
+        self.modes.push(ConfirmMode(*yes))
+        self.display.ask(text)
+
+    def ask_line(self, asked: AskedLine, purpose: str) -> None:
+        """Ask for a line, for a purpose."""
+        self.modes.push(LineMode(asked, purpose))
+        self.display.ask(asked.line(), is_typed=True)
+
+    def scroll(self, pane: int, rows: int) -> None:
+        """Scroll a pane; the newest rows end that."""
+        act, line = self.modes.scroll_by(rows)
+        self.act_together(f"focus {pane}", act)
+        if line:
+            self.display.tell(line, None)
+        else:
+            self.display.end_told()
+
+    def begin_scroll(self, is_page: bool) -> bool:
+        """Begin to scroll the view that all share, by a page at once on request; return True unless this terminal only watches."""
+        if self.link.is_read_only:
+            return False
+        mode = self.modes.scroll_mode()
+        mode.view, mode.keymap.rows = 0, self.display.outer.size()[0]
+        if is_page:
+            self.act(mode.step(0, 1))
+        self.display.tell(mode.status().line, None)
+        return True
+
+    def end_scroll(self) -> None:
+        """End the scroll mode, at the newest rows."""
+        self.act(NEWEST)
+        self.modes.drop(ScrollMode)
+        self.display.end_told()
