@@ -1,5 +1,5 @@
 """What copy mode is tried with beside tmux's: a text, keys by name with emacs' and vi's table, and what is copied by them here."""
-from roam_live.frontend.copymode.commands import COPY, LEAVE
+from roam_live.frontend.copymode.actions import COPY, LEAVE
 from roam_live.frontend.copymode.keys import KeyPairs
 from roam_live.frontend.copymode.mode import CopyMode
 from roam_live.frontend.copymode.rows import Rows, width_of

@@ -12,8 +12,9 @@ from roam_live.common import tty
 from roam_live.common.errors import Fault
 from roam_live.common.event_loop import comes
 from roam_live.common.process import begun
-from roam_live.frontend import app, display, paste, window_view
+from roam_live.frontend import app, display, paste, window_view, window_views
 from roam_live.frontend.app import FrontEnd
+from roam_live.frontend.connection import Connecting
 from roam_live.frontend.modes import ScrollMode
 from roam_live.input import mouse_reports
 from roam_live.input.extended_keys import QUERY, WANTED, given_back
@@ -91,11 +92,11 @@ class Fronts(Case):
         self.patch_of(app, "woken", return_value=self.wakeup)
         self.quiet = self.patch_of(app, "unwoken")
         self.panes = PlayedPanes(self.place)
-        self.patch_of(app, "PanesSubscriber", lambda folder, loop, changed, tells: self.panes)
+        self.patch_of(window_views, "PanesSubscriber", lambda folder, loop, changed, tells: self.panes)
         self.front = FrontEnd(self.place, False, "C-b", "adaptive", lambda places: False, StillLoop())
         self.addCleanup(lambda: closed(self.front.display.outer.end))
-        self.addCleanup(lambda: self.front.link.close())
-        self.addCleanup(lambda: self.front.host_link.end())
+        self.addCleanup(lambda: self.front.views.link.close())
+        self.addCleanup(lambda: self.front.views.view.bells.close())
 
     def give_back(self, kept, slave):
         """Gives this process its own input and output."""
@@ -113,7 +114,7 @@ class Fronts(Case):
     def connect(self):
         """Takes the terminal and connects; the client's end, which has begun to tell records."""
         self.front.display.outer.enter()
-        self.front.connect()
+        self.front.connection.connect()
         self.client = self.taken(self.listener)
         self.turn()
         self.client.send(b"painted before\nevents\n")
@@ -160,7 +161,7 @@ class Loop(Fronts):
         self.shown()
         for cut in range(len(text) + 1):
             self.front.display.begin()
-            self.front.commands.show_known()
+            self.front.views.commands.show_known()
             self.turn()
             self.shown()
             for chunk in (text[:cut], text[cut:]):
@@ -204,7 +205,7 @@ class Loop(Fronts):
     def test_refused(self):
         """What a client refuses is told once the pause before another connection is one; a full one is told as such."""
         self.place.processes["client"] = 5
-        self.front.reconnector.faults = 1
+        self.front.views.view.reconnector.faults = 1
         for text, told in ((record("refused", 3, words="bad act"), b"the client process refused a line: bad act"),
                            (b"full\n", b"no more terminals are taken: 16 are there")):
             client = self.connect()
@@ -218,7 +219,7 @@ class Loop(Fronts):
         client = self.connect()
         client.send(b"\x1b]0;title\x07\n")
         self.turn()
-        self.assertIsNone(self.front.link.peer)
+        self.assertIsNone(self.front.views.link.peer)
         self.assertNotIn(b"title", self.shown())
 
     def test_untold(self):
@@ -227,15 +228,15 @@ class Loop(Fronts):
         client = self.connect()
         read_now(client)
         self.place.told = None
-        self.front.untold("where panes are isn't told")
+        self.front.views.maker.untold("where panes are isn't told")
         self.turn()
         self.assertEqual((read_now(client), self.front.display.told), (b"whole\n", "where panes are isn't told"))
         self.assertEqual(self.front.loop.due["untold"][0], 110.0)
 
     def test_nobody_there(self):
         """What is shown is asked of a client that is there, and of each anew."""
-        self.front.commands.show_known()
-        self.assertEqual(self.front.link.waiting, b"")
+        self.front.views.commands.show_known()
+        self.assertEqual(self.front.views.link.waiting, b"")
         self.assertEqual(read_now(self.connect()), b"events\npredict adaptive\npart 23 80\nview -500\n")
 
     def test_left(self):
@@ -243,7 +244,7 @@ class Loop(Fronts):
         self.connect()
         self.type(b"\x02d")
         self.assertEqual((self.front.left, self.front.status), ("[detached]", 0))
-        with mock.patch.object(self.front, "connect"), mock.patch.object(self.front.link, "part") as parts, \
+        with mock.patch.object(self.front.connection, "connect"), mock.patch.object(self.front.views.link, "part") as parts, \
                 mock.patch.object(self.front.display.outer, "enter"):
             self.assertEqual(self.front.run(), 0)
         parts.assert_called_once_with(client_link.LAST_WAIT)
@@ -255,7 +256,7 @@ class Loop(Fronts):
     def test_left_behind_a_paste(self):
         """Who leaves while a paste is handed over is waited for, for a second and a half at most."""
         self.connect()
-        self.front.commands.acts.pastes.waiting.append(paste.Paste("text", False))
+        self.front.views.commands.acts.pastes.waiting.append(paste.Paste("text", False))
         self.type(b"\x02d")
         self.assertTrue(self.front.hands_over())
         self.assertEqual(self.front.loop.due["left"][0], self.now + client_link.LAST_WAIT)
@@ -264,14 +265,14 @@ class Loop(Fronts):
         self.now += 0.1
         self.assertFalse(self.front.hands_over())
         self.front.left_at = None
-        self.front.commands.acts.pastes.waiting.clear()
+        self.front.views.commands.acts.pastes.waiting.clear()
         self.assertFalse(self.front.hands_over())
 
     def test_much_behind_a_paste(self):
         """C-c and the prefix are read however much waits behind a paste."""
         client = self.connect()
         read_now(client)
-        waits = self.front.commands.acts.pastes
+        waits = self.front.views.commands.acts.pastes
         for text, lines, left in ((b"x\x03", b"char 3\n", None), (b"x\x02d", b"", "[detached]")):
             waits.wait_for([paste.Paste("text", False), paste.Behind(("char 61",) * paste.MOST_BEHIND)])
             self.type(text)
@@ -279,7 +280,7 @@ class Loop(Fronts):
 
     def test_much_in_the_link(self):
         """So they are where the client hasn't taken as much that was pasted; of keys alone no more is read then."""
-        link = self.front.link
+        link = self.front.views.link
         self.connect()
         for chunk, text, reads in ((b"char 61\n", b"x", False), (b"paste ; char 61\n", b"x\x03", True)):
             self.patch_of(client_link, "TYPED_LIMIT", 1000)
@@ -292,7 +293,7 @@ class Loop(Fronts):
     def test_outage(self):
         """There is an outage while the server is silent, or no connection to the pty host is there."""
         client = self.connect()
-        commands = self.front.commands
+        commands = self.front.views.commands
         self.assertTrue(commands.acts.is_cut())
         commands.acts.host.peer = mock.Mock()
         self.assertFalse(commands.acts.is_cut())
@@ -307,15 +308,15 @@ class Loop(Fronts):
     def test_fault(self):
         """What nobody foresaw brings the terminal back too, from the moment on at which it is taken: that is none before it runs."""
         self.assertEqual((termios.tcgetattr(self.slave), self.shown()), (self.before, b""))
-        for name in ("connect", "turn"):
-            with self.subTest(name), mock.patch.object(self.front, name, side_effect=RuntimeError), \
-                    mock.patch.object(self.front.link, "part") as parts:
+        for part, name in ((self.front.connection, "connect"), (self.front, "turn")):
+            with self.subTest(name), mock.patch.object(part, name, side_effect=RuntimeError), \
+                    mock.patch.object(self.front.views.link, "part") as parts:
                 with self.assertRaises(RuntimeError):
                     self.front.run()
                 parts.assert_not_called()
                 self.assertTrue(self.shown().endswith(tty.LEFT))
                 self.assertEqual(termios.tcgetattr(self.slave), self.before)
-                self.assertIsNone(self.front.link.peer)
+                self.assertIsNone(self.front.views.link.peer)
 
     def test_not_taken(self):
         """A terminal that can't be taken is left alone."""
@@ -328,7 +329,7 @@ class Loop(Fronts):
         host's to know, and isn't typed."""
         outer = self.front.display.outer
         for is_read_only, is_able, wanted in ((False, True, ASKED), (True, True, b""), (False, False, b"")):
-            self.front.link.is_read_only, outer.outer_modes.is_able = is_read_only, is_able
+            self.front.views.link.is_read_only, outer.outer_modes.is_able = is_read_only, is_able
             self.front.ask_colours()
             self.assertEqual(bytes(outer.waiting), wanted, (is_read_only, is_able))
             outer.waiting.clear()
@@ -340,7 +341,7 @@ class Loop(Fronts):
         read_now(client)
         for text in (b"a\x1b]11;rgb:1e/1e/2e\x1b\\b", b"\x1b]10;rgb:ff", b"ff/ffff/ffff\x07c"):
             self.type(text)
-        told = self.front.commands.acts.host.colours.known
+        told = self.front.views.commands.acts.host.colours.known
         self.assertEqual(told, {"background": "1e1e/1e1e/2e2e", "foreground": "ffff/ffff/ffff"})
         self.assertEqual([line for line in read_now(client).split(b"\n") if line.startswith(b"char")], [b"char 61 ; char 62", b"char 63"])
 
@@ -412,12 +413,12 @@ class Loop(Fronts):
         self.front.session.processes["client"] = None
         client.close()
         self.turn()
-        self.assertEqual((self.front.link.peer, self.front.loop.due["connect"][0]), (None, 100.1))
+        self.assertEqual((self.front.views.link.peer, self.front.loop.due["connect"][0]), (None, 100.1))
         self.listener.close()
         self.now += 0.1
         self.turn()
         self.assertIn(b"no server is in ", self.shown())
-        self.assertTrue(self.front.commands.acts.paused)
+        self.assertTrue(self.front.views.commands.acts.paused)
         self.assertEqual(self.front.display.notice, f"no server is in {self.place.folder}; tried anew in 1 s; C-c or q leaves")
         self.type(b"q")
         self.assertEqual(self.front.left, "[left]")
@@ -447,7 +448,7 @@ class Loop(Fronts):
         reader, writer = self.pipe()
         self.place.processes["server"] = 1
         with mock.patch.object(window_view, "opened_process", return_value=reader):
-            self.front.watch_server(window_view.opened_server(self.place))
+            self.front.views.watch_server(window_view.opened_server(self.place))
         os.close(writer)
         self.turn(1)
         self.assertEqual((self.front.left, self.front.status), ("[the session has ended]", 0))
@@ -472,7 +473,7 @@ class Loop(Fronts):
             self.front.loop.do_due()
             self.front.left = ""
 
-        with mock.patch.object(self.front, "turn", leave), mock.patch.object(self.front.link, "part"):
+        with mock.patch.object(self.front, "turn", leave), mock.patch.object(self.front.views.link, "part"):
             self.front.run()
         self.assertEqual((self.place.looks, self.front.loop.due["probe"][0]), (1, self.now + 2.0))
 
@@ -511,27 +512,27 @@ class Loop(Fronts):
         client.send(b"x")
         self.front.display.outer.waiting[:] = bytes(65536)
         with mock.patch.object(display, "write", return_value=True):
-            with mock.patch.object(self.front.link, "read_events") as tells:
+            with mock.patch.object(self.front.views.link, "read_events") as tells:
                 self.turn(1)
                 tells.assert_not_called()
             del self.front.display.outer.waiting[0]
-            with mock.patch.object(self.front.link, "read_events", return_value=[]) as tells:
+            with mock.patch.object(self.front.views.link, "read_events", return_value=[]) as tells:
                 self.turn(1)
                 tells.assert_called_once_with()
         self.front.display.outer.waiting.clear()
         os.write(self.master, b"x")
-        self.front.link.waiting[:] = bytes(1 << 24)
-        with mock.patch.object(self.front.keyboard, "fed") as feeds, mock.patch.object(self.front.link, "send", return_value=True):
+        self.front.views.link.waiting[:] = bytes(1 << 24)
+        with mock.patch.object(self.front.keyboard, "fed") as feeds, mock.patch.object(self.front.views.link, "send", return_value=True):
             self.turn(1)
             feeds.assert_not_called()
-            del self.front.link.waiting[0]
+            del self.front.views.link.waiting[0]
             self.turn(1)
             feeds.assert_called_once_with(b"x")
-        self.front.link.waiting.clear()
+        self.front.views.link.waiting.clear()
 
     def test_sizes(self):
         """What is shown goes by a new size soon, and the session by one that has stood for 0.3 s; a new session by each."""
-        self.front.host_link.faults = FEW + 1
+        self.front.views.view.host.faults = FEW + 1
         client = self.connect()
         self.paints()
         read_now(client)
@@ -545,7 +546,7 @@ class Loop(Fronts):
         self.now += 0.25
         self.turn()
         self.assertEqual(read_now(client), b"size 30 90\npart 29 90\n")
-        self.front.commands.follower.new_until = self.now + 1
+        self.front.views.commands.follower.new_until = self.now + 1
         tty.set_size(self.slave, 20, 70)
         self.front.resized()
         self.turn()
@@ -560,7 +561,7 @@ class Loop(Fronts):
         self.now += 0.3
         self.turn()
         self.assertEqual(read_now(client), b"")
-        self.front.host_link.faults = FEW + 1
+        self.front.views.view.host.faults = FEW + 1
         self.now += 0.3
         self.turn()
         self.assertEqual(read_now(client), b"size 24 80\n")
@@ -618,7 +619,7 @@ class Loop(Fronts):
                 steps.append((bytes(outer.waiting), outer.is_taken))
                 return read_now(self.master) if takes else b""
 
-            with mock.patch.object(self.front, "connect", self.fill), mock.patch.object(self.front, "part", part):
+            with mock.patch.object(self.front.connection, "connect", self.fill), mock.patch.object(self.front, "part", part):
                 self.front.left = "[terminated]"
                 self.front.run()
             self.assertEqual(steps, [(given_back(0) + tty.LEFT + b"[terminated]\r\n", True)])
@@ -640,9 +641,9 @@ class Loop(Fronts):
         """Whatever of the end fails, the rest of it is done, and the first fault is the one that is told."""
         steps = []
         for fails in (KeyError, None):
-            with mock.patch.object(self.front.commands, "left", side_effect=KeyError("left")), \
+            with mock.patch.object(self.front.views.commands, "left", side_effect=KeyError("left")), \
                     mock.patch.object(self.front, "part", side_effect=ValueError("part")), \
-                    mock.patch.object(self.front, "connect", side_effect=None if fails else RuntimeError("first")):
+                    mock.patch.object(self.front.connection, "connect", side_effect=None if fails else RuntimeError("first")):
                 self.front.left = "[left]"
                 self.assertRaisesRegex(fails or RuntimeError, "left" if fails else "first", self.front.run)
             self.assertTrue(self.shown().endswith(tty.LEFT + b"[left]\r\n"))
@@ -679,7 +680,7 @@ class Mouse(Fronts):
     def ask(self, modes):
         """Has the program in focus have these modes, and tells what came to the terminal."""
         self.panes.modes_of = {1: modes}
-        self.front.commands.panes_changed()
+        self.front.views.commands.panes_changed()
         self.turn()
         return self.shown()
 
@@ -702,16 +703,17 @@ class Mouse(Fronts):
         """However it is left the terminal is asked for no reports any more, before what stood there is back."""
         ways = [lambda: self.type(b"\x02d"), lambda: self.front.leave("[the session has ended]"),
                 *[lambda number=number: os.write(self.wakes, bytes([number])) for number in (signal.SIGTERM, signal.SIGHUP, signal.SIGINT)]]
-        self.patch_of(self.front.link, "part")
+        self.patch_of(self.front.views.link, "part")
         for way in [*ways, lambda: self.patch_of(self.front, "turn", side_effect=ValueError)]:
             self.front.left = None
-            if self.front.link.peer:
-                self.front.loop.remove(self.front.link)
-                self.front.link.close()
+            if self.front.views.link.peer:
+                self.front.loop.remove(self.front.views.link)
+                self.front.views.link.close()
             self.connect()
             self.assertIn(mouse_reports.ASKED["motion"], self.ask("motion sgr"))
             way()
-            with mock.patch.object(self.front.display.outer, "enter"), mock.patch.object(self.front, "connect"), suppress(ValueError):
+            with mock.patch.object(self.front.display.outer, "enter"), mock.patch.object(self.front.connection,
+                                                                                         "connect"), suppress(ValueError):
                 self.front.run()
             self.assertIn(mouse_reports.OFF + given_back(0) + tty.LEFT, self.shown())
 
@@ -719,7 +721,7 @@ class Mouse(Fronts):
         """Where roam has the mouse itself the terminal is asked as soon as the panes are known."""
         self.front = FrontEnd(self.place, False, "C-b", "adaptive", lambda places: False, StillLoop(), has_mouse=True)
         self.addCleanup(lambda: closed(self.front.display.outer.end))
-        self.addCleanup(lambda: self.front.link.close())
+        self.addCleanup(lambda: self.front.views.link.close())
         self.connect()
         self.assertTrue(self.ask("").endswith(mouse_reports.ASKED["drags"]))
 
@@ -749,7 +751,7 @@ class Clipboard(Fronts):
         """A front end that sets it, or doesn't, connected and with a painting."""
         self.front = FrontEnd(self.place, is_read_only, "C-b", "adaptive", lambda places: False, StillLoop(), has_clips=has_clips)
         self.addCleanup(lambda: closed(self.front.display.outer.end))
-        self.addCleanup(lambda: self.front.link.close())
+        self.addCleanup(lambda: self.front.views.link.close())
         self.connect()
         self.paints()
         self.shown()
@@ -1123,14 +1125,14 @@ class Gone(Case):
 
     def test_left(self):
         """It gives way to another, and isn't connected to again; where there is none it is tried anew."""
-        front = mock.Mock(number=2)
-        front.reconnector.connect.return_value = 8.0, "no server"
-        front.view.session.folder = str(self.made_folder() / "2")
-        front.is_window_gone = lambda: FrontEnd.is_window_gone(front)
+        views, leaves = mock.Mock(number=2), mock.Mock()
+        views.view.reconnector.connect.return_value, views.view.number = (8.0, "no server"), 2
+        views.view.session.folder = str(self.made_folder() / "2")
+        connection = Connecting(views, leaves)
         for is_left in (True, False):
-            front.windows.leave.return_value = is_left
-            front.loop.later.reset_mock()
-            FrontEnd.connect(front)
-            self.assertEqual((front.windows.leave.call_args.args, front.loop.later.called), ((2,), not is_left))
-        front.view.session.folder = str(self.made_folder())
-        self.assertFalse(front.is_window_gone())
+            leaves.return_value = is_left
+            views.loop.later.reset_mock()
+            connection.connect()
+            self.assertEqual((leaves.call_args.args, views.loop.later.called), ((2,), not is_left))
+        views.view.session.folder = str(self.made_folder())
+        self.assertFalse(connection.is_window_gone())

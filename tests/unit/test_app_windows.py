@@ -11,7 +11,7 @@ from roam_live.common.errors import Fault
 from roam_live.common.event_loop import comes
 from roam_live.config.environment import choose_by_file
 from roam_live.config.user_file import OWN, settings_path
-from roam_live.frontend import app, command_line, window_view
+from roam_live.frontend import app, command_line, window_view, window_views
 from roam_live.frontend.app import FrontEnd
 from roam_live.frontend.lists import WINDOWS_LINE
 from roam_live.frontend.modes import CopyPasteMode
@@ -67,7 +67,7 @@ class Windows(Case):
         os.set_blocking(self.master, False)
         self.patch_of(app, "woken", return_value=self.pipe()[0])
         self.sent_environment = self.patch_of(app, "environment_lines", return_value=[])
-        self.patch_of(app, "PanesSubscriber", lambda folder, loop, changed, tells: self.played(folder))
+        self.patch_of(window_views, "PanesSubscriber", lambda folder, loop, changed, tells: self.played(folder))
         self.loop = StillLoop(lambda: self.now)
         self.front = self.front_of()
 
@@ -78,15 +78,16 @@ class Windows(Case):
         self.addCleanup(self.close, front)
         front.display.outer.enter()
         self.front = front
-        front.connect()
+        front.connection.connect()
         self.turn()
         return front
 
     def close(self, front):
         """Closes what a front end has open."""
         closed(front.display.outer.end)
-        front.host_link.end()
-        for view in (front.view, *front.draining.views.values()):
+        front.windows.link.end()
+        for view in (front.views.view, *front.views.draining.views.values()):
+            view.bells.close()
             view.close(self.loop)
 
     def add(self, number):
@@ -198,7 +199,7 @@ class Switches(Windows):
         self.turn()
         self.assertEqual((len(self.loop.sources), len(self.loop.before), sorted(self.loop.due)), has)
         self.assertEqual(self.typed, {1: "abefij", 2: "cdghklmn"})
-        self.assertEqual((self.front.number, self.rows()), (2, ("window 2", "[1] 1- 2*")))
+        self.assertEqual((self.front.views.number, self.rows()), (2, ("window 2", "[1] 1- 2*")))
 
     def test_cut(self):
         """So do they wherever what is typed is cut, in characters and keys too."""
@@ -216,41 +217,41 @@ class Switches(Windows):
         self.type(b"\x022\x021")
         self.type(b"ab\x022cd", paints=False)
         self.type(b"\x021ef\x022gh", paints=False)
-        self.assertEqual((self.typed, list(self.front.draining.views)), ({1: "", 2: ""}, [1]))
+        self.assertEqual((self.typed, list(self.front.views.draining.views)), ({1: "", 2: ""}, [1]))
         self.turn()
-        self.assertEqual((self.typed, list(self.front.draining.views)), ({1: "abef", 2: "cdgh"}, []))
+        self.assertEqual((self.typed, list(self.front.views.draining.views)), ({1: "abef", 2: "cdgh"}, []))
 
     def test_old_closed(self):
         """The connections to a window that was left are closed once what was typed there is taken, and the other is painted."""
         self.type(b"a\x022")
         self.turn()
         there = [number for number, _ in self.clients.values()]
-        self.assertEqual((there, list(self.front.host_link.clients), self.front.draining.views), ([2], [2], {}))
+        self.assertEqual((there, self.hosts[0][0].recv(99), self.front.views.draining.views), ([2], b"", {}))
 
     def test_lost(self):
         """Where the client of a window that was left ends, another has what was typed there and hasn't gone; else nothing is waited for."""
         self.type(b"\x022\x021")
         self.type(b"ab\x022", paints=False)
-        view = self.front.draining.views[1]
-        self.front.draining.lost(view)
+        view = self.front.views.draining.views[1]
+        self.front.views.draining.lost(view)
         self.assertEqual((view.link.peer, "connect 1" in self.loop.due), (None, False))
         self.turn()
-        self.assertEqual(list(self.front.draining.views), [])
+        self.assertEqual(list(self.front.views.draining.views), [])
         self.type(b"\x021")
         self.type(b"d\x022", paints=False)
-        view = self.front.draining.views[1]
+        view = self.front.views.draining.views[1]
         view.link.waiting += b"char 63\n"
-        self.front.draining.lost(view)
+        self.front.views.draining.lost(view)
         self.assertIn("connect 1", self.loop.due)
-        self.front.draining.settle()
-        self.assertEqual(list(self.front.draining.views), [1])
+        self.front.views.draining.settle()
+        self.assertEqual(list(self.front.views.draining.views), [1])
         with mock.patch.object(view.reconnector, "connect", return_value=(0.5, "no client")) as fails:
             self.now += 0.5
             self.turn()
             self.assertEqual((fails.call_count, view.link.peer), (1, None))
         self.now += 0.5
         self.turn(8)
-        self.assertEqual((self.typed[1], list(self.front.draining.views), self.loop.due.get("connect 1")), ("abdc", [], None))
+        self.assertEqual((self.typed[1], list(self.front.views.draining.views), self.loop.due.get("connect 1")), ("abdc", [], None))
 
     def test_there_is_none(self):
         """A window that isn't there is told of, and what stands behind that is typed where the person is."""
@@ -272,8 +273,8 @@ class Switches(Windows):
         self.windows[2].processes["server"] = 1
         with mock.patch.object(window_view, "opened_process", side_effect=Fault("no descriptor is left")):
             self.type(b"a\x022b")
-        self.assertEqual((self.front.number, self.typed, self.rows()[1]), (1, {1: "ab", 2: ""}, "no descriptor is left"))
-        self.assertEqual(self.front.draining.views, {})
+        self.assertEqual((self.front.views.number, self.typed, self.rows()[1]), (1, {1: "ab", 2: ""}, "no descriptor is left"))
+        self.assertEqual(self.front.views.draining.views, {})
 
     def test_not_painted(self):
         """Until a window is painted nothing of it is shown, and a moment later nothing of the one before."""
@@ -352,7 +353,7 @@ class Opened(Windows):
         self.assertEqual(self.typed, {1: "c", 2: "d"})
         self.add(3)
         self.tell("window 3 -", "opened 3")
-        self.assertEqual((self.front.number, self.front.display.told), (2, "window 3 is there now"))
+        self.assertEqual((self.front.views.number, self.front.display.told), (2, "window 3 is there now"))
 
     def test_given_up(self):
         """Once it was told that it takes long C-c waits for it no longer, and what follows that is typed; before that C-c is for it too."""
@@ -440,15 +441,15 @@ class Opened(Windows):
         self.now += 0.02
         self.add(3)
         self.turn()
-        self.assertEqual((self.typed, self.front.number, self.front.windows.unsaid), ({1: "", 2: "", 3: "ab"}, 3, ""))
+        self.assertEqual((self.typed, self.front.views.number, self.front.windows.unsaid), ({1: "", 2: "", 3: "ab"}, 3, ""))
 
     def test_bounded(self):
         """No more is read than is kept for a window that is being opened."""
         self.tell_list()
         self.type(b"\x02c" + b"x" * 3000)
-        self.assertFalse(self.front.commands.is_full())
+        self.assertFalse(self.front.views.commands.is_full())
         self.type(b"x" * 2000)
-        self.assertTrue(self.front.commands.is_full())
+        self.assertTrue(self.front.views.commands.is_full())
 
     def test_by_hand(self):
         """A session without a window's number can have one alone, which is said."""
@@ -477,7 +478,7 @@ class Opened(Windows):
         self.tell_list()
         self.said()
         self.type(b"\x02c\x02,\x02&\x022")
-        self.assertEqual(([line for line in self.said() if line.split()[0] in ("open", "name", "shut")], self.front.number), ([], 2))
+        self.assertEqual(([line for line in self.said() if line.split()[0] in ("open", "name", "shut")], self.front.views.number), ([], 2))
 
 
 class Told(Windows):
@@ -502,22 +503,22 @@ class Told(Windows):
         del self.windows[2]
         self.tell("gone 2")
         self.type(b"b")
-        self.assertEqual((self.front.number, self.typed, self.front.display.told), (5, {1: "", 2: "a", 5: "b"}, "window 2 is gone"))
+        self.assertEqual((self.front.views.number, self.typed, self.front.display.told), (5, {1: "", 2: "a", 5: "b"}, "window 2 is gone"))
         del self.windows[5]
         self.tell("gone 5")
-        self.assertEqual(self.front.number, 1)
+        self.assertEqual(self.front.views.number, 1)
         del self.windows[1]
         self.tell("gone 1")
         self.assertIsNone(self.front.left)
-        self.front.server_ended(self.front.view)
+        self.front.server_ended(self.front.views.view)
         self.assertEqual((self.front.left, self.front.status), ("[the session has ended]", 1))
 
     def test_server(self):
         """So does one whose server ends before that is told, but not to one that is about to end too."""
-        self.front.server_ended(self.front.view)
-        self.assertEqual((self.front.number, self.front.left), (2, None))
+        self.front.server_ended(self.front.views.view)
+        self.assertEqual((self.front.views.number, self.front.left), (2, None))
         self.windows[1].status = self.windows[2].status = 0
-        self.front.server_ended(self.front.view)
+        self.front.server_ended(self.front.views.view)
         self.assertEqual((self.front.left, self.front.status), ("[the session has ended]", 0))
 
     def test_pasting(self):
@@ -532,7 +533,7 @@ class Told(Windows):
         self.add(3)
         self.tell("window 3 -")
         self.type(b"\x023")
-        self.front.modes.push(CopyPasteMode())
+        self.front.keyboard.modes.push(CopyPasteMode())
         self.front.keyboard.keys.is_pasting = True
         del self.windows[3]
         self.tell("gone 3")
@@ -626,7 +627,7 @@ class Named(Windows):
             self.tell_list()
             for typed, number in ((b"12\r", 12), (b"7\r", 12), (b"x\r", 12), (b"\r", 12), (b"1\x03", 12), (b"02\r", 2)):
                 self.type(b"\x02'" + typed)
-                self.assertEqual(self.front.number, number, typed)
+                self.assertEqual(self.front.views.number, number, typed)
 
     def test_list(self):
         """The list shows what runs there, and goes where Return or a digit says."""
@@ -639,9 +640,9 @@ class Named(Windows):
         self.type(b"jabc")
         self.assertEqual(self.typed[1], "")
         self.type(b"\rx")
-        self.assertEqual((self.front.number, self.typed), (2, {1: "", 2: "x"}))
+        self.assertEqual((self.front.views.number, self.typed), (2, {1: "", 2: "x"}))
         self.type(b"\x02w1y")
-        self.assertEqual((self.front.number, self.typed[1]), (1, "y"))
+        self.assertEqual((self.front.views.number, self.typed[1]), (1, "y"))
         self.type(b"\x02wG")
         self.tell("gone 2")
         self.assertEqual([line.rstrip() for line in self.emulated.lines()][:2], ["1:sh*", ""])
@@ -659,12 +660,12 @@ class Named(Windows):
             with mock.patch.object(PlayedPanes, "awaited", True):
                 self.type(b"\x022\x02wk\r")
                 self.type(b"x")
-                self.assertEqual((self.front.number, self.typed[2], self.front.display.told), (2, "", ""))
+                self.assertEqual((self.front.views.number, self.typed[2], self.front.display.told), (2, "", ""))
                 self.windows[2].told = told if is_told else None
                 self.now += 0 if is_told else LISTS
-                self.front.commands.panes_changed()
+                self.front.views.commands.panes_changed()
                 self.turn()
-            self.assertEqual((self.front.number, self.typed), (1, {1: "x", 2: ""}) if is_told else (2, {1: "x", 2: "kx"}))
+            self.assertEqual((self.front.views.number, self.typed), (1, {1: "x", 2: ""}) if is_told else (2, {1: "x", 2: "kx"}))
             self.assertEqual((self.front.display.told, self.front.windows.held), ("" if is_told else NO_ROOM, []))
 
 
@@ -675,15 +676,15 @@ class Pointed(Windows):
         """What is told there has no labels, and nothing is pointed at."""
         self.tell_list()
         for is_on, wanted in ((False, 1), (True, 2)):
-            self.front.commands.pointing.is_on = is_on
+            self.front.views.commands.pointing.is_on = is_on
             self.type(b"\x1b[<0;8;24M\x1b[<0;8;24mx")
-            self.assertEqual(self.front.number, wanted)
+            self.assertEqual(self.front.views.number, wanted)
         self.assertEqual(self.typed, {1: "x", 2: "x"})
         self.front.display.tell("[1] 1- 2*")
         self.type(b"\x1b[<0;5;24My")
         self.front.display.end_told()
         self.type(b"\x1b[<0;5;23M\x1b[<0;5;23m")
-        self.assertEqual((self.front.number, self.typed[2]), (2, "xy"))
+        self.assertEqual((self.front.views.number, self.typed[2]), (2, "xy"))
 
 
 class PaneEnvironment(Windows):
@@ -710,28 +711,28 @@ class Settings(Windows):
     def read(self, text):
         """Has the file say this, and be read."""
         self.file.write_text(text, encoding="utf-8")
-        self.front.read_settings()
+        self.front.settings.read()
         self.turn()
 
     def test_read(self):
         """What it says holds at once, and it is told that it was read, or what of it isn't done."""
         self.read("set -g prefix C-a\nbind y select-window -t 2\nset -g mouse on\n")
-        self.assertEqual((self.front.display.told, self.front.commands.pointing.is_on), ("roam.conf was read", True))
+        self.assertEqual((self.front.display.told, self.front.views.commands.pointing.is_on), ("roam.conf was read", True))
         self.type(b"\x02a\x01yb")
-        self.assertEqual((self.front.number, self.typed), (2, {1: "\x02a", 2: "b"}))
+        self.assertEqual((self.front.views.number, self.typed), (2, {1: "\x02a", 2: "b"}))
         other = self.made_folder() / "other.conf"
         other.write_text("set -g mouse off\nfoo\n", encoding="utf-8")
         self.front.runner.typed(f"source-file {other}")
-        self.assertEqual((self.front.display.told, self.front.commands.pointing.is_on, self.front.prefix),
+        self.assertEqual((self.front.display.told, self.front.views.commands.pointing.is_on, self.front.settings.prefix),
                          ("other.conf:2: foo isn't there in roam", False, "C-a"))
         self.read("")
-        self.assertEqual((self.front.prefix, self.front.modes.keymap.own), ("C-b", {}))
+        self.assertEqual((self.front.settings.prefix, self.front.keyboard.modes.keymap.own), ("C-b", {}))
 
     def test_refused(self):
         """Where a variable can't be gone by that is told, and the prefix stays."""
         with mock.patch.dict(os.environ, ROAM_PREFIX="nosuch"):
             self.read("set -g mouse on\n")
-        self.assertEqual((self.front.prefix, self.front.commands.pointing.is_on), ("C-b", False))
+        self.assertEqual((self.front.settings.prefix, self.front.views.commands.pointing.is_on), ("C-b", False))
         self.assertIn("nosuch", self.front.display.told)
 
     def test_row(self):
@@ -761,7 +762,7 @@ class Hidden(Windows):
         self.type(b"\x02t")
         self.assertIn("<size 25 80>", self.typed[1])
         self.place.told = places(25, 80)
-        self.front.commands.panes_changed()
+        self.front.views.commands.panes_changed()
         self.turn()
         self.assertEqual(self.rows(), ("window 1", "window 1"))
         self.type(b"\x025")

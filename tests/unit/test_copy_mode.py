@@ -10,7 +10,8 @@ from copied import CASES, KNOWN, TEXT, answer_all, copied_by_roam, found_row, mo
 from emulated import Emulated
 from roam_live.config.environment import wants_vi
 from roam_live.frontend.copymode import clipboard, motions, selection
-from roam_live.frontend.copymode.commands import COMMANDS, COPY, LEAVE, MOVES, REFRESH, STEPS
+from roam_live.frontend.copymode.actions import COPY, LEAVE, REFRESH
+from roam_live.frontend.copymode.commands import COMMANDS, MOVES, STEPS
 from roam_live.frontend.copymode.keys import EMACS, VI, Count, KeyPairs, Prompt
 from roam_live.frontend.copymode.mode import CopyMode
 from roam_live.frontend.copymode.render import LinePainter, sgr_of

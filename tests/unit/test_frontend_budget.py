@@ -43,7 +43,7 @@ class Budget(Fronts):
         select.select([self.slave], [], [], 5)
         self.front.turn()
         typed = read_now(client)
-        client.send(record("taken", self.front.link.lines) + record("paint", data=b"\x1b[5;10Ha\x1b[0m"))
+        client.send(record("taken", self.front.views.link.lines) + record("paint", data=b"\x1b[5;10Ha\x1b[0m"))
         self.front.turn()
         select.select([self.master], [], [], 5)
         return typed, self.shown()
@@ -89,6 +89,6 @@ class Budget(Fronts):
         self.connect()
         self.paints()
         keys = CountedKeys([Key("x", "x")] * 1000)
-        with mock.patch.object(self.front.modes.keymap, "joined", lambda keys: keys):
+        with mock.patch.object(self.front.keyboard.modes.keymap, "joined", lambda keys: keys):
             self.front.keyboard.typed(keys)
-        self.assertEqual((keys.copied, self.front.link.waiting.count(b"char 78")), (0, 1000))
+        self.assertEqual((keys.copied, self.front.views.link.waiting.count(b"char 78")), (0, 1000))

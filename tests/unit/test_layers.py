@@ -13,6 +13,8 @@ PACKAGE = TOOLS / "roam_live"
 
 # From the lowest layer to the highest. Packages on the same line do not import each other.
 LAYERS = (("common",), ("protocol",), ("input", "session"), ("config",), ("frontend", "host", "relay"), ("cli",))
+# The packages in which no two modules import each other, and no part knows its owner.
+ACYCLIC = ("input", "config", "frontend")
 LAYER = {package: number for number, packages in enumerate(LAYERS) for package in packages}
 
 
@@ -38,6 +40,27 @@ def modules_named_in(text: str) -> "list[tuple[int, str]]":
     """Return the line and the name of each module that a text names as a string, as for a later import."""
     strings = [node for node in ast.walk(ast.parse(text)) if isinstance(node, ast.Constant) and isinstance(node.value, str)]
     return [(node.lineno, node.value) for node in strings if re.fullmatch(r"roam_live(\.[a-z_]+)+", node.value)]
+
+
+def modules_imported_by(text: str) -> "list[tuple[int, str]]":
+    """Return the line and the dotted name of each module that a module imports, or imports a name from."""
+    found = []
+    for line, name in imports_in(text):
+        found += [(line, name), (line, name.rpartition(".")[0])]
+    return found
+
+
+def owners_in(name: str, text: str) -> "list[str]":
+    """Return where an object gives itself to one that it makes: a call of a class has `self` among its arguments."""
+    faults = []
+    for node in ast.walk(ast.parse(text)):
+        if not isinstance(node, ast.Call):
+            continue
+        called = node.func.attr if isinstance(node.func, ast.Attribute) else node.func.id if isinstance(node.func, ast.Name) else ""
+        given = [*node.args, *(keyword.value for keyword in node.keywords)]
+        if called[:1].isupper() and any(isinstance(one, ast.Name) and one.id == "self" for one in given):
+            faults.append(f"{name}:{node.lineno}: gives itself to what it makes")
+    return faults
 
 
 def faults_in(name: str, text: str) -> "list[str]":
@@ -80,6 +103,24 @@ class Layers(Case):
             graph[package] |= {package_of(module) for _, module in imports_in(text)} - {package}
         order = list(graphlib.TopologicalSorter(graph).static_order())
         self.assertEqual((order[0], order[-1], sorted(order)), ("common", "cli", sorted(LAYER)))
+
+    def test_no_module_cycle(self):
+        """The modules of the packages that a person sees and types at have such an order too, types and late imports counted."""
+        known = {name.removesuffix(".py").replace("/", "."): text for name, text in texts().items()}
+        known = {name: text for name, text in known.items() if package_of(name) in ACYCLIC}
+        graph = {name: {module for _, module in modules_imported_by(text) if module in known} for name, text in known.items()}
+        list(graphlib.TopologicalSorter(graph).static_order())
+
+    def test_no_owner(self):
+        """No object there gives itself to one that it makes, so that no part has a field for its owner."""
+        self.assertEqual([fault for name, text in texts().items() if name.split("/")[1] in ACYCLIC for fault in owners_in(name, text)], [])
+
+    def test_owner_found(self):
+        """An object that is given to a part as it is made is found, and a call of its own isn't."""
+        for text, lines in (("class A:\n    def f(self):\n        self.b = B(1, self)\n", [3]),
+                            ("class A:\n    def f(self):\n        return b.Part(one=self)\n", [3]),
+                            ("class A:\n    def f(self):\n        self.b = B(self.f, lambda: self.x)\n        print(self)\n        self.add(self)\n", [])):
+            self.assertEqual(owners_in("a.py", text), [f"a.py:{line}: gives itself to what it makes" for line in lines], text)
 
     def test_found(self):
         """An upward import is found wherever it is, and a sideways or relative one too."""

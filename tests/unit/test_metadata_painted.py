@@ -5,7 +5,7 @@ import itertools
 import random
 import re
 
-from roam_live.frontend import app
+from roam_live.frontend import app, window_views
 from roam_live.frontend.app import FrontEnd
 from roam_live.protocol.panes_client import PanesSubscriber
 from aids import StillLoop, closed, read_now, record
@@ -63,14 +63,14 @@ class Written(Fronts):
     def setUp(self):
         self.environment(TERM="xterm")
         super().setUp()
-        self.patch_of(app, "PanesSubscriber", PanesSubscriber)
-        self.tells = {name: self.listening(self.place.folder / name) for name in ("panes", "host")}
+        self.patch_of(window_views, "PanesSubscriber", PanesSubscriber)
+        self.tells = {name: self.listening(self.place.folder / name) for name in ("panes", "bells")}
 
     def begin(self):
         """A front end that sets the clipboard, at sockets at which panes and notices are told."""
         self.front = FrontEnd(self.place, False, "C-b", "adaptive", lambda places: False, StillLoop(), has_clips=True)
         self.addCleanup(lambda outer=self.front.display.outer: closed(outer.end))
-        self.addCleanup(self.front.link.close)
+        self.addCleanup(self.front.views.link.close)
         self.connect()
         ends = [self.taken(self.tells[name]) for name in ("panes", "host")]
         ends[0].send(b"1 1 1 23 39 1\n2 1 41 23 40 1\nfocus 1\nclients 1 of 64\nwatchers 0 of 16\n")

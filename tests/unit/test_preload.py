@@ -135,7 +135,7 @@ class Gone(Fronts):
         """So is what is done at a moment, or as something comes; copy mode that is half open is closed."""
         self.connect()
         self.paints()
-        commands = self.front.commands
+        commands = self.front.views.commands
         commands.copying.state.is_opening = True
         commands.copying.state.events.append(None)
 

@@ -128,7 +128,7 @@ class AtFrontEnd(Case):
         self.patch_of(spawn_commands, "random_name", return_value=NAME)
         self.commands.handing = Handing(self.acts, self.commands.zooming)
         self.commands.handing.windows = self.commands.windows
-        self.runner = CommandRunner(mock.Mock(commands=self.commands, number=1), self.loop)
+        self.runner = CommandRunner(mock.Mock(loop=self.loop, **{"commands.return_value": self.commands}), mock.Mock())
 
     def told(self):
         """What the person is told."""

@@ -132,7 +132,7 @@ class Keys(Fronts):
         """It is told of keys that aren't taken while the session is painted."""
         client = self.connect()
         self.paints()
-        client.send(record("taken", self.front.link.lines))
+        client.send(record("taken", self.front.views.link.lines))
         self.turn()
         self.type(b"x")
         for _ in range(3):
@@ -140,7 +140,7 @@ class Keys(Fronts):
             client.send(record("paint", data=b"y"))
             self.turn()
         self.assertIn(NO_KEYS.encode(), self.shown())
-        client.send(record("taken", self.front.link.lines))
+        client.send(record("taken", self.front.views.link.lines))
         self.turn()
         self.now += 1
         self.turn()

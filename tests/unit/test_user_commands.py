@@ -142,8 +142,8 @@ class Line(Case):
     """The command line, and what commands do."""
 
     def setUp(self):
-        self.loop, self.commands = Loop(), mock.Mock()
-        self.runner = CommandRunner(mock.Mock(commands=self.commands, number=2), self.loop)
+        self.loop, self.commands = Loop(), mock.Mock(**{"session.number": 2})
+        self.runner = CommandRunner(mock.Mock(loop=self.loop, **{"commands.return_value": self.commands}), mock.Mock())
 
     def test_edited(self):
         """Lines before are had by arrows, and names are completed as far as there is one way."""
@@ -163,10 +163,10 @@ class Line(Case):
                                           (True, "setw synchronize-panes off", True), (True, "set -w synchronize-panes", True),
                                           (False, "setw synchronize-panes", True), (True, "setw -u synchronize-panes", True),
                                           (False, "synchronize-panes", True)):
-            self.runner.front.keyboard.reset_mock()
+            self.runner.keyboard.grant.reset_mock()
             self.commands.synchronizing.is_on.return_value = was_on
             self.runner.typed(line)
-            self.assertEqual([one.args[0] for one in self.runner.front.keyboard.grant.call_args_list], ["synchronize"] * is_switched, line)
+            self.assertEqual([one.args[0] for one in self.runner.keyboard.grant.call_args_list], ["synchronize"] * is_switched, line)
             self.assertNotIn("synchronize-panes", environment.BY_FILE)
         self.runner.typed("setw synchronize-panes perhaps")
         self.commands.display.tell.assert_called_with("synchronize-panes is 'perhaps', and may be on or off", 4.0)
@@ -174,13 +174,13 @@ class Line(Case):
     def test_done(self):
         """Commands are done in order, up to one that can't be."""
         self.runner.typed("splitw -h; send-keys 'a b' ; nosuch; killp")
-        self.assertEqual([one.args[0] for one in self.runner.front.keyboard.grant.call_args_list], ["split right"])
+        self.assertEqual([one.args[0] for one in self.runner.keyboard.grant.call_args_list], ["split right"])
         self.assertEqual([one.args for one in self.commands.type_key.call_args_list], [(["char 61", "char 20", "char 62"],)])
         self.commands.display.tell.assert_called_with("nosuch is no command of roam", 4.0)
         self.assertEqual(list(self.runner.lines), ["splitw -h; send-keys 'a b' ; nosuch; killp"])
         for wrong in ("splitw 'x", "bind { killp }"):
             self.runner.typed(wrong)
-        self.assertEqual(len(self.runner.front.keyboard.grant.call_args_list), 1)
+        self.assertEqual(len(self.runner.keyboard.grant.call_args_list), 1)
 
     def test_shell(self):
         """The last line of what a shell says in the background is told, printable; nothing waits for it."""
@@ -210,10 +210,10 @@ class Line(Case):
 
     def test_told(self):
         """A text is told with its formats filled; one of which roam hasn't all is refused."""
-        self.runner.front.filled.side_effect = lambda text: text.replace("#S", "main")
+        self.runner.settings.filled.side_effect = lambda text: text.replace("#S", "main")
         self.runner.typed("display '#S is it'")
         self.commands.display.tell.assert_called_once_with("main is it", 4.0)
-        self.runner.front.filled.side_effect = ValueError("#{pid} isn't there in roam")
+        self.runner.settings.filled.side_effect = ValueError("#{pid} isn't there in roam")
         self.runner.typed("display '#{pid}'")
         self.commands.display.tell.assert_called_with("#{pid} isn't there in roam", 4.0)
 
@@ -226,7 +226,7 @@ class Line(Case):
         found = {("prefix", "r"): None, ("prefix", "v"): Binding([["split-window", "-h"]], False),
                  ("root", "f5"): Binding([["next-window"]], False)}
         self.assertEqual((OWN.found.bindings, OWN.is_typed), (found, True))
-        self.assertEqual(self.runner.front.go_by_settings.call_count, 3)
+        self.assertEqual(self.runner.settings.go_by.call_count, 3)
         for line, why in (("bind v nosuch", "nosuch is no command of roam, so v isn't bound"),
                           ("bind w swapp", "swapp is no command of roam, so w isn't bound"),
                           ("bind v split-window -Q", "v isn't bound: split-window: it has no -Q here"),
@@ -242,7 +242,7 @@ class Line(Case):
         """An option is set at this terminal; one that can't be is told."""
         self.runner.typed("set -g nosuch 1")
         self.commands.display.tell.assert_called_with("nosuch is no option of roam", 4.0)
-        self.runner.front.go_by_settings.assert_not_called()
+        self.runner.settings.go_by.assert_not_called()
 
 
 if __name__ == "__main__":

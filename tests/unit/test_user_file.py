@@ -10,7 +10,7 @@ from roam_live.config import environment as config_environment
 from roam_live.config.styled_text import Styled
 from roam_live.config.user_file import OWN, default_command, settings_path, undone
 from roam_live.frontend.display import Display
-from roam_live.frontend.status_segments import StatusRow
+from roam_live.frontend.status_segments import StatusRow, format_values
 
 # Lines of a file, a variable of the environment and its value, what is asked, and the answer.
 CHOSEN = (
@@ -117,9 +117,8 @@ class Row(Case):
         self.display = Display(self.loop, lambda line: None)
         self.display.asked, self.display.told_size, self.display.labels = (23, 40), (24, 40), "[1]"
         told = mock.Mock(names={2: ""}, runs={2: "vim"})
-        self.front = mock.Mock(display=self.display, number=2, **{"windows.told": told, "panes.title_and_shape": ("a title", 0)})
-        self.front.session.name = "main:2"
-        self.row = StatusRow(self.front, self.loop)
+        panes = mock.Mock(title_and_shape=("a title", 0))
+        self.row = StatusRow(self.display, self.loop, lambda: format_values("main:2", 2, told, panes, False))
         self.addCleanup(config_environment.choose_by_file, {})
 
     def choose(self, left, right):

@@ -7,12 +7,12 @@ from collections import deque
 from collections.abc import Callable
 
 from roam_live.common.errors import reason
-from roam_live.common.event_loop import Loop
 from roam_live.common.io import read
 from roam_live.common.text import printable
 from roam_live.config.command_table import BadCommand, CommandWish, asked_by, completed
 from roam_live.config.environment import BY_FILE, choose_by_file
 from roam_live.config.user_file import OWN
+from roam_live.frontend.bindings import OWN as KEY
 from roam_live.frontend.line_editor import AskedLine
 from roam_live.frontend.synchronize_panes import OPTION
 from roam_live.input.keys import Key, acts_of
@@ -20,39 +20,9 @@ from roam_live.protocol.window_lines import name_word
 
 TYPE_CHECKING = False
 if TYPE_CHECKING:
-    from typing import Protocol
-
-    from roam_live.frontend.commands import Commands
-
-    class Grants(Protocol):
-        """What grants wishes."""
-
-        def grant(self, wish: str) -> None:
-            """Do what the front end itself is asked for."""
-
-    class AtTerminal(Protocol):
-        """A front end, as commands are done there."""
-
-        @property
-        def keyboard(self) -> Grants:
-            """What grants wishes there."""
-
-        @property
-        def commands(self) -> Commands:
-            """What is done of what is typed in the window where the person is."""
-
-        @property
-        def number(self) -> int:
-            """That window's number, 0 where the session has no windows."""
-
-        def read_settings(self, path: str = "") -> None:
-            """Goes by the settings file as it is now, or by one that is named too."""
-
-        def go_by_settings(self, otherwise: str = "") -> None:
-            """Goes by the settings as they are now."""
-
-        def filled(self, text: str) -> str:
-            """What a format says now. ValueError tells what of it isn't there in roam."""
+    from roam_live.common.event_loop import Loop
+    from roam_live.frontend.interpreter import Interpreter
+    from roam_live.frontend.settings import FrontSettings
 
 # So many seconds a line stands that a command tells; so many lines that were typed are kept, each so long; and so many programs run at
 # once, of which so much is heard.
@@ -96,15 +66,15 @@ class CommandLine(AskedLine):
 class ShellRun:
     """A command of the shell that runs beside: what it says is shown, and where it runs in the background the last line is told."""
 
-    def __init__(self, runner: CommandRunner, command: str, is_behind: bool) -> None:
-        self.runner, self.command, self.is_behind = runner, command, is_behind
+    def __init__(self, loop: Loop, command: str, shows: Callable[[list[str]], object]) -> None:
+        self.loop, self.command, self.shows = loop, command, shows
         self.heard = b""
         self.process = subprocess.Popen(["/bin/sh", "-c", command], stdin=subprocess.DEVNULL, stdout=subprocess.PIPE,
                                         stderr=subprocess.STDOUT, start_new_session=True)
         assert self.process.stdout is not None
         self.end = self.process.stdout.fileno()
         os.set_blocking(self.end, False)
-        runner.loop.add(self.end, self.hear)
+        loop.add(self.end, self.hear)
 
     def hear(self) -> None:
         """Takes what it says, of which the end is kept, until it says no more."""
@@ -112,11 +82,11 @@ class ShellRun:
         if chunk:
             self.heard = (self.heard + chunk)[-MOST_HEARD:]
         elif chunk == b"":
-            self.runner.loop.remove(self.end)
+            self.loop.remove(self.end)
             if self.process.stdout:
                 self.process.stdout.close()
             lines = self.heard.decode("utf-8", "replace").rstrip().splitlines()
-            self.runner.show([printable(line.expandtabs()) for line in lines], self.is_behind)
+            self.shows([printable(line.expandtabs()) for line in lines])
 
     def has_ended(self) -> bool:
         """Whether its shell has ended."""
@@ -126,19 +96,19 @@ class ShellRun:
 class CommandRunner:
     """Does commands, at the window where the person is."""
 
-    def __init__(self, front: AtTerminal, loop: Loop) -> None:
-        self.front, self.loop = front, loop
+    def __init__(self, keyboard: Interpreter, settings: FrontSettings) -> None:
+        self.keyboard, self.settings, self.loop = keyboard, settings, keyboard.loop
         self.lines: deque[str] = deque(maxlen=MOST_LINES)
         self.runs: list[ShellRun] = []
 
     def tell(self, text: str) -> None:
         """Tells a line in the last row."""
         if text:
-            self.front.commands.display.tell(text, SAID)
+            self.keyboard.commands().display.tell(text, SAID)
 
     def show(self, lines: list[str], is_behind: bool) -> None:
         """Shows lines in a list, where there are several; of one, or where a list can't be, the last is told."""
-        if is_behind or len(lines) < 2 or not self.front.commands.lists.show_lines(lines):
+        if is_behind or len(lines) < 2 or not self.keyboard.commands().lists.show_lines(lines):
             self.tell(lines[-1].strip() if lines else "")
 
     def run_all(self, commands: list[list[str]]) -> None:
@@ -149,7 +119,7 @@ class CommandRunner:
                 if asked.begins:
                     # What follows is for the pane that is there then.
                     rest = commands[place + 1 :]
-                    self.front.commands.handing.begin(asked.wish, asked.begins, lambda: self.run_all(rest))
+                    self.keyboard.commands().handing.begin(asked.wish, asked.begins, lambda: self.run_all(rest))
                     return
                 self.do(asked)
         except BadCommand as fault:
@@ -157,7 +127,7 @@ class CommandRunner:
 
     def do(self, asked: CommandWish) -> None:
         """Does what a command asks for."""
-        commands = self.front.commands
+        commands = self.keyboard.commands()
         does: dict[str, Callable[[str], object]] = {
             "tell": self.tell_text, "window name": self.name_window, "command line": self.ask,
             "prefix": self.type_prefix, "settings": self.read_settings}
@@ -174,13 +144,24 @@ class CommandRunner:
             does[asked.wish](asked.text)
         else:
             for _ in range(int(asked.text) if asked.text.isdigit() else 1):
-                self.front.keyboard.grant(asked.wish)
+                self.keyboard.grant(asked.wish)
+
+    def run_wish(self, wish: str) -> None:
+        """Does what a key of a person's own asks for, or what a command line is for."""
+        word, _, rest = wish.partition(" ")
+        if word != KEY:
+            self.do(CommandWish([], wish, ""))
+            return
+        table, _, name = rest.partition(" ")
+        binding = self.keyboard.modes.keymap.own.get((table, name))
+        if binding:
+            self.run_all(binding.commands)
 
     # ---- the line
 
     def ask(self, text: str = "") -> None:
         """Asks for a command."""
-        self.front.commands.acts.ask_line(CommandLine(self.lines), "command")
+        self.keyboard.commands().acts.ask_line(CommandLine(self.lines), "command")
 
     def typed(self, text: str) -> None:
         """Does what was typed."""
@@ -203,36 +184,36 @@ class CommandRunner:
     def tell_text(self, text: str) -> None:
         """Tells a text, in which formats stand."""
         try:
-            self.tell(printable(self.front.filled(text)))
+            self.tell(printable(self.settings.filled(text)))
         except ValueError as fault:
             raise BadCommand(str(fault)) from None
 
     def type_prefix(self, text: str) -> None:
         """Types the prefix."""
-        prefix = self.front.commands.modes.keymap.prefix
-        self.front.commands.type_key(acts_of(Key(prefix, prefix)))
-        self.front.commands.synchronizing.settle()
+        prefix = self.keyboard.commands().modes.keymap.prefix
+        self.keyboard.commands().type_key(acts_of(Key(prefix, prefix)))
+        self.keyboard.commands().synchronizing.settle()
 
     def read_settings(self, text: str) -> None:
         """Reads the settings file anew, or a file that is named too."""
-        self.front.read_settings(text)
+        self.settings.read(text)
 
     def name_window(self, text: str) -> None:
         """Gives the window a name, or asks for one."""
-        commands = self.front.commands
+        commands = self.keyboard.commands()
         if not text:
-            self.front.keyboard.grant("window name")
-        elif not commands.windows or not self.front.number:
+            self.keyboard.grant("window name")
+        elif not commands.windows or not commands.session.number:
             raise BadCommand(ELSEWHERE)
         elif not commands.link.is_read_only:
-            commands.windows.say(f"name {self.front.number} {name_word(text)}")
+            commands.windows.say(f"name {commands.session.number} {name_word(text)}")
 
     def set_option(self, words: list[str]) -> None:
         """Sets an option, at this terminal and until the settings are read anew."""
         from roam_live.config.loader import FileSettings
         from roam_live.config.parser import BadWord
 
-        found, synchronizing = FileSettings(commands=()), self.front.commands.synchronizing
+        found, synchronizing = FileSettings(commands=()), self.keyboard.commands().synchronizing
         found.values.update(BY_FILE)
         found.values[OPTION] = "on" if synchronizing.is_on() else "off"
         try:
@@ -243,9 +224,9 @@ class CommandRunner:
         is_on, others = found.values.pop(OPTION, "off") == "on", {OPTION: BY_FILE[OPTION]} if OPTION in BY_FILE else {}
         choose_by_file({**found.values, **others})
         if is_on == synchronizing.is_on():
-            self.front.go_by_settings()
+            self.settings.go_by()
         else:
-            self.front.keyboard.grant("synchronize")
+            self.keyboard.grant("synchronize")
 
     def bind(self, words: list[str]) -> None:
         """Binds a key, or unbinds one, at this terminal and until the settings are read anew."""
@@ -255,7 +236,7 @@ class CommandRunner:
             OWN.bind(words)
         except BadWord as fault:
             raise BadCommand(str(fault)) from None
-        self.front.go_by_settings()
+        self.settings.go_by()
 
     def run_shell(self, text: str, is_behind: bool) -> None:
         """Runs a command of the shell beside, or in the background."""
@@ -263,6 +244,6 @@ class CommandRunner:
         if len(self.runs) >= MOST_RUNS:
             raise BadCommand(f"{MOST_RUNS} commands of the shell run, and no more")
         try:
-            self.runs.append(ShellRun(self, text, is_behind))
+            self.runs.append(ShellRun(self.loop, text, lambda lines: self.show(lines, is_behind)))
         except (OSError, ValueError) as fault:
             raise BadCommand(f"no shell can be run: {reason(fault) if isinstance(fault, OSError) else fault}") from None

@@ -13,7 +13,8 @@ from roam_live.frontend.mouse import Pointing
 from roam_live.frontend.pane_actions import PaneActions
 from roam_live.frontend.preload import REPLACED
 from roam_live.frontend.resize_keys import BorderKeys
-from roam_live.frontend.session_size import SessionSize, SizeFollower
+from roam_live.frontend.session_size import SessionSize
+from roam_live.frontend.size_follower import SizeFollower
 from roam_live.frontend.sizes import NO_SIZE
 from roam_live.frontend.spawn_commands import Handing
 from roam_live.frontend.synchronize_panes import Synchronizing
@@ -28,7 +29,7 @@ TYPE_CHECKING = False
 if TYPE_CHECKING:
     from roam_live.common.event_loop import Loop
     from roam_live.common.tty import Size
-    from roam_live.frontend.windows import WindowWishes
+    from roam_live.frontend.interfaces import OtherWindows
     from roam_live.protocol.client_link import ClientLink
     from roam_live.protocol.host_client import HostClient
     from roam_live.protocol.panes import Places
@@ -70,7 +71,7 @@ class Commands:
         self.lists, self.handing = Lists(acts, self.copying.state.is_on), Handing(acts, self.zooming)
         self.synchronizing = Synchronizing(acts, self.zooming.is_on)
         # The windows of the session, where it may have several.
-        self.windows: WindowWishes | None = None
+        self.windows: OtherWindows | None = None
         # The session's size and the labels of its panes, as they were told last.
         self.known: tuple[Size, str] = (NO_SIZE, "")
         self.join_parts()
@@ -232,7 +233,7 @@ class Commands:
 
     # ---- from window to window
 
-    def has_windows(self, windows: WindowWishes) -> None:
+    def has_windows(self, windows: OtherWindows) -> None:
         """Know the windows of the session."""
         self.windows = self.panes.windows = self.handing.windows = windows
         self.pointing.goes_to = windows.go_to_shown

@@ -27,8 +27,8 @@ if TYPE_CHECKING:
     from roam_live.frontend.commands import Commands
     from roam_live.frontend.display import Display
     from roam_live.frontend.effects import Effect
+    from roam_live.frontend.interfaces import OtherWindows
     from roam_live.frontend.modes import ModeStack
-    from roam_live.frontend.windows import WindowWishes
     from roam_live.input.keys import Key
 
 # What a wish begins with that changes a window.
@@ -64,7 +64,7 @@ class Interpreter:
         self.keys = Keys()
         # The list of keys as it is shown, or was last.
         self.help = ""
-        self.windows: WindowWishes | None = None
+        self.windows: OtherWindows | None = None
         # What does the commands of a person's own keys; what takes a command that was typed; and what returns the commands of a window
         # that the person left, None if nothing of it goes on.
         self.runs: Callable[[str], object] = lambda wish: None

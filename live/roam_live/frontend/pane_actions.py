@@ -6,8 +6,8 @@ from roam_live.session.foreground import told
 
 TYPE_CHECKING = False
 if TYPE_CHECKING:
+    from roam_live.frontend.interfaces import OtherWindows
     from roam_live.frontend.window_acts import WindowActs
-    from roam_live.frontend.windows import WindowWishes
     from roam_live.frontend.zoom import Zooming
 
 # What is told where no pane is known that was in focus before.
@@ -20,7 +20,7 @@ class PaneActions:
     def __init__(self, acts: WindowActs, zooming: Zooming) -> None:
         self.acts, self.zooming = acts, zooming
         # The windows of the session, if it may have several.
-        self.windows: WindowWishes | None = None
+        self.windows: OtherWindows | None = None
         # The panes that were in focus, the newest first, each by its making: another pane of the number is another.
         self.makings: list[str] = []
 

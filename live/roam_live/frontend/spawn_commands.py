@@ -11,8 +11,8 @@ from roam_live.protocol.spawn_request import LATE, RAN, READY, REFUSED, WAITS, B
 
 TYPE_CHECKING = False
 if TYPE_CHECKING:
+    from roam_live.frontend.interfaces import OtherWindows
     from roam_live.frontend.window_acts import WindowActs
-    from roam_live.frontend.windows import WindowWishes
     from roam_live.frontend.zoom import Zooming
 
 NOBODY = "not run: the pty host isn't there just now"
@@ -34,7 +34,7 @@ class Handing:
     def __init__(self, acts: WindowActs, zooming: Zooming) -> None:
         self.acts, self.zooming = acts, zooming
         # The windows of the session, if it may have several.
-        self.windows: WindowWishes | None = None
+        self.windows: OtherWindows | None = None
         self.waits: dict[str, Callable[[str], object]] = {}
 
     def begin(self, wish: str, begins: Begins, goes_on: Callable[[], object], until: float = 0.0) -> None:

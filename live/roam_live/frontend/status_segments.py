@@ -3,6 +3,7 @@ from __future__ import annotations
 
 import os
 import time
+from collections.abc import Callable
 
 from roam_live.common.event_loop import Loop
 from roam_live.config.environment import STATUS_INTERVAL, number_of, text_of
@@ -11,7 +12,9 @@ TYPE_CHECKING = False
 if TYPE_CHECKING:
     from roam_live.config.formats import Format
     from roam_live.config.styled_text import Styled
-    from roam_live.frontend.app import FrontEnd
+    from roam_live.frontend.display import Display
+    from roam_live.frontend.windows_client import WindowsState
+    from roam_live.protocol.panes_client import PanesSubscriber
 
 OPTIONS = ("status-left", "status-right")
 
@@ -19,18 +22,25 @@ OPTIONS = ("status-left", "status-right")
 MOMENT = "status"
 
 
-class StatusRow:
-    """What stands at both ends of the last row, of one front end."""
+def format_values(session: str | None, number: int, told: WindowsState, panes: PanesSubscriber, is_zoomed: bool) -> dict[str, str]:
+    """Return what the words of formats stand for in a window of a session."""
+    name, host = told.names.get(number) or told.runs.get(number, ""), os.uname().nodename
+    return {"session": (session or "").removesuffix(f":{number}"), "window": name or "", "index": str(number or 1),
+            "flags": "*" + "Z" * is_zoomed, "pane": str(panes.places.focus) if panes.places else "", "title": panes.title_and_shape[0],
+            "host": host, "short_host": host.partition(".")[0]}
 
-    def __init__(self, front: FrontEnd, loop: Loop) -> None:
-        self.front, self.loop = front, loop
+
+class StatusRow:
+    """What stands at both ends of the last row, of one front end. A call returns what the words of formats stand for."""
+
+    def __init__(self, display: Display, loop: Loop, values: Callable[[], dict[str, str]]) -> None:
+        self.display, self.loop, self.values = display, loop, values
         self.formats: list[Format] = []
-        self.host = os.uname().nodename
 
     def choose(self) -> list[str]:
         """Goes by the formats that are chosen now; tells what of them isn't there, a line each."""
         texts = {option: text_of(option) for option in OPTIONS}
-        display, self.formats = self.front.display, []
+        display, self.formats = self.display, []
         self.loop.drop(MOMENT)
         wrong: list[str] = []
         if any(texts.values()):
@@ -45,7 +55,7 @@ class StatusRow:
 
     def tick(self) -> None:
         """Has the row say what it says now, and again once a clock in it goes on."""
-        self.front.display.put_line()
+        self.display.put_line()
         if self.formats:
             from roam_live.config.formats import changes_in
 
@@ -70,13 +80,3 @@ class StatusRow:
         if read.wrong:
             raise ValueError(f"{read.wrong[0][:40]} isn't there in roam")
         return "".join(one.text for one in filled(read, self.values(), time.time()))
-
-    def values(self) -> dict[str, str]:
-        """What the words of formats stand for."""
-        front, told = self.front, self.front.windows.told
-        places, number = front.panes.places, front.number
-        name = told.names.get(number) or told.runs.get(number, "")
-        session = (front.session.name or "").removesuffix(f":{number}")
-        return {"session": session, "window": name or "", "index": str(number or 1), "flags": "*" + "Z" * bool(front.display.zoomed),
-                "pane": str(places.focus) if places else "", "title": front.panes.title_and_shape[0], "host": self.host,
-                "short_host": self.host.partition(".")[0]}

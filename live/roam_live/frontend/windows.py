@@ -4,9 +4,9 @@ from __future__ import annotations
 
 import contextlib
 import re
+from collections.abc import Callable
 
 from roam_live.common.errors import Fault, reason
-from roam_live.common.event_loop import Loop
 from roam_live.common.text import printable
 from roam_live.common.tty import LEAST, is_large_enough, largest
 from roam_live.frontend.effects import SendRequest
@@ -20,50 +20,8 @@ from roam_live.session.foreground import told
 
 TYPE_CHECKING = False
 if TYPE_CHECKING:
-    from typing import Protocol
-
-    from roam_live.frontend.commands import Commands
-    from roam_live.frontend.display import Display
+    from roam_live.frontend.window_views import WindowViews
     from roam_live.input.keys import Key
-    from roam_live.protocol.host_client import HostLink
-    from roam_live.protocol.session_interface import AnySession
-
-    class Keyboard(Protocol):
-        """What a person types."""
-
-        def typed(self, keys: list[Key]) -> None:
-            """Take keys."""
-
-        def reported(self, key: Key) -> None:
-            """Take what the terminal reports."""
-
-    class AtWindow(Protocol):
-        """A front end, as it is at one window of a session."""
-
-        session: AnySession
-        display: Display
-        host_link: HostLink
-
-        @property
-        def keyboard(self) -> Keyboard:
-            """What the person types."""
-
-        @property
-        def commands(self) -> Commands:
-            """What is done of what is typed in the window."""
-
-        @property
-        def number(self) -> int:
-            """The window's number, 0 where the session has no windows."""
-
-        def go(self, number: int) -> None:
-            """Goes to another window; Fault tells why that can't be."""
-
-        def reached(self, number: int) -> AnySession | None:
-            """The window of a number, where one is there that isn't about to be ended."""
-
-        def forget(self, number: int) -> None:
-            """Waits for nothing more of a window that is gone."""
 
 
 # What is told to who had a window opened.
@@ -110,8 +68,11 @@ class AskedName(AskedLine):
 class WindowWishes:
     """The windows of a session at one front end. A session that can't have others has none here."""
 
-    def __init__(self, front: AtWindow, loop: Loop) -> None:
-        self.front, self.loop = front, loop
+    def __init__(self, views: WindowViews) -> None:
+        self.views, self.display, self.loop = views, views.display, views.loop
+        # What takes keys that waited, and what the terminal reports.
+        self.types: Callable[[list[Key]], object] = lambda keys: None
+        self.reports: Callable[[Key], object] = lambda key: None
         self.told = WindowsState()
         # Where the person was before, the last one at the end.
         self.visited: list[int] = []
@@ -126,26 +87,30 @@ class WindowWishes:
         self.opens = self.unsaid = ""
         # Whether the person stays where he is once a window is opened.
         self.stays = False
-        self.link = front.host_link
+        self.link = WindowsLink(self.path, self.loop, self.take, self.told.begin, self.lose)
+
+    def path(self) -> str:
+        """The socket that tells of the windows: that of the window where the person is."""
+        return os.path.join(self.views.acts.session.folder or "", "host")
 
     def begin(self) -> None:
         """Follows them, where there may be some."""
-        if self.front.number:
-            self.link.follow_windows(self.take, self.told.begin, self.lose)
+        if self.views.number:
+            self.link.connect()
             self.show()
 
     # ---- which there are
 
     def here(self) -> int:
         """The window where the person is."""
-        return self.front.number
+        return self.views.number
 
     def numbers(self) -> list[int]:
         """The numbers of the windows; by the session's folder while nobody tells them."""
         if self.told.is_whole:
             return self.told.numbers()
         with contextlib.suppress(Fault):
-            return [window.number for window in self.front.commands.session.windows() if window.number]
+            return [window.number for window in self.views.acts.session.windows() if window.number]
         # They can't be asked now.
         return [self.here()]
 
@@ -166,9 +131,9 @@ class WindowWishes:
 
     def why_one(self) -> str:
         """Why no other window can be had here; nothing where one can."""
-        if not self.front.number:
-            return FAR if self.front.session.served == "relay" else BY_HAND
-        return ""
+        if not self.views.number:
+            return FAR if self.views.view.session.served == "relay" else BY_HAND
+        return BY_HAND if self.link.is_refused else ""
 
     # ---- what is told
 
@@ -184,7 +149,7 @@ class WindowWishes:
                 continue
             gone = self.told.take(line)
             if gone is not None and line.startswith(f"{BELL} ") and not line.startswith(f"{BELL} {self.here()} "):
-                self.front.display.ring()
+                self.display.ring()
             for number in gone or ():
                 self.gone(number)
         self.show()
@@ -192,7 +157,7 @@ class WindowWishes:
     def lose(self) -> None:
         """Goes on with what was told: the windows are told anew once the connection is there again. Of another machine's session that is
         cut as often as its relay goes another way: a window is asked for again then, which is the same there."""
-        if self.is_opening and self.front.session.served == "relay":
+        if self.is_opening and self.views.view.session.served == "relay":
             self.unsaid = self.opens
         elif self.is_opening and not self.unsaid:
             self.end_opening(NOBODY)
@@ -200,16 +165,16 @@ class WindowWishes:
     def show(self) -> None:
         """Has the last row show the windows, and what is chosen from a list of them."""
         self.told.seen(self.here())
-        numbers, here, last = self.numbers() if self.front.number else [], self.here(), self.last()
+        numbers, here, last = self.numbers() if self.views.number else [], self.here(), self.last()
         self.shown = numbers
         labels = [self.told.label(number, here, last) for number in numbers]
         place = numbers.index(here) if here in numbers else 0
-        display = self.front.display
+        display = self.display
         if display.windows != (labels, place) or display.status:
             # A settings file may have more of a name stand there than a label has.
             display.windows = labels, place
             display.put_line()
-        lists = self.front.commands.lists
+        lists = self.views.lists
         if lists.kind == "windows":
             lists.refresh_windows(self.all_described())
 
@@ -219,17 +184,17 @@ class WindowWishes:
         self.visited = [one for one in self.visited if one in self.numbers()]
         if number == self.here():
             self.leave(number)
-        self.front.forget(number)
+        self.views.forget(number)
 
     def leave(self, number: int) -> bool:
         """Goes where the person was before a window that is gone, or to the one with the nearest number; whether there is one."""
         others = [one for one in self.numbers() if one != number]
         nearest = sorted(others, key=lambda one: (abs(one - number), one))
         for one in [*(one for one in reversed(self.visited) if one in others), *nearest]:
-            if self.front.reached(one):
+            if self.views.reached(one):
                 self.go_to(one)
                 self.visited = [before for before in self.visited if before != number]
-                self.front.display.tell(f"window {number} is gone", SAID)
+                self.display.tell(f"window {number} is gone", SAID)
                 return True
         return False
 
@@ -237,16 +202,15 @@ class WindowWishes:
 
     def grant(self, wish: str) -> None:
         """Does what a person asks for of windows: to go to one, or what somebody who only watches may not."""
-        commands = self.front.commands
         word, _, what = wish.partition(" ")
         why = self.why_one()
         if why:
-            commands.display.tell(why, SAID)
+            self.display.tell(why, SAID)
         elif word == "go":
             self.go_by(what)
         elif what == "list":
             self.list_all()
-        elif commands.link.is_read_only:
+        elif self.views.acts.link.is_read_only:
             return
         elif what == "new":
             self.open()
@@ -258,21 +222,21 @@ class WindowWishes:
     def list_all(self) -> None:
         """Opens a list of the windows over the pane in focus. While it isn't told yet which that is, as where the person has just come
         there, the list waits, and keys for it, but no longer than a moment."""
-        commands, waited = self.front.commands, self.is_listing
-        self.is_listing = not waited and commands.acts.awaits_focus()
+        acts, waited = self.views.acts, self.is_listing
+        self.is_listing = not waited and acts.awaits_focus()
         if self.is_listing:
             self.loop.later("list waits", LISTS, self.list_all)
             return
         self.loop.drop("list waits")
-        if not commands.lists.show_windows(self.all_described(), self.here()):
-            commands.display.tell(NO_ROOM, SAID)
+        if not self.views.lists.show_windows(self.all_described(), self.here()):
+            self.display.tell(NO_ROOM, SAID)
         if waited:
             held, self.held = self.held, []
-            self.front.keyboard.typed(held)
+            self.types(held)
 
     def told_panes(self) -> None:
         """Opens a list that waits for what is told of the panes."""
-        if self.is_listing and not self.front.commands.acts.awaits_focus():
+        if self.is_listing and not self.views.acts.awaits_focus():
             self.list_all()
 
     def go_by(self, what: str) -> None:
@@ -281,7 +245,7 @@ class WindowWishes:
         if what == "last":
             self.go_to(self.last(), "there is no last window")
         elif what == "asked":
-            self.front.commands.acts.ask_line(AskedLine("window", most=2), "window")
+            self.views.acts.ask_line(AskedLine("window", most=2), "window")
         elif what in ("next", "previous"):
             others = [number for number in numbers if (number > here) == (what == "next") and number != here] or numbers
             self.go_to((others[0] if what == "next" else others[-1]) if others else 0, "there is no other window")
@@ -302,9 +266,9 @@ class WindowWishes:
         try:
             if not number:
                 raise Fault(why)
-            self.front.go(number)
+            self.views.go(number)
         except (Fault, OSError) as fault:
-            self.front.display.tell(printable(reason(fault)), SAID)
+            self.display.tell(printable(reason(fault)), SAID)
             return
         self.visited = [*(one for one in self.visited if one not in (here, number)), here]
         self.show()
@@ -316,7 +280,7 @@ class WindowWishes:
     def say(self, line: str) -> bool:
         """Says a line to the host, and tells whether it is there; where it isn't a person is told."""
         if not self.link.peer:
-            self.front.display.tell(NOBODY, SAID)
+            self.display.tell(NOBODY, SAID)
             return False
         self.link.ask(line)
         return True
@@ -326,7 +290,7 @@ class WindowWishes:
     def open(self, handed: str = "", stays: bool = False) -> None:
         """Has a window be opened, of the size that this terminal shows all of, by a command that was handed over where it is named; the
         person goes there, or stays."""
-        size, self.is_opening, self.stays = self.front.display.room(), True, stays
+        size, self.is_opening, self.stays = self.display.room(), True, stays
         why = SMALL if not is_large_enough(size) else MANY if len(self.numbers()) >= MOST_WINDOWS else ""
         if why:
             # What stands behind in the same read was for it too.
@@ -343,48 +307,48 @@ class WindowWishes:
     def tell_late(self) -> None:
         """Tells that a window takes long, and what doesn't wait for it."""
         self.is_late = True
-        self.front.display.tell(OPENING, OPENS)
+        self.display.tell(OPENING, OPENS)
 
     def opened(self, number: int, why: str) -> None:
         """Goes to a window that was opened, with what was typed for it; 0 where none was."""
         if not self.is_opening:
             # Nobody waits for it any more.
-            self.front.display.tell(f"window {number} is there now" if number else f"no window is opened: {why}", SAID)
+            self.display.tell(f"window {number} is there now" if number else f"no window is opened: {why}", SAID)
             return
         if not number:
             self.end_opening(f"no window is opened: {why}")
             return
         # It isn't asked for again.
         self.opens = ""
-        if self.front.reached(number) is None and "window opens" in self.loop.due:
+        if self.views.reached(number) is None and "window opens" in self.loop.due:
             # Of another machine's session it is told here a moment later, by another way.
             self.loop.later("window comes", COMES, lambda: self.opened(number, why))
             return
         held, self.held = self.held, []
         self.end_opening("")
         if self.stays:
-            self.front.display.tell(f"window {number} is there now", SAID)
+            self.display.tell(f"window {number} is there now", SAID)
         else:
             self.go_to(number)
         if self.stays or self.here() == number:
-            self.front.keyboard.typed(held)
+            self.types(held)
         elif held:
-            self.front.display.tell(f"window {number} can't be shown{DROPPED}", SAID)
+            self.display.tell(f"window {number} can't be shown{DROPPED}", SAID)
 
     def end_opening(self, why: str) -> None:
         """Waits for no window, and drops what was typed for it: in another window it would mean something else."""
         for name in ("window opens", "window waits"):
             self.loop.drop(name)
-        was_told = self.front.display.told == OPENING
+        was_told = self.display.told == OPENING
         dropped, self.held, self.unsaid = self.held, [], ""
         self.is_opening = self.is_late = False
         if [key.name for key in dropped if key.name in ("paste", "pasted")][-1:] == ["paste"]:
             # What comes of it still isn't typed either.
-            self.front.commands.acts.refuse_paste(why + DROPPED)
+            self.views.acts.refuse_paste(why + DROPPED)
         if why:
-            self.front.display.tell(why + DROPPED * bool(dropped), SAID)
+            self.display.tell(why + DROPPED * bool(dropped), SAID)
         elif was_told:
-            self.front.display.end_told()
+            self.display.end_told()
 
     def takes(self, keys: list[Key], place: int) -> bool:
         """Takes the keys from this place on, if they are for a window that is being opened, or for a list. Tells whether they were
@@ -399,10 +363,10 @@ class WindowWishes:
         tells itself doesn't wait."""
         for place, key in enumerate(keys):
             if key.name in (COLOUR, ANSWERED):
-                self.front.keyboard.reported(key)
+                self.reports(key)
             elif key.name == INTERRUPT and self.is_late:
                 self.end_opening(NOT_AWAITED)
-                self.front.keyboard.typed(keys[place + 1 :])
+                self.types(keys[place + 1 :])
                 return
             elif key.name != MOUSE:
                 self.held.append(key)
@@ -417,15 +381,15 @@ class WindowWishes:
         """Asks for the name of the window where the person is."""
         number = self.here()
         asked = AskedName(number, self.told.names.get(number, ""))
-        self.front.commands.acts.ask_line(asked, f"name {number}")
+        self.views.acts.ask_line(asked, f"name {number}")
 
     def ask_shut(self) -> None:
         """Shuts the window where the person is: once that is confirmed, where something runs there, or it is the last."""
-        number, busy = self.here(), self.front.commands.session.busy()
+        number, busy = self.here(), self.views.acts.session.busy()
         is_last = self.numbers() in ([], [number])
         runs = "" if busy == {} else f", with {told(busy)}" if busy else ", with whatever runs there"
         if not runs and not is_last:
             self.say(f"shut {number}")
             return
         end = " and end the session, whose last it is" if is_last else ""
-        self.front.commands.acts.ask(f"shut window {number}{runs}{end}? y shuts it", SendRequest(f"shut {number}"))
+        self.views.acts.ask(f"shut window {number}{runs}{end}? y shuts it", SendRequest(f"shut {number}"))

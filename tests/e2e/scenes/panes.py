@@ -10,8 +10,8 @@ import time
 
 from tried import KEEPS_NONE, SESSION, Outer, check, comes, is_part, listed, noted, said, scene, terminals_of, three_panes, tool
 from roam_live.common import tty
-from roam_live.frontend.app import SIZES
-from roam_live.frontend.commands import NEW
+from roam_live.frontend.connection import SIZES
+from roam_live.frontend.size_follower import NEW
 from roam_live.protocol.client_link import ClientLink
 from roam_live.session.foreground import busy_panes
 

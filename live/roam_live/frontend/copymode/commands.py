@@ -4,28 +4,16 @@ from __future__ import annotations
 from collections.abc import Callable
 
 from roam_live.frontend.copymode import motions
+from roam_live.frontend.copymode.actions import LEAVE, REFRESH, CopyWish
 
 TYPE_CHECKING = False
 if TYPE_CHECKING:
-    from roam_live.frontend.copymode.mode import CopyMode
+    from roam_live.frontend.copymode.actions import CopyActions
     from roam_live.frontend.copymode.rows import Position
-    from roam_live.frontend.copymode.selection import CopiedText
     from roam_live.frontend.copymode.viewport import CopyView
 
-# What comes of keys beside what is shown, by a word each: it is left, a new snapshot is wanted, or a text is copied.
-LEAVE, REFRESH, COPY = "leave", "refresh", "copy"
-
-
-class CopyWish:
-    """What a key asks for beside what is shown: a word, and of a copy its text, whether it is left then, and whether the text is put behind
-    that of the newest buffer."""
-
-    def __init__(self, word: str, text: CopiedText | None = None, leaves: bool = False, appends: bool = False) -> None:
-        self.word, self.text, self.leaves, self.appends = word, text, leaves, appends
-
-
 # Where keys move the cursor to, from a place.
-MOVES: dict[str, Callable[[CopyMode, Position], Position]] = {
+MOVES: dict[str, Callable[[CopyActions, Position], Position]] = {
     "cursor-left": lambda mode, position: motions.left(mode.rows, position),
     "cursor-right": lambda mode, position: motions.right(mode.rows, position, True, mode.block_width()),
     "start-of-line": lambda mode, position: motions.line_begin(mode.rows, position),
@@ -60,7 +48,7 @@ STEPS: dict[str, Callable[[CopyView], object]] = {
     "next-paragraph": lambda view: view.jump(motions.paragraph_below(view.rows, view.position)),
 }
 
-COMMANDS: dict[str, Callable[[CopyMode], object]] = {
+COMMANDS: dict[str, Callable[[CopyActions], object]] = {
     "cancel": lambda mode: mode.asked.append(CopyWish(LEAVE)),
     "refresh-from-pane": lambda mode: mode.asked.append(CopyWish(REFRESH)),
     "begin-selection": lambda mode: mode.begin_selection(),

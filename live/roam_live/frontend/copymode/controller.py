@@ -13,7 +13,7 @@ from roam_live.protocol.panes import MOVES
 
 TYPE_CHECKING = False
 if TYPE_CHECKING:
-    from roam_live.frontend.copymode.commands import CopyWish
+    from roam_live.frontend.copymode.actions import CopyWish
     from roam_live.frontend.copymode.mode import CopyMode
     from roam_live.frontend.window_acts import WindowActs
     from roam_live.input.keys import Key
@@ -284,7 +284,7 @@ class Copying:
 
     def grant(self, asked: CopyWish) -> None:
         """Does what a key asked for beside what is shown."""
-        from roam_live.frontend.copymode.commands import LEAVE, REFRESH
+        from roam_live.frontend.copymode.actions import LEAVE, REFRESH
 
         scrollback = self.state.scrollback()
         if asked.word == LEAVE:

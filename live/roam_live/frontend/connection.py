@@ -1,0 +1,138 @@
+"""A front end's connection to the client process of the window where the person is: it is had again where it is lost."""
+from __future__ import annotations
+
+import os
+from collections.abc import Callable
+
+from roam_live.frontend.bindings import NEWEST
+from roam_live.frontend.modes import ScrollMode
+from roam_live.frontend.preload import Preloading
+from roam_live.frontend.stalled_input import UntakenLines
+
+TYPE_CHECKING = False
+if TYPE_CHECKING:
+    from roam_live.frontend.window_views import WindowViews
+    from roam_live.protocol.display_records import DisplayRecord
+
+# So many bytes may wait for the terminal before what brings more is left alone.
+PAINTED_LIMIT = 1 << 16
+
+# While a terminal is drawn larger by hand it has hundreds of sizes: the session gets one that has stood for so many seconds. Of one that it
+# had got before a smaller followed it would be cut.
+SIZES = 0.3
+
+# How often it is looked whether the server is there, where no process is known.
+PROBES = 2.0
+
+# So many seconds a line stands that tells what a person has lost.
+LOSS_TOLD = 3.0
+
+
+class Connecting:
+    """The connection of one front end. A call goes to another window if the one where the person is has gone, and returns True if it
+    does."""
+
+    def __init__(self, views: WindowViews, leaves_window: Callable[[int], bool]) -> None:
+        self.views, self.leaves_window, self.display, self.loop = views, leaves_window, views.display, views.loop
+        self.preloading = Preloading(self.loop)
+        self.untaken = UntakenLines(lambda: views.link, self.display, self.loop, self.ask_server)
+
+    def connect(self) -> None:
+        """Connect to the client; if that can't be done now it is tried again, and the person may leave."""
+        view = self.views.view
+        failed = view.reconnector.connect()
+        if failed and self.is_window_gone() and self.leaves_window(view.number):
+            return
+        if failed:
+            wait, said = failed
+            self.loop.later("connect", wait, self.connect)
+            if said:
+                self.pause(said, wait)
+            return
+        loss = view.reconnector.connected()
+        self.show_window()
+        if loss:
+            view.commands.follower.request_again()
+            self.display.tell(loss, LOSS_TOLD)
+
+    def is_window_gone(self) -> bool:
+        """Return True if the window where the person is has no folder any more: that one of another machine's is gone may be reported too
+        late."""
+        folder = self.views.view.session.folder
+        return bool(self.views.number and folder and not os.path.isdir(folder))
+
+    def show(self) -> None:
+        """Have the window painted where the person is, once there is a connection."""
+        if self.views.link.peer:
+            self.show_window()
+        else:
+            self.connect()
+
+    def show_window(self) -> None:
+        """Have a client that is connected paint what is to be shown."""
+        link, commands = self.views.link, self.views.commands
+        self.loop.add(link, self.hear, self.send, hears=lambda: len(self.display.outer.waiting) < PAINTED_LIMIT,
+                      has_more=lambda: link.waiting)
+        commands.acts.paused = False
+        self.display.notice = ""
+        self.display.begin()
+        commands.show_known()
+        commands.follower.fit_first()
+        commands.acts.act(*([] if commands.modes.has(ScrollMode) else [NEWEST]))
+
+    def pause(self, said: str, wait: float) -> None:
+        """Say what is in the way for so long."""
+        self.views.acts.paused = wait >= 1
+        self.display.show(f"{said}; tried anew in {wait} s" + ("; C-c or q leaves" if wait >= 1 else ""))
+
+    def lost(self) -> None:
+        """Go on without the connection, which is had again: at once for the first time, else after a pause that grows."""
+        reconnector = self.views.view.reconnector
+        self.loop.remove(self.views.link)
+        said, wait = reconnector.lost(), reconnector.pause()
+        self.loop.later("connect", wait, self.connect)
+        if reconnector.faults > 1:
+            self.pause(said, wait)
+
+    def probe(self) -> None:
+        """Look whether the server is there; a client whose server isn't ends."""
+        self.loop.later("probe", PROBES, self.probe)
+        self.views.view.session.is_served()
+
+    # ---- what comes and goes
+
+    def say(self, line: str) -> None:
+        """Say a line about what is shown here, if there is a client: each that is connected to is told anew."""
+        if self.views.link.peer:
+            self.views.link.say(line)
+
+    def hear(self) -> None:
+        """Take what the client reported."""
+        records = self.views.link.read_events()
+        if records is None:
+            self.lost()
+            return
+        for record in records:
+            self.take(record)
+
+    def take(self, record: DisplayRecord) -> None:
+        """Take a record: by the size of what is painted that of the session may be known, if nothing else reports it."""
+        self.display.take(record)
+        if record.word in ("paint", "anew"):
+            self.untaken.heard()
+            self.preloading.begin()
+        follower = self.views.commands.follower
+        if record.word == "size" and not follower.is_fitted and "size" not in self.loop.due:
+            self.loop.later("size", SIZES, follower.fit_first)
+
+    def send(self) -> None:
+        """Send what the client takes."""
+        self.untaken.note_sent()
+        if not self.views.link.send():
+            self.views.link.hear_last()
+            self.lost()
+
+    def ask_server(self) -> None:
+        """Ask the server for a sign of life, if it runs on this machine: a relay would answer in its place."""
+        if self.views.view.session.served != "relay":
+            self.views.panes.probe(self.untaken.answered)

@@ -1,0 +1,207 @@
+"""What commands of copy mode do over one snapshot of a pane's rows: they move a cursor, search, select and copy. Where a row, or what a
+search leads to, isn't known one raises Missing."""
+from __future__ import annotations
+
+from collections.abc import Callable
+
+from roam_live.frontend.copymode import motions
+from roam_live.frontend.copymode.keys import EMACS, VI, Count, Prompt, bounded
+from roam_live.frontend.copymode.search import Finds, matches, next_match
+from roam_live.frontend.copymode.selection import CHARACTERS, Columns, CopiedText, Selection, lines_at, word_at
+from roam_live.frontend.copymode.viewport import CopyView
+
+TYPE_CHECKING = False
+if TYPE_CHECKING:
+    from roam_live.frontend.copymode.rows import Position, Rows
+    from roam_live.frontend.copymode.search import Match
+
+NOTHING_FOUND = "{!r} isn't found"
+
+# What comes of keys beside what is shown, by a word each: it is left, a new snapshot is wanted, or a text is copied.
+LEAVE, REFRESH, COPY = "leave", "refresh", "copy"
+
+
+class CopyWish:
+    """What a key asks for beside what is shown: a word, and of a copy its text, whether it is left then, and whether the text is put behind
+    that of the newest buffer."""
+
+    def __init__(self, word: str, text: CopiedText | None = None, leaves: bool = False, appends: bool = False) -> None:
+        self.word, self.text, self.leaves, self.appends = word, text, leaves, appends
+
+
+class CopyActions:
+    """The state of one person's copy mode in one pane, and what its commands do."""
+
+    def __init__(self, rows: Rows, height: int, is_vi: bool) -> None:
+        self.rows: Rows = rows
+        self.is_vi: bool = is_vi
+        self.finds = Finds()
+        self.view: CopyView = CopyView(rows, height)
+        self.table = VI if is_vi else EMACS
+        self.count = Count(is_vi)
+        # The last jump to a character, and the kind of one whose character comes next.
+        self.jump: tuple[str, str] | None = None
+        self.awaits = ""
+        self.mark: Position | None = None
+        # What is searched for and which way, and whether that is shown; the match at which it stands, and where a search that follows what
+        # is typed began.
+        self.sought, self.is_back, self.is_marked = "", False, False
+        self.match: Match | None = None
+        self.origin: tuple[Position, tuple[int, int]] | None = None
+        self.prompt: Prompt | None = None
+        # What is told of the last key, and what keys asked for since that was taken.
+        self.told = ""
+        self.asked: list[CopyWish] = []
+
+    def repeat(self, does: Callable[[], object]) -> None:
+        """Does something as often as was typed."""
+        for _ in range(self.count.taken()):
+            before = self.view.top, self.view.position
+            does()
+            if (self.view.top, self.view.position) == before:
+                break
+
+    def block_width(self) -> int | None:
+        """How many columns a row has where a block is selected; None where it has those at which something stands."""
+        return self.rows.cols if self.view.is_block and self.view.selection else None
+
+    def word_end(self, position: Position, separators: str) -> Position:
+        """The end of the word here, or of the next: with vi's keys its last character, else the place behind it."""
+        return motions.last_of_word(self.rows, position, separators) if self.is_vi else motions.word_end(self.rows, position, separators)
+
+    def jumps(self, kind: str, letter: str) -> None:
+        """Jumps to a character."""
+        self.view.go(motions.jumped(self.rows, self.view.position, kind, letter))
+
+    # ---- places
+
+    def go_to_line(self, text: str) -> None:
+        """Shows rows so many above the last, by a number that was typed."""
+        if text.isascii() and text.isdigit():
+            self.view.go_back(min(int(text[:9]), self.view.back()[1]))
+
+    def put_mark(self) -> None:
+        """Marks the place of the cursor."""
+        self.mark = self.view.position
+
+    def go_to_mark(self) -> None:
+        """Changes the place of the cursor and the mark."""
+        if self.mark:
+            mark, self.mark = self.mark, self.view.position
+            self.view.jump(mark)
+
+    # ---- searches
+
+    def ask(self, command: str) -> None:
+        """Asks for a line: of an incremental search what was searched for last stands there."""
+        self.count.taken()
+        self.prompt = Prompt(command, self.sought if command.endswith("-incremental") else "")
+        self.origin = self.view.position, self.view.top
+
+    def ask_search(self) -> None:
+        """Asks what is searched for in the rows above."""
+        self.ask("search-backward" if self.is_vi else "search-backward-incremental")
+
+    def search(self, text: str, is_back: bool) -> None:
+        """Goes to the next place at which a text stands, round the end, and tells where it stands nowhere."""
+        self.sought, self.is_back, self.is_marked, self.match = text, is_back, True, None
+        if text:
+            self.repeat(self.search_on)
+
+    def search_anew(self, text: str, is_back: bool) -> None:
+        """Searches from where that began, since what is searched for is another."""
+        if self.origin:
+            self.view.position, self.view.top = self.origin
+        self.search(text, is_back)
+
+    def search_on(self, is_reversed: bool = False) -> None:
+        """Goes to the next place at which what was searched for stands, the same way or the other."""
+        if not self.sought:
+            return
+        is_back = self.is_back != is_reversed
+        position = self.view.position
+        if not is_back and self.is_vi:
+            on = [match for match in matches(self.rows, position[0], self.sought) if match[0] <= position < match[1]]
+            position = on[0][1] if on else position
+        found = next_match(self.rows, self.finds, position, self.sought, is_back)
+        self.match, self.is_marked = found, True
+        if not found:
+            self.told = NOTHING_FOUND.format(self.sought)
+        else:
+            # With emacs' keys the cursor is behind what is searched for on.
+            self.view.jump(found[0] if is_back or self.is_vi else found[1])
+
+    def search_again(self, is_reversed: bool = False) -> None:
+        """Searches on as often as was typed."""
+        self.repeat(lambda: self.search_on(is_reversed))
+
+    def search_word(self, is_back: bool) -> None:
+        """Searches for the word at the cursor."""
+        selection, _ = word_at(self.rows, self.view.position, False)
+        (row, begin), (last, end) = selection.begin, selection.end
+        word = self.rows.row(row).text(begin, end) if last == row else ""
+        if word.strip():
+            self.search(bounded(word), is_back)
+
+    # ---- what is selected and copied
+
+    def begin_selection(self) -> None:
+        """Selects from here on."""
+        self.view.selection = Selection(self.view.position)
+
+    def toggle_block(self) -> None:
+        """Selects a block, or no more."""
+        self.view.is_block = not self.view.is_block
+        if self.view.selection:
+            self.view.selection.keeps, self.view.selection.kind = "", CHARACTERS
+        self.view.clamp()
+
+    def select_line(self) -> None:
+        """Selects the line here, and as many as was typed."""
+        self.view.is_block = False
+        self.view.selection, cursor = lines_at(self.rows, self.view.position)
+        self.view.go(cursor)
+        for _ in range(self.count.taken() - 1):
+            self.view.follow()
+            self.view.step(1)
+
+    def select_word(self) -> None:
+        """Selects the word here."""
+        self.view.is_block = False
+        self.view.selection, cursor = word_at(self.rows, self.view.position, self.is_vi)
+        self.view.go(cursor)
+
+    def copy(self, leaves: bool, appends: bool = False) -> None:
+        """Has what is selected be copied; where nothing is, the match here."""
+        selection, is_block = self.view.selection, self.view.is_block
+        if not selection and self.match and self.match[0] <= self.view.position <= self.match[1]:
+            selection, is_block = Selection(self.match[0]), False
+            selection.end = motions.left(self.rows, self.match[1]) if self.is_vi else self.match[1]
+        if selection:
+            columns = Columns(self.rows, selection, self.view.position, is_block, self.is_vi)
+            self.asked.append(CopyWish(COPY, CopiedText(columns), leaves, appends))
+            self.view.clear_selection()
+        elif leaves:
+            self.asked.append(CopyWish(LEAVE))
+
+    def copy_line_end(self) -> None:
+        """Has the rest of the line be copied, with as many lines as was typed, and leaves."""
+        view = self.view
+        view.selection = selection = Selection(view.position)
+        view.is_block = False
+        for _ in range(self.count.taken() - 1):
+            view.step(1)
+        view.go(motions.line_end(self.rows, view.position))
+        selection.end = view.position
+        self.copy(True)
+
+    def go_to_other_end(self) -> None:
+        """Goes to the other end of what is selected: from there on not by whole words or lines any more, but that lines stay whole."""
+        if self.view.selection:
+            self.view.selection.kind = CHARACTERS
+            self.view.other_end()
+
+    def selected(self) -> Columns | None:
+        """Which columns are selected, where any are, to be shown."""
+        selection = self.view.selection
+        return Columns(self.rows, selection, self.view.position, self.view.is_block, self.is_vi, True) if selection else None

@@ -1,0 +1,44 @@
+"""What parts of a front end need of one that lies above them. Nothing of this module is loaded while a tool runs: it is for who checks
+types."""
+from __future__ import annotations
+
+from typing import Protocol
+
+from roam_live.input.keys import Key
+
+
+class OtherWindows(Protocol):
+    """The windows of a session, as the one where the person is asks for others."""
+
+    def why_one(self) -> str:
+        """Return why no other window can be had here, "" if one can."""
+
+    def ask_shut(self) -> None:
+        """Shut the window where the person is."""
+
+    def open(self, handed: str = "", stays: bool = False) -> None:
+        """Have a window be opened, by a command that was handed over if it is named."""
+
+    def is_full(self) -> bool:
+        """Return True if so much waits that nothing more is to come."""
+
+    def told_panes(self) -> None:
+        """Open a list that waits for what is reported of the panes."""
+
+    def takes(self, keys: list[Key], place: int) -> bool:
+        """Take the keys from a place on if they are for another window, and return True if they are."""
+
+    def grant(self, wish: str) -> None:
+        """Do what a person asks for of windows."""
+
+    def go_to(self, number: int) -> None:
+        """Go to a window."""
+
+    def go_to_shown(self, place: int) -> None:
+        """Go to the window whose label stands at a place in the last row."""
+
+    def go_asked(self, text: str) -> None:
+        """Go to the window of a number that was typed."""
+
+    def say(self, line: str) -> bool:
+        """Say a line to the host, and return True if it is there."""
