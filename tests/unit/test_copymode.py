@@ -885,6 +885,18 @@ class Chosen(Copied):
         person.tell(Places({1: Rect(1, 1, 10, 20), 2: Rect(1, 22, 23, 59)}, 1, 1))
         self.assertEqual((self.settle(person), person.shown()[0][:20].rstrip()), (["unmask", "mask 0 0 10 20"], "0: 3 bytes: one"))
 
+    def test_list_wheeled(self):
+        """The list ends where the wheel opens copy mode over it, whose keys are its then."""
+        person = self.person(told=ONE, opens=False)
+        person.commands.pointing.is_on = True
+        self.scrollback.texts = [b"one"]
+        person.types(b"\x02=")
+        self.settle(person)
+        person.types(b"\x1b[<64;2;2M")
+        self.assertEqual((person.commands.lists.is_on(), person.commands.copying.state.is_on()), (False, True))
+        person.types(b"q")
+        self.assertEqual((person.commands.copying.state.is_on(), person.modes.drawn, person.types(b"x")), (False, None, ["char 78"]))
+
     def test_late_list(self):
         """A list that comes after the person went on isn't opened."""
         person = self.person(opens=False)

@@ -67,6 +67,12 @@ class Spelled(unittest.TestCase):
         keys = Keys()
         self.assertEqual((keys.fed(b"\x1b[200~\x1b"), keys.waits(), keys.fed(b"x")[0].text), ([Key("paste", "\x1b[200~")], False, "\x1bx"))
 
+    def test_many_pastes(self):
+        """Many pastes in one read cost as much each as one."""
+        keys = Keys()
+        found = keys.fed(b"\x1b[200~a\x1b[201~" * 20000)
+        self.assertEqual((len(found), {key.name for key in found}, keys.rest), (60000, {"paste", "text", "pasted"}, ""))
+
     def test_long(self):
         """A sequence that doesn't end in 32 letters isn't waited for."""
         keys = Keys()

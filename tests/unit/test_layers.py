@@ -119,7 +119,7 @@ class Layers(Case):
         """An object that is given to a part as it is made is found, and a call of its own isn't."""
         for text, lines in (("class A:\n    def f(self):\n        self.b = B(1, self)\n", [3]),
                             ("class A:\n    def f(self):\n        return b.Part(one=self)\n", [3]),
-                            ("class A:\n    def f(self):\n        self.b = B(self.f, lambda: self.x)\n        print(self)\n        self.add(self)\n", [])):
+                            ("class A:\n    def f(self):\n        self.b = B(self.f, lambda: self.x)\n        print(self)\n", [])):
             self.assertEqual(owners_in("a.py", text), [f"a.py:{line}: gives itself to what it makes" for line in lines], text)
 
     def test_found(self):

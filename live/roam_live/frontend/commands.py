@@ -84,7 +84,7 @@ class Commands:
         acts.pastes.spreads = self.synchronizing.pasted_in
         self.size.is_given, self.size.is_refused = self.size_given, self.size_refused
         self.zooming.mends_late = lambda: self.follower.mend(is_late=True)
-        self.copying.closed = self.copy_pointing.end
+        self.copying.opens, self.copying.closed = self.lists.close, self.copy_pointing.end
         self.pointing.asks = self.show_metadata
         self.synchronizing.shows = self.show_known
         self.display.moved = self.fit_drawn

@@ -636,9 +636,10 @@ def too_small(rows: int, cols: int) -> str:
 def wrapped(line: str, width: int) -> list[str]:
     """The rows of so many columns that a line takes, cut between words where it can be."""
     rows: list[str] = []
-    while len(line) > width:
-        cut = line.rfind(" ", 1, width + 1)
-        is_between = cut > 0 and line[:cut].strip() != ""
-        rows.append(line[: cut if is_between else width].rstrip())
-        line = line[cut + 1 if is_between else width :]
-    return [*rows, line]
+    begin = 0
+    while len(line) - begin > width:
+        end = line.rfind(" ", begin + 1, begin + width + 1)
+        is_between = end > 0 and not line[begin:end].isspace()
+        rows.append(line[begin : end if is_between else begin + width].rstrip())
+        begin = end + 1 if is_between else begin + width
+    return [*rows, line[begin:]]

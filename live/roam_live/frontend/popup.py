@@ -38,15 +38,13 @@ class Popup:
     def laid(self, is_anew: bool = False) -> bytes:
         """What is written behind a painting, or where the lines are others: those that changed, and the cursor. After a painting anew none
         of them stands there."""
-        text = b"" if self.is_placed else KEPT
-        if is_anew:
-            self.shown = []
-        lines = list(self.lines())
-        for number, line in enumerate(lines):
-            if number >= len(self.shown) or self.shown[number] != line:
-                text += b"\x1b[%d;%dH" % (self.rect.row + number, self.rect.col) + line
-        self.shown, self.is_placed = lines, True
-        return text + self.placed()
+        parts = [] if self.is_placed else [KEPT]
+        before, self.shown = [] if is_anew else self.shown, list(self.lines())
+        for number, line in enumerate(self.shown):
+            if number >= len(before) or before[number] != line:
+                parts.append(b"\x1b[%d;%dH%b" % (self.rect.row + number, self.rect.col, line))
+        self.is_placed = True
+        return b"".join(parts) + self.placed()
 
     def placed(self) -> bytes:
         """What puts the cursor where it stands here."""

@@ -82,6 +82,7 @@ class WindowWishes:
         # is typed for either.
         self.is_opening = self.is_late = self.is_listing = False
         self.held: list[Key] = []
+        self.held_size = 0
         # What opens one, while it isn't answered; and where it wasn't said yet, since the host isn't connected: it may be soon, as where
         # it was launched just before.
         self.opens = self.unsaid = ""
@@ -231,8 +232,7 @@ class WindowWishes:
         if not self.views.lists.show_windows(self.all_described(), self.here()):
             self.display.tell(NO_ROOM, SAID)
         if waited:
-            held, self.held = self.held, []
-            self.types(held)
+            self.types(self.held_keys())
 
     def told_panes(self) -> None:
         """Opens a list that waits for what is told of the panes."""
@@ -324,7 +324,7 @@ class WindowWishes:
             # Of another machine's session it is told here a moment later, by another way.
             self.loop.later("window comes", COMES, lambda: self.opened(number, why))
             return
-        held, self.held = self.held, []
+        held = self.held_keys()
         self.end_opening("")
         if self.stays:
             self.display.tell(f"window {number} is there now", SAID)
@@ -340,7 +340,7 @@ class WindowWishes:
         for name in ("window opens", "window waits"):
             self.loop.drop(name)
         was_told = self.display.told == OPENING
-        dropped, self.held, self.unsaid = self.held, [], ""
+        dropped, self.unsaid = self.held_keys(), ""
         self.is_opening = self.is_late = False
         if [key.name for key in dropped if key.name in ("paste", "pasted")][-1:] == ["paste"]:
             # What comes of it still isn't typed either.
@@ -370,10 +370,16 @@ class WindowWishes:
                 return
             elif key.name != MOUSE:
                 self.held.append(key)
+                self.held_size += len(key.text)
+
+    def held_keys(self) -> list[Key]:
+        """The keys that waited, which wait no more."""
+        held, self.held, self.held_size = self.held, [], 0
+        return held
 
     def is_full(self) -> bool:
         """Whether so much waits that nothing more is to come."""
-        return bool(self.held) and (len(self.held) >= MOST_KEYS or sum(len(key.text) for key in self.held) >= MOST_TEXT)
+        return len(self.held) >= MOST_KEYS or self.held_size >= MOST_TEXT
 
     # ---- names, and ends
 

@@ -59,33 +59,34 @@ class Keys:
         """The keys that are whole now. An escape that may begin more waits."""
         text, self.rest = self.rest + self.decoder.decode(chunk), ""
         keys: list[Key] = []
-        while text:
-            found, text = self.pasted(text) if self.is_pasting else self.typed(text)
-            keys += found
+        begin = 0
+        while begin < len(text):
+            name, mark = ("pasted", PASTED) if self.is_pasting else ("paste", PASTE)
+            end = text.find(mark, begin)
+            if end < 0:
+                return keys + (self.pasted(text[begin:]) if self.is_pasting else self.typed(text[begin:]))
+            if self.is_pasting:
+                keys += [Key("text", text[begin:end])] * (begin < end)
+            else:
+                keys += keys_in(text[begin:end])
+            keys.append(Key(name, mark))
+            self.is_pasting = not self.is_pasting
+            begin = end + len(mark)
         return keys
 
-    def typed(self, text: str) -> tuple[list[Key], str]:
-        """The keys of a text up to the beginning of a paste, and what stands behind that."""
-        before, begins, rest = text.partition(PASTE)
-        if begins:
-            self.is_pasting = True
-            return [*keys_in(before), Key("paste", PASTE)], rest
+    def typed(self, text: str) -> list[Key]:
+        """The keys of a text in which no paste begins; what may begin a sequence at its end waits."""
         answer = begun_at(text)
         cut = text.rfind("\x1b", max(0, len(text) - 32)) if answer is None else answer
         is_cut = answer is not None or cut >= 0 and BEGUN.fullmatch(text, cut) is not None
         self.rest = text[cut:] if is_cut else ""
-        return keys_in(text[:cut] if is_cut else text), ""
+        return keys_in(text[:cut] if is_cut else text)
 
-    def pasted(self, text: str) -> tuple[list[Key], str]:
-        """What of a text is pasted, as one key, the end of the paste, and what stands behind that."""
-        before, ends, rest = text.partition(PASTED)
-        if ends:
-            self.is_pasting = False
-        else:
-            begun = next((length for length in range(len(PASTED) - 1, 0, -1) if text.endswith(PASTED[:length])), 0)
-            self.rest = text[len(text) - begun :]
-            before = text[: len(text) - begun]
-        return [Key("text", before)] * bool(before) + [Key("pasted", PASTED)] * bool(ends), rest
+    def pasted(self, text: str) -> list[Key]:
+        """A text that is pasted, as one key; what may begin the end of the paste waits."""
+        begun = next((length for length in range(len(PASTED) - 1, 0, -1) if text.endswith(PASTED[:length])), 0)
+        before, self.rest = text[: len(text) - begun], text[len(text) - begun :]
+        return [Key("text", before)] * bool(before)
 
     def waits(self) -> bool:
         """Whether an escape waits for more that may not come; of a report of the mouse all does, and of an answer of the terminal, however

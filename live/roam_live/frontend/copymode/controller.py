@@ -48,6 +48,8 @@ class Copying:
         self.keys: CopyKeysMode | None = None
         self.gives_back: Callable[[Key], object] = lambda key: None
         self.closed: Callable[[], object] = nothing
+        # What is called before keys are its: another that is drawn over panes ends.
+        self.opens: Callable[[], object] = nothing
         # What was searched for last, and which way, which stays when it is closed.
         self.sought = "", False
         self.screen, self.asking = CopyScreen(self.state), CopyAsking(self.state, self.go_on, self.close)
@@ -85,6 +87,7 @@ class Copying:
         """Has the keys be copy mode's."""
         from roam_live.frontend.copymode.keys import KeyPairs
 
+        self.opens()
         self.keys = self.acts.modes.drawn = CopyKeysMode(self.acts.modes.keymap, KeyPairs())
 
     def drop_keys(self) -> None:
