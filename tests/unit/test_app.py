@@ -12,7 +12,7 @@ from roam_live.common import tty
 from roam_live.common.errors import Fault
 from roam_live.common.event_loop import comes
 from roam_live.common.process import begun
-from roam_live.frontend import app, display, paste, window_view, window_views
+from roam_live.frontend import app, outer_terminal, paste, window_view, window_views
 from roam_live.frontend.app import FrontEnd
 from roam_live.frontend.connection import Connecting
 from roam_live.frontend.modes import ScrollMode
@@ -230,7 +230,7 @@ class Loop(Fronts):
         self.place.told = None
         self.front.views.maker.untold("where panes are isn't told")
         self.turn()
-        self.assertEqual((read_now(client), self.front.display.told), (b"whole\n", "where panes are isn't told"))
+        self.assertEqual((read_now(client), self.front.display.row.told), (b"whole\n", "where panes are isn't told"))
         self.assertEqual(self.front.loop.due["untold"][0], 110.0)
 
     def test_nobody_there(self):
@@ -434,7 +434,7 @@ class Loop(Fronts):
         self.now += 0.1
         self.turn()
         client = self.taken(self.listener)
-        self.assertEqual(self.front.display.told, "the client process has ended; what was typed last may be lost")
+        self.assertEqual(self.front.display.row.told, "the client process has ended; what was typed last may be lost")
         self.assertEqual(self.front.loop.due["told"][0], self.now + 3.0)
         self.shown()
         client.send(b"old\nevents\n")
@@ -462,7 +462,7 @@ class Loop(Fronts):
         self.assertEqual((self.front.left, self.front.status), ("", 1))
         self.front.left = None
         self.front.display.outer.waiting += b"x"
-        with mock.patch.object(display, "write", return_value=False):
+        with mock.patch.object(outer_terminal, "write", return_value=False):
             self.turn(1)
         self.assertEqual(self.front.left, "")
 
@@ -483,12 +483,12 @@ class Loop(Fronts):
         with mock.patch.object(self.place, "revive_host", return_value=True, create=True):
             self.front.watchdog.revive()
         said = "the shells had ended: new ones are there, and what was typed meanwhile is dropped"
-        self.assertEqual((self.front.display.told, self.front.loop.due["told"][0]), (said, 103.0))
+        self.assertEqual((self.front.display.row.told, self.front.loop.due["told"][0]), (said, 103.0))
         self.shown()
         self.panes.rings(2)
         self.front.view.host.take("say pane 3 isn't shown")
         self.turn()
-        self.assertEqual((self.front.display.told, self.shown().count(b"\x07")), ("pane 3 isn't shown", 1))
+        self.assertEqual((self.front.display.row.told, self.shown().count(b"\x07")), ("pane 3 isn't shown", 1))
 
     def test_keypad(self):
         """The keypad goes by the pane in focus, as soon as that is told."""
@@ -511,7 +511,7 @@ class Loop(Fronts):
         client = self.connect()
         client.send(b"x")
         self.front.display.outer.waiting[:] = bytes(65536)
-        with mock.patch.object(display, "write", return_value=True):
+        with mock.patch.object(outer_terminal, "write", return_value=True):
             with mock.patch.object(self.front.views.link, "read_events") as tells:
                 self.turn(1)
                 tells.assert_not_called()
@@ -575,14 +575,14 @@ class Loop(Fronts):
     def test_no_terminal(self):
         with mock.patch("os.isatty", side_effect=[True, False]):
             with self.assertRaisesRegex(Fault, "standard input and output have to be a terminal"):
-                display.OuterTerminal()
+                outer_terminal.OuterTerminal()
 
     def test_outer(self):
         """What is typed comes from standard input, whose modes and size are gone by, and standard output is written."""
         asks = self.patch("os.isatty", return_value=True)
         with mock.patch.object(tty, "make_raw", return_value=[1]) as raws, mock.patch.object(tty, "size_of") as sizes, \
                 mock.patch.object(tty, "opened_for_writing", return_value=9) as opens:
-            outer = display.OuterTerminal()
+            outer = outer_terminal.OuterTerminal()
             raws.assert_not_called()
             outer.enter()
         self.assertEqual([one.call_args[0] for one in (raws, sizes, opens)], [(0,), (0,), (1,)])
@@ -591,7 +591,8 @@ class Loop(Fronts):
             outer.enter_again()
         raws.assert_called_once_with(0)
         with mock.patch.object(tty, "restore") as restores, mock.patch("os.get_blocking", return_value=False), \
-                mock.patch.object(display, "ready", return_value=True), mock.patch.object(display, "write", return_value=False):
+                mock.patch.object(outer_terminal, "ready", return_value=True), mock.patch.object(outer_terminal, "write",
+                                                                                                 return_value=False):
             outer.leave("")
             outer.leave("")
         restores.assert_called_once_with(0, [1])
@@ -611,7 +612,7 @@ class Loop(Fronts):
     def test_frozen(self):
         """A terminal that takes nothing is left after a second: what was typed is handed over before, and its modes are as before. One that
         takes it meanwhile has its screen back."""
-        self.patch_of(display, "LEAVES", 0.05)
+        self.patch_of(outer_terminal, "LEAVES", 0.05)
         for takes in (False, True):
             outer, steps = self.front.display.outer, []
 
@@ -631,7 +632,8 @@ class Loop(Fronts):
         """What waits for a write that could wait is written a byte each time, while the terminal takes one."""
         outer = self.front.display.outer
         outer.enter()
-        with mock.patch("os.get_blocking", return_value=True), mock.patch.object(display, "write", wraps=display.write) as writes:
+        with mock.patch("os.get_blocking", return_value=True), mock.patch.object(outer_terminal, "write",
+                                                                                 wraps=outer_terminal.write) as writes:
             outer.leave("[left]")
         self.assertTrue(self.shown().endswith(tty.LEFT + b"[left]\r\n"))
         self.assertEqual({len(call[0][1]) for call in writes.call_args_list}, {0})
@@ -803,7 +805,7 @@ class Clipboard(Fronts):
             outer.waiting += b"behind"
         shown = self.shown()
         self.assertTrue(shown.startswith(b"painted\x1b]52;c;QUJD") and b"behind" not in shown and len(shown) < 131072)
-        with mock.patch.object(tty, "restore"), mock.patch("os.set_blocking"), mock.patch.object(display, "write") as writes:
+        with mock.patch.object(tty, "restore"), mock.patch("os.set_blocking"), mock.patch.object(outer_terminal, "write") as writes:
             writes.side_effect = lambda end, waiting: (written.append(bytes(waiting)), waiting.clear())
             outer.leave("[detached]")
         self.assertEqual(shown + written[0], b"painted" + clip + given_back(0) + tty.LEFT + b"[detached]\r\n")
@@ -868,7 +870,7 @@ class Wishes(Case):
         person = self.person()
         person.busy = {2: "vi"}
         self.assertEqual(person.types(b"\x02o\x02x"), ["next"])
-        self.assertEqual(person.display.prompt, "close whatever runs in this pane? y closes it")
+        self.assertEqual(person.display.row.prompt, "close whatever runs in this pane? y closes it")
         self.tell(person, PANES._replace(focus=3))
         self.assertEqual(person.types(b"n\x02x"), ["close"])
 
@@ -876,20 +878,20 @@ class Wishes(Case):
         person = self.person()
         self.assertEqual(person.types(b'\x02%\x02"'), ["split right", "split down"])
         small = self.person(Places({1: Rect(1, 1, 4, 8)}, 1, 1))
-        small.display.told = ""
-        self.assertEqual((small.types(b"\x02%"), small.display.told), ([], "pane 1 is too small to be split: 4 by 8"))
+        small.display.row.told = ""
+        self.assertEqual((small.types(b"\x02%"), small.display.row.told), ([], "pane 1 is too small to be split: 4 by 8"))
 
     def test_close(self):
         """A pane with a shell is closed at once; one where another program runs once that is confirmed."""
         self.assertEqual(self.person().types(b"\x02x"), ["close"])
         person = self.person()
         person.busy = {1: "vi", 2: "less"}
-        self.assertEqual((person.types(b"\x02x"), person.display.prompt), ([], "close vi in pane 1? y closes it"))
+        self.assertEqual((person.types(b"\x02x"), person.display.row.prompt), ([], "close vi in pane 1? y closes it"))
         self.assertNotIn("told", person.loop.due)
-        self.assertEqual((person.types(b"y"), person.display.prompt), (["close"], ""))
+        self.assertEqual((person.types(b"y"), person.display.row.prompt), (["close"], ""))
         person = self.person()
         person.busy = {1: "vi"}
-        self.assertEqual((person.types(b"\x02xn"), person.display.prompt), ([], ""))
+        self.assertEqual((person.types(b"\x02xn"), person.display.row.prompt), ([], ""))
         person = self.person()
         person.busy = {2: "vi"}
         self.assertEqual(person.types(b"\x02x"), ["close"])
@@ -898,23 +900,23 @@ class Wishes(Case):
         """Where it isn't known what runs it asks."""
         person = self.person()
         person.busy = None
-        self.assertEqual((person.types(b"\x02x"), person.display.prompt), ([], "close whatever runs in pane 1? y closes it"))
+        self.assertEqual((person.types(b"\x02x"), person.display.row.prompt), ([], "close whatever runs in pane 1? y closes it"))
         person = self.person(None)
         person.busy = None
-        self.assertEqual((person.types(b"\x02x"), person.display.prompt), ([], "close whatever runs in this pane? y closes it"))
+        self.assertEqual((person.types(b"\x02x"), person.display.row.prompt), ([], "close whatever runs in this pane? y closes it"))
 
     def test_close_last(self):
         person = self.person(places(24, 80))
-        self.assertEqual((person.types(b"\x02x"), person.display.told),
+        self.assertEqual((person.types(b"\x02x"), person.display.row.told),
                          ([], "the last pane goes with its shell, and the session with it"))
 
     def test_scroll(self):
         """The scroll mode is told until it ends."""
         person = self.person()
         self.assertEqual(person.types(b"\x02[kk"), ["view 1", "view 1"])
-        self.assertEqual(person.display.told, "2 rows back: PgUp PgDn up down g G scroll, q ends it")
+        self.assertEqual(person.display.row.told, "2 rows back: PgUp PgDn up down g G scroll, q ends it")
         self.assertNotIn("told", person.loop.due)
-        self.assertEqual((person.types(b"q"), person.display.told), (["view -500"], ""))
+        self.assertEqual((person.types(b"q"), person.display.row.told), (["view -500"], ""))
         person.types(b"\x02[")
         person.commands.left()
         self.assertEqual(person.link.acts[-1], "view -500")
@@ -922,7 +924,7 @@ class Wishes(Case):
     def test_unknown(self):
         person = self.person()
         person.types(b"\x02Z")
-        self.assertEqual((person.display.told, person.loop.due["told"][0]), ("C-b Z is not bound; C-b ? shows the keys", 101.0))
+        self.assertEqual((person.display.row.told, person.loop.due["told"][0]), ("C-b Z is not bound; C-b ? shows the keys", 101.0))
 
     def test_interrupts(self):
         """C-c drops what waits of pastes, also where the program has it in another form; not where it isn't typed."""
@@ -943,11 +945,11 @@ class Wishes(Case):
             for chunk in chunks:
                 self.now += 0.02
                 person.types(chunk)
-            self.assertEqual((person.link.acts, person.display.told), ([], f"C-b {name} is not bound; C-b ? shows the keys"), chunks)
+            self.assertEqual((person.link.acts, person.display.row.told), ([], f"C-b {name} is not bound; C-b ? shows the keys"), chunks)
         person.types(b"\x02\x1b")
         self.now += 0.03
         person.loop.do_due()
-        self.assertEqual((person.link.acts, person.display.told), ([], "C-b Escape is not bound; C-b ? shows the keys"))
+        self.assertEqual((person.link.acts, person.display.row.told), ([], "C-b Escape is not bound; C-b ? shows the keys"))
         person.types(b"1\x02x\x1b2")
         self.assertEqual(person.link.acts[0], "char 31")
         person.types(b"n\x02\x1b\x1b[200~x\x1b[201~y")
@@ -957,9 +959,9 @@ class Wishes(Case):
         """Who only watches types nothing, and may leave, repaint and have the help; where no rows are kept the shared view stays."""
         person = self.person(is_read_only=True)
         self.assertEqual(person.types(b"ls\r\x02%\x02x\x02o\x02q1\x02\x1b[C\x02r"), [])
-        self.assertEqual(person.display.told, "")
+        self.assertEqual(person.display.row.told, "")
         self.assertEqual(person.types(b"\x02[\x02]\x02="), [])
-        self.assertEqual((person.display.told, person.modes.has(ScrollMode)), ("no rows are kept that could be shown", False))
+        self.assertEqual((person.display.row.told, person.modes.has(ScrollMode)), ("no rows are kept that could be shown", False))
         person.types(b"\x02?")
         self.assertTrue(person.display.notice)
         person.types(b"\x02d")
@@ -970,11 +972,11 @@ class Wishes(Case):
         person = self.person()
         before = person.display.outer.waiting.count(b"\x07")
         person.commands.panes.ring(1)
-        self.assertEqual((person.display.told, person.display.outer.waiting.count(b"\x07") - before), ("", 1))
+        self.assertEqual((person.display.row.told, person.display.outer.waiting.count(b"\x07") - before), ("", 1))
         person.commands.panes.ring(2)
-        self.assertEqual(person.display.told, "bell in pane 2")
+        self.assertEqual(person.display.row.told, "bell in pane 2")
         person.commands.panes.ring(3)
-        self.assertEqual(person.display.told, "bell in pane 2")
+        self.assertEqual(person.display.row.told, "bell in pane 2")
 
     def test_fits_told(self):
         person = self.person()
@@ -1026,41 +1028,41 @@ class Painted(Case):
         person = self.person()
         person.paints(4, 20)
         person.display.outer.waiting.clear()
-        person.display.tell("hello")
-        person.display.ring()
-        person.display.set_keypad(True)
-        person.display.set_keypad(True)
+        person.display.row.tell("hello")
+        person.display.outer.ring()
+        person.display.outer.set_keypad(True)
+        person.display.outer.set_keypad(True)
         line = b"\x1b7\x1b[?7l\x1b[5;1H\x1b[0;7m" + b"hello".ljust(20) + b"\x1b[0m\x1b[?7h\x1b8"
         self.assertEqual(person.display.outer.waiting, line + b"\x07\x1b=")
         person.display.show("help")
-        person.display.ring()
+        person.display.outer.ring()
         self.assertTrue(person.display.outer.waiting.endswith(b"\x07"))
 
     def test_told(self):
         """A line stands a second, then the panes' labels; one without a time stands until it is ended."""
         person = self.person()
         person.paints(4, 20)
-        person.display.tell("one")
+        person.display.row.tell("one")
         self.assertEqual(person.loop.due["told"][0], 101.0)
-        person.display.tell("two", None)
+        person.display.row.tell("two", None)
         self.assertNotIn("told", person.loop.due)
         self.assertEqual(person.shown()[4], "two")
-        person.display.end_told()
-        person.display.end_told()
-        self.assertEqual((person.display.told, person.said(), person.shown()[4]), ("", [], "[1]"))
+        person.display.row.end_told()
+        person.display.row.end_told()
+        self.assertEqual((person.display.row.told, person.said(), person.shown()[4]), ("", [], "[1]"))
 
     def test_told_whole(self):
         """Over a session that is shown whole it is as wide as that, and stands in the terminal's last row where nothing is known; behind
         it all is painted anew."""
         person = Person(10, 30)
         person.display.outer.waiting.clear()
-        person.display.tell("x" * 40)
+        person.display.row.tell("x" * 40)
         self.assertIn(b"\x1b[10;1H\x1b[0;7m" + b"x" * 30 + b"\x1b[0m", person.display.outer.waiting)
         person.paints(6, 20)
         person.display.outer.waiting.clear()
-        person.display.tell("ab")
+        person.display.row.tell("ab")
         self.assertIn(b"\x1b[6;1H\x1b[0;7m" + b"ab".ljust(20) + b"\x1b[0m", person.display.outer.waiting)
-        person.display.end_told()
+        person.display.row.end_told()
         self.assertEqual(person.said(), ["repaint"])
 
     def test_shown(self):
@@ -1081,7 +1083,7 @@ class Painted(Case):
         person.display.notice = ""
         self.now += 0.05
         person.loop.do_due()
-        self.assertEqual((person.said(), person.display.is_stale), (["repaint"], True))
+        self.assertEqual((person.said(), person.display.part.is_stale), (["repaint"], True))
 
     def test_repainted(self):
         """A session of which another part is asked for at a new size isn't asked to paint again."""
@@ -1116,8 +1118,8 @@ class Painted(Case):
         self.assertEqual((person.commands.size.requested, person.loop.due["requested size"][0]), ((5, 20), 102.5))
         self.now = 102.5
         person.loop.do_due()
-        self.assertEqual((person.display.told, person.commands.size.requested), ("its panes have no room in 5 by 20", None))
-        self.assertFalse(person.display.shows_all())
+        self.assertEqual((person.display.row.told, person.commands.size.requested), ("its panes have no room in 5 by 20", None))
+        self.assertFalse(person.display.part.shows_all())
 
 
 class Gone(Case):

@@ -337,7 +337,7 @@ class Opened(Windows):
         self.tell_list()
         self.type(b"a\x02crm x\r")
         self.tell("opened none a session has \x1b[2J99 windows at most")
-        self.assertEqual(self.front.display.told, "no window is opened: a session has ?[2J99 windows at most" + DROPPED)
+        self.assertEqual(self.front.display.row.told, "no window is opened: a session has ?[2J99 windows at most" + DROPPED)
         self.type(b"b")
         self.assertEqual(self.typed, {1: "ab", 2: ""})
 
@@ -348,12 +348,12 @@ class Opened(Windows):
         self.type(b"\x02cab")
         self.now += OPENS
         self.turn()
-        self.assertEqual((self.front.display.told, self.typed[1]), (LATE + DROPPED, ""))
+        self.assertEqual((self.front.display.row.told, self.typed[1]), (LATE + DROPPED, ""))
         self.type(b"c\x022d")
         self.assertEqual(self.typed, {1: "c", 2: "d"})
         self.add(3)
         self.tell("window 3 -", "opened 3")
-        self.assertEqual((self.front.views.number, self.front.display.told), (2, "window 3 is there now"))
+        self.assertEqual((self.front.views.number, self.front.display.row.told), (2, "window 3 is there now"))
 
     def test_given_up(self):
         """Once it was told that it takes long C-c waits for it no longer, and what follows that is typed; before that C-c is for it too."""
@@ -361,9 +361,9 @@ class Opened(Windows):
         self.type(b"\x02cab\x03c")
         self.now += TAKES_LONG
         self.turn()
-        self.assertEqual((self.front.display.told, self.typed[1]), (OPENING, ""))
+        self.assertEqual((self.front.display.row.told, self.typed[1]), (OPENING, ""))
         self.type(b"\x03d")
-        self.assertEqual((self.typed[1], self.front.windows.is_opening, self.front.display.told), ("d", False, NOT_AWAITED + DROPPED))
+        self.assertEqual((self.typed[1], self.front.windows.is_opening, self.front.display.row.told), ("d", False, NOT_AWAITED + DROPPED))
         self.type(b"\x02c\x03e")
         self.add(3)
         self.tell("window 3 -", "opened 3")
@@ -377,7 +377,7 @@ class Opened(Windows):
         self.turn()
         self.type(b" -rf x\r")
         self.type(b"y\r\x1b[201~b")
-        self.assertEqual((self.typed[1], self.front.display.told), ("b", LATE + DROPPED))
+        self.assertEqual((self.typed[1], self.front.display.row.told), ("b", LATE + DROPPED))
         self.type(b"\x02ca\x1b[200~on")
         self.add(3)
         self.tell("window 3 -", "opened 3")
@@ -408,7 +408,7 @@ class Opened(Windows):
         self.front.resized()
         self.type(b"\x02cab")
         self.turn()
-        self.assertEqual((self.typed[1], self.front.display.told), ("", SMALL + DROPPED))
+        self.assertEqual((self.typed[1], self.front.display.row.told), ("", SMALL + DROPPED))
         self.type(b"c")
         self.assertEqual(self.typed[1], "c")
 
@@ -418,7 +418,7 @@ class Opened(Windows):
         self.type(b"\x02cab")
         self.hosts[0].close()
         self.turn()
-        self.assertEqual((self.front.windows.is_opening, self.front.display.told.endswith(DROPPED)), (False, True))
+        self.assertEqual((self.front.windows.is_opening, self.front.display.row.told.endswith(DROPPED)), (False, True))
 
     def test_relay_turns(self):
         """Of another machine's session the connection is cut where its relay goes another way: the window is asked for again, until it is
@@ -456,7 +456,7 @@ class Opened(Windows):
         self.place.number = 0
         self.front_of()
         self.type(b"\x02ca")
-        self.assertEqual((self.front.display.told, self.typed[1]), (BY_HAND, "a"))
+        self.assertEqual((self.front.display.row.told, self.typed[1]), (BY_HAND, "a"))
 
     def test_far(self):
         """A session that is no window of several has one alone, and which of another machine is said so; nothing is asked of its host."""
@@ -466,7 +466,7 @@ class Opened(Windows):
             self.place.number, self.place.served = 0, served
             self.front_of()
             self.type(b"\x02ca\x022b\x02n\x02&")
-            self.assertEqual((self.front.display.told, self.rows()[1], self.typed), (words, words, {1: "ab", 2: ""}))
+            self.assertEqual((self.front.display.row.told, self.rows()[1], self.typed), (words, words, {1: "ab", 2: ""}))
             self.assertNotIn("windows", self.said())
             self.typed[1] = ""
 
@@ -487,7 +487,7 @@ class Told(Windows):
     def test_flags(self):
         """What rang, and what was written, is shown until the person is there."""
         self.tell_list()
-        rings = self.patch_of(self.front.display, "ring")
+        rings = self.patch_of(self.front.display.outer, "ring")
         self.tell("bell 2 1", "activity 2", "runs 1 vim", "runs 2 sh", "bell 1 1", "bell 2 1", "bell 0 1")
         # The one where the person is rings by its own socket.
         self.assertEqual(rings.call_count, 2)
@@ -503,7 +503,8 @@ class Told(Windows):
         del self.windows[2]
         self.tell("gone 2")
         self.type(b"b")
-        self.assertEqual((self.front.views.number, self.typed, self.front.display.told), (5, {1: "", 2: "a", 5: "b"}, "window 2 is gone"))
+        self.assertEqual((self.front.views.number, self.typed, self.front.display.row.told),
+                         (5, {1: "", 2: "a", 5: "b"}, "window 2 is gone"))
         del self.windows[5]
         self.tell("gone 5")
         self.assertEqual(self.front.views.number, 1)
@@ -528,7 +529,7 @@ class Told(Windows):
         del self.windows[2]
         self.tell("gone 2")
         self.type(b" x\r\x1b[201~y")
-        self.assertEqual((self.typed, self.front.display.told), ({1: "y", 2: ""}, "nothing is pasted: its window is gone"))
+        self.assertEqual((self.typed, self.front.display.row.told), ({1: "y", 2: ""}, "nothing is pasted: its window is gone"))
         # So is one that was pasted into a line that copy mode asked for.
         self.add(3)
         self.tell("window 3 -")
@@ -561,8 +562,8 @@ class Told(Windows):
         self.assertEqual(self.said(), ["leave others"])
         self.hosts[0].send(b"0 left 2\n")
         self.turn()
-        self.assertEqual(self.front.display.told, "2 other terminals detached")
-        self.hosts[0].send(b"0 leave\n")
+        self.assertEqual(self.front.display.row.told, "2 other terminals detached")
+        self.hosts[0][0].send(b"leave\n")
         self.turn()
         self.assertEqual(self.front.left, "[detached from elsewhere]")
 
@@ -576,7 +577,7 @@ class Named(Windows):
         self.said()
         self.type("\x02,hé中\x7f\x1b[A文".encode())
         self.tell("bell 2 1")
-        self.front.display.tell("something")
+        self.front.display.row.tell("something")
         self.turn()
         self.assertEqual(self.rows()[1], "(name of window 1) hé文")
         self.type(b"\rz")
@@ -589,7 +590,7 @@ class Named(Windows):
             self.type(leaves)
             self.now += 0.1
             self.turn()
-            self.assertEqual((self.said(), self.front.display.prompt), ([], ""))
+            self.assertEqual((self.said(), self.front.display.row.prompt), ([], ""))
 
     def test_pasted_name(self):
         """Of a paste the first line is a name; one with escapes is none, and no name is longer than a line may be."""
@@ -660,13 +661,13 @@ class Named(Windows):
             with mock.patch.object(PlayedPanes, "awaited", True):
                 self.type(b"\x022\x02wk\r")
                 self.type(b"x")
-                self.assertEqual((self.front.views.number, self.typed[2], self.front.display.told), (2, "", ""))
+                self.assertEqual((self.front.views.number, self.typed[2], self.front.display.row.told), (2, "", ""))
                 self.windows[2].told = told if is_told else None
                 self.now += 0 if is_told else LISTS
                 self.front.views.commands.panes_changed()
                 self.turn()
             self.assertEqual((self.front.views.number, self.typed), (1, {1: "x", 2: ""}) if is_told else (2, {1: "x", 2: "kx"}))
-            self.assertEqual((self.front.display.told, self.front.windows.held), ("" if is_told else NO_ROOM, []))
+            self.assertEqual((self.front.display.row.told, self.front.windows.held), ("" if is_told else NO_ROOM, []))
 
 
 class Pointed(Windows):
@@ -680,9 +681,9 @@ class Pointed(Windows):
             self.type(b"\x1b[<0;8;24M\x1b[<0;8;24mx")
             self.assertEqual(self.front.views.number, wanted)
         self.assertEqual(self.typed, {1: "x", 2: "x"})
-        self.front.display.tell("[1] 1- 2*")
+        self.front.display.row.tell("[1] 1- 2*")
         self.type(b"\x1b[<0;5;24My")
-        self.front.display.end_told()
+        self.front.display.row.end_told()
         self.type(b"\x1b[<0;5;23M\x1b[<0;5;23m")
         self.assertEqual((self.front.views.number, self.typed[2]), (2, "xy"))
 
@@ -717,13 +718,13 @@ class Settings(Windows):
     def test_read(self):
         """What it says holds at once, and it is told that it was read, or what of it isn't done."""
         self.read("set -g prefix C-a\nbind y select-window -t 2\nset -g mouse on\n")
-        self.assertEqual((self.front.display.told, self.front.views.commands.pointing.is_on), ("roam.conf was read", True))
+        self.assertEqual((self.front.display.row.told, self.front.views.commands.pointing.is_on), ("roam.conf was read", True))
         self.type(b"\x02a\x01yb")
         self.assertEqual((self.front.views.number, self.typed), (2, {1: "\x02a", 2: "b"}))
         other = self.made_folder() / "other.conf"
         other.write_text("set -g mouse off\nfoo\n", encoding="utf-8")
         self.front.runner.typed(f"source-file {other}")
-        self.assertEqual((self.front.display.told, self.front.views.commands.pointing.is_on, self.front.settings.prefix),
+        self.assertEqual((self.front.display.row.told, self.front.views.commands.pointing.is_on, self.front.settings.prefix),
                          ("other.conf:2: foo isn't there in roam", False, "C-a"))
         self.read("")
         self.assertEqual((self.front.settings.prefix, self.front.keyboard.modes.keymap.own), ("C-b", {}))
@@ -733,13 +734,13 @@ class Settings(Windows):
         with mock.patch.dict(os.environ, ROAM_PREFIX="nosuch"):
             self.read("set -g mouse on\n")
         self.assertEqual((self.front.settings.prefix, self.front.views.commands.pointing.is_on), ("C-b", False))
-        self.assertIn("nosuch", self.front.display.told)
+        self.assertIn("nosuch", self.front.display.row.told)
 
     def test_row(self):
         """The last row goes and comes by it."""
         for text, is_hidden in (("set -g status off", True), ("set -g status off", True), ("set -g status on", False)):
             self.read(f"{text}\n")
-            self.assertEqual(self.front.display.is_row_hidden, is_hidden)
+            self.assertEqual(self.front.display.part.is_row_hidden, is_hidden)
 
     def test_runs(self):
         """What it has the shell run is run as it is read, and keys that it binds do all that they are bound to."""
@@ -769,6 +770,6 @@ class Hidden(Windows):
         self.assertEqual(self.rows()[1], "there is no window 5")
         self.now += 3
         self.turn()
-        self.assertEqual(self.front.display.line(), "")
+        self.assertEqual(self.front.display.row.line(), "")
         self.type(b"\x02t")
         self.assertTrue(self.typed[1].endswith("<size 24 80>"))

@@ -293,7 +293,7 @@ class Dragged(Pointed):
         before = session.rects()
         at = end_of(before[2], "right")
         self.drag((0, 5, at), (32, 5, at + 3), (0, 5, at + 3, True))
-        self.assertEqual((session.rects(), person.display.told, person.commands.pointing.border), (before, NO_PANE, None))
+        self.assertEqual((session.rects(), person.display.row.told, person.commands.pointing.border), (before, NO_PANE, None))
 
     def test_lost(self):
         """Where its button was let go unseen, or something stands in the session's place, it is dragged no more."""

@@ -74,7 +74,7 @@ class Copied(Case):
         """Has the session paint what was asked for; tells the lines that were said."""
         said = person.said()
         if said:
-            person.paints(*(person.display.asked or person.session()), text)
+            person.paints(*(person.display.part.asked or person.session()), text)
         return said
 
     def passes(self, person, seconds):
@@ -117,7 +117,7 @@ class Opened(Copied):
         person.display.take(DisplayRecord("paint", (3,), b"abc"))
         self.assertEqual(bytes(outer.waiting[before:]), b"\x1b8abc\x1b7\x1b[1;5H\x1b[?25h")
         before = len(outer.waiting)
-        person.display.tell("a bell")
+        person.display.row.tell("a bell")
         self.assertTrue(bytes(outer.waiting[before:]).startswith(b"\x1b[?7l\x1b[24;1H\x1b[0;7ma bell"))
         self.assertTrue(bytes(outer.waiting[before:]).endswith(b"\x1b[1;5H\x1b[?25h"))
 
@@ -158,14 +158,14 @@ class Opened(Copied):
         person = self.person(opens=False)
         person.types(b"\x02\x1b[5~")
         self.settle(person)
-        self.assertEqual(person.display.line(), "[21/77] copy mode")
+        self.assertEqual(person.display.row.line(), "[21/77] copy mode")
         person.types(b"\x02/")
-        self.assertEqual(person.display.line(), "(search up) ")
+        self.assertEqual(person.display.row.line(), "(search up) ")
         person.types(b"The 5th")
         self.assertEqual(person.shown()[23], "(search up) The 5th")
         self.assertTrue(bytes(person.display.outer.waiting).endswith(b"\x1b[24;20H\x1b[?25h"))
         person.types(b"\r")
-        self.assertIn("'The 5th' isn't found", person.display.line())
+        self.assertIn("'The 5th' isn't found", person.display.row.line())
         person.types(b"\x02/the 5th\r")
         self.assertEqual(self.position(person), (1004, 15))
         person.types(b"\x02[k")
@@ -201,11 +201,11 @@ class Opened(Copied):
             if change == "late":
                 self.assertEqual(acts, [])
                 self.passes(person, WAITS)
-                self.assertEqual(person.display.told, WAITING)
+                self.assertEqual(person.display.row.told, WAITING)
                 self.passes(person, LENDS - WAITS)
                 acts = person.link.acts[before:]
             self.assertEqual(acts, ["view 1", "view 1"], change)
-            self.assertEqual(person.display.told, "2 rows back: PgUp PgDn up down g G scroll, q ends it")
+            self.assertEqual(person.display.row.told, "2 rows back: PgUp PgDn up down g G scroll, q ends it")
             self.scrollback.answers()
             self.assertFalse(person.commands.copying.state.is_on())
             self.assertEqual(person.types(b"q"), ["view -500"])
@@ -213,7 +213,7 @@ class Opened(Copied):
         person = self.person(opens=False)
         self.scrollback.lends = False
         self.assertEqual(person.types(b"\x02/ab"), ["char 61", "char 62"])
-        self.assertEqual(person.display.told, "no rows are kept that could be shown")
+        self.assertEqual(person.display.row.told, "no rows are kept that could be shown")
 
     def test_not_lent_late(self):
         """What was typed for a search that can't be is typed nowhere, and neither is what waited for a snapshot anew."""
@@ -226,7 +226,7 @@ class Opened(Copied):
         self.scrollback.is_quick = self.scrollback.lends = False
         person.types(b"rjjj")
         self.scrollback.answers()
-        self.assertEqual((person.link.acts, person.commands.copying.state.is_on(), person.display.told), ([], False, GONE))
+        self.assertEqual((person.link.acts, person.commands.copying.state.is_on(), person.display.row.told), ([], False, GONE))
 
     def test_not_lent_again(self):
         """What was typed while no rows were lent is not done again once some are."""
@@ -319,7 +319,7 @@ class Opened(Copied):
         person = self.person(is_read_only=True)
         self.assertEqual(person.types(b"g ey"), [])
         self.assertEqual((self.scrollback.texts, person.display.outer.clips), ([], [base64.b64encode(b"row").decode()]))
-        self.assertEqual(person.display.told, "3 characters copied for the clipboard")
+        self.assertEqual(person.display.row.told, "3 characters copied for the clipboard")
 
     def test_refreshed(self):
         """r has a new snapshot."""
@@ -382,11 +382,11 @@ class Fed(Copied):
         person.types(b"\x1b[5~\x1b[5~jj0 $y")
         self.assertEqual((self.scrollback.texts, len(self.scrollback.waiting)), ([], 1))
         self.passes(person, WAITS)
-        self.assertEqual(person.display.told, WAITING)
+        self.assertEqual(person.display.row.told, WAITING)
         while self.scrollback.waiting:
             self.scrollback.answers(1)
         self.assertEqual(self.scrollback.texts, [b"row 960\n"])
-        self.assertNotEqual(person.display.told, WAITING)
+        self.assertNotEqual(person.display.row.told, WAITING)
 
     def test_leaves(self):
         """C-c leaves at once while rows are awaited, whatever waits before it, and what comes then is nothing."""
@@ -403,7 +403,7 @@ class Fed(Copied):
         person = self.person("\n".join(f"row {number}" for number in range(1, 1001)))
         self.scrollback.lends = False
         person.types(b"\x1b[5~k")
-        self.assertEqual((person.commands.copying.state.is_on(), person.display.told), (False, GONE))
+        self.assertEqual((person.commands.copying.state.is_on(), person.display.row.told), (False, GONE))
 
     def test_connection_lost(self):
         """Where the connection to the host is lost rows are asked for again once there is another."""
@@ -426,7 +426,7 @@ class Fed(Copied):
         person.types(b"500j")
         self.host.connects = False
         self.passes(person, 0.3)
-        self.assertEqual((person.commands.copying.state.is_on(), person.display.told), (False, GONE))
+        self.assertEqual((person.commands.copying.state.is_on(), person.display.row.told), (False, GONE))
 
     def test_full(self):
         """No more is read while too much waits."""
@@ -460,7 +460,7 @@ class Keeps(Copied):
         person = self.person()
         person.types(b"gw e\r")
         self.assertEqual((self.scrollback.texts, person.display.outer.clips), ([b"1 of"], [base64.b64encode(b"1 of").decode()]))
-        self.assertEqual((person.display.told, person.commands.copying.state.is_on()), ("4 characters copied; C-b ] pastes", False))
+        self.assertEqual((person.display.row.told, person.commands.copying.state.is_on()), ("4 characters copied; C-b ] pastes", False))
 
     def test_clipboard(self):
         """Where ROAM_CLIPBOARD is off the clipboard isn't set."""
@@ -470,14 +470,14 @@ class Keeps(Copied):
             person.types(b"gVj\r")
             self.assertEqual(self.scrollback.texts, [b"row 1 of many, the 1th\nrow 2 of many, the 2th\n"])
             self.assertEqual(len(person.display.outer.clips), count, word)
-            self.assertEqual(person.display.told, "2 lines copied; C-b ] pastes")
+            self.assertEqual(person.display.row.told, "2 lines copied; C-b ] pastes")
 
     def test_not_kept(self):
         """Where no buffer is kept the clipboard is set all the same, and that is told."""
         person = self.person()
         self.scrollback.keeps = False
         person.types(b"g e\r")
-        self.assertEqual(person.display.told, "3 characters copied for the clipboard alone: no buffer is kept")
+        self.assertEqual(person.display.row.told, "3 characters copied for the clipboard alone: no buffer is kept")
         self.assertEqual(len(person.display.outer.clips), 1)
 
     def test_all(self):
@@ -488,7 +488,7 @@ class Keeps(Copied):
         self.patch_of(selection, "MOST_COPIED", 4 * 3000 - 1)
         person = self.person("\n".join(["yes"] * 3000))
         person.types(b"g G$\r")
-        self.assertEqual((self.scrollback.texts, person.display.told), ([], "nothing is copied: it has more than 1 MB"))
+        self.assertEqual((self.scrollback.texts, person.display.row.told), ([], "nothing is copied: it has more than 1 MB"))
 
     def test_appended(self):
         """A puts a text behind the newest buffer, which stays as it was; where there is none it is one."""
@@ -498,7 +498,7 @@ class Keeps(Copied):
         self.assertEqual(self.scrollback.texts, [b"row", b"row1 of"])
         self.scrollback.texts.append(b"z" * (MOST_COPIED - 1))
         person.types(b"\x02[g eA")
-        self.assertEqual((len(self.scrollback.texts), person.display.told), (3, "nothing is copied: it has more than 1 MB"))
+        self.assertEqual((len(self.scrollback.texts), person.display.row.told), (3, "nothing is copied: it has more than 1 MB"))
 
     def test_nothing(self):
         """Where nothing is selected nothing is copied."""
@@ -517,7 +517,7 @@ class Meanwhile(Copied):
         self.assertFalse(person.commands.copying.state.is_on())
         person = self.person()
         self.assertEqual(person.types(b"?\x1b[200~the 7th\nmore\x1b[201~"), [])
-        self.assertEqual(person.display.line(), "(search up) the 7th")
+        self.assertEqual(person.display.row.line(), "(search up) the 7th")
         person.types(b"\r")
         self.assertEqual(self.position(person), (1006, 15))
         person.types(b"?\x1b[200~half")
@@ -528,11 +528,11 @@ class Meanwhile(Copied):
         """Keys behind the prefix mean what they always do; the prefix twice is a key of copy mode."""
         person = self.person()
         self.assertEqual(person.types(b"\x02\x02"), [])
-        self.assertEqual(person.display.line(), "[21/77] copy mode")
+        self.assertEqual(person.display.row.line(), "[21/77] copy mode")
         for keys in (b"\x02\x1b[1;5C", b"\x1b[1;5C"):
             person.types(keys)
-            self.assertEqual(person.display.told, "pane 1 has no border at its left or right")
-            person.display.end_told()
+            self.assertEqual(person.display.row.told, "pane 1 has no border at its left or right")
+            person.display.row.end_told()
         self.now += 1
         self.assertEqual(person.types(b"\x1b[1;5A"), [])
         self.assertTrue(person.commands.copying.state.is_on())
@@ -617,7 +617,7 @@ class Meanwhile(Copied):
         self.assertEqual(shown[6], "z" * 10 + "row 100 of many, the 100th")
         self.assertEqual(shown[7], "z" * 50)
         person.display.take(DisplayRecord("part", (20, 0)))
-        self.assertEqual((person.commands.copying.state.is_on(), person.display.told), (False, NO_ROOM))
+        self.assertEqual((person.commands.copying.state.is_on(), person.display.row.told), (False, NO_ROOM))
 
     def test_client_lost(self):
         """Another connection to a start is told of the mask, and the part is the same."""
@@ -674,9 +674,9 @@ class Pointed(Copied):
         person = self.person(opens=False)
         self.assertEqual(self.points(person, (64, 5, 5)), [])
         self.settle(person)
-        self.assertEqual(person.display.line(), "[3/77] copy mode")
+        self.assertEqual(person.display.row.line(), "[3/77] copy mode")
         self.points(person, (64, 5, 5), (64, 5, 5), (65, 5, 5))
-        self.assertEqual(person.display.line(), "[6/77] copy mode")
+        self.assertEqual(person.display.row.line(), "[6/77] copy mode")
         self.points(person, (65, 5, 5), (65, 5, 5))
         self.assertFalse(person.commands.copying.state.is_on())
         person.types(b"\x02[")
@@ -706,7 +706,7 @@ class Pointed(Copied):
         self.scrollback.is_quick, self.scrollback.lends = False, False
         self.points(person, (64, 5, 5), (64, 5, 5))
         self.scrollback.answers()
-        self.assertEqual(person.display.told.split(":")[0], "6 rows back")
+        self.assertEqual(person.display.row.told.split(":")[0], "6 rows back")
 
     def test_drag(self):
         """What is dragged over is selected, copied as the button is let go, and that leaves."""
@@ -765,7 +765,7 @@ class Pointed(Copied):
         person.types(b"\x02[")
         self.settle(person)
         self.assertEqual(self.points(person, (64, 3, 6)), [])
-        self.assertEqual(person.display.line(), "[3/77] copy mode")
+        self.assertEqual(person.display.row.line(), "[3/77] copy mode")
 
 
 class Chosen(Copied):
@@ -775,7 +775,7 @@ class Chosen(Copied):
         """C-b ] pastes the newest buffer, by a mark; where none is that is told."""
         person = self.person(opens=False)
         person.types(b"\x02]")
-        self.assertEqual((self.host.stored, person.display.told), ([], "no buffer is kept"))
+        self.assertEqual((self.host.stored, person.display.row.told), ([], "no buffer is kept"))
         self.scrollback.texts = [b"one", b"two"]
         person.types(b"\x02]x")
         (name, number), = self.host.stored
@@ -793,7 +793,7 @@ class Chosen(Copied):
             person.types(b"\x02]")
             self.pass_time(0.1)
             person.loop.do_due()
-        self.assertEqual((self.host.stored, person.display.told), ([], ""))
+        self.assertEqual((self.host.stored, person.display.row.told), ([], ""))
         self.pass_time(0.1)
         person.loop.do_due()
         self.assertEqual([number for _, number in self.host.stored], [0])
@@ -802,7 +802,7 @@ class Chosen(Copied):
             self.host.connects = False
             self.pass_time(0.1)
             person.loop.do_due()
-        self.assertEqual((len(self.host.stored), person.display.told), (1, lists.UNTOLD))
+        self.assertEqual((len(self.host.stored), person.display.row.told), (1, lists.UNTOLD))
 
     def test_refused(self):
         """What is refused, or not taken, is told, and what waits behind it is dropped."""
@@ -812,7 +812,7 @@ class Chosen(Copied):
             self.scrollback.texts = [b"one"]
             person.types(b"\x02]x")
             person.commands.acts.pastes.answered(self.host.stored[0][0], word, more)
-            self.assertEqual((person.display.told, person.link.acts), (f"{told}; what was typed behind it is dropped", []))
+            self.assertEqual((person.display.row.told, person.link.acts), (f"{told}; what was typed behind it is dropped", []))
 
     def test_ends_copy_mode(self):
         """A paste of a buffer ends copy mode."""
@@ -856,7 +856,7 @@ class Chosen(Copied):
         self.assertEqual(person.shown()[23], "buffer 2 of 3: Return pastes it, up and down choose, q leaves")
         for keys, number in ((b"j", 1), (b"k", 2), (b"k", 2), (b"\x1b[B", 1), (b"\x1b[A", 2), (b"G", 0), (b"j", 0), (b"g", 2), (b"j", 1)):
             self.assertEqual(person.types(keys), [])
-            self.assertTrue(person.display.line().startswith(f"buffer {number} of 3"), keys)
+            self.assertTrue(person.display.row.line().startswith(f"buffer {number} of 3"), keys)
         self.assertEqual(person.types(b"\r"), [])
         self.assertEqual((self.host.stored[0][1], person.commands.lists.is_on()), (1, False))
         self.assertEqual(self.settle(person), ["unmask", "part 23 80"])

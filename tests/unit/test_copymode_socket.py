@@ -66,7 +66,7 @@ class Connected(Rows):
         self.opened()
         self.types(b"gjV\r")
         self.assertEqual(self.socket.buffers.texts, {1: b"beta\n"})
-        self.assertEqual(self.person.display.told, "5 characters copied; C-b ] pastes")
+        self.assertEqual(self.person.display.row.told, "5 characters copied; C-b ] pastes")
         before = len(self.person.link.lines)
         self.types(b"\x02]")
         placeholders = [line for line in self.person.link.lines[before:] if line.startswith("paste ; char 9f")]
@@ -81,7 +81,7 @@ class Connected(Rows):
         self.types(b"r")
         self.prints(b"screen 0 %d %d\n" % (23, len(SCREEN)) + SCREEN)
         self.loop.turns(6)
-        self.assertEqual(self.person.display.line(), "[0/5] copy mode")
+        self.assertEqual(self.person.display.row.line(), "[0/5] copy mode")
 
     def test_not_kept(self):
         """Of a pane of which nothing is kept the view that all share scrolls."""
@@ -105,4 +105,4 @@ class Connected(Rows):
             self.now += 0.1
             self.loop.turns(2)
             self.person.loop.do_due()
-        self.assertEqual((self.person.commands.copying.state.is_on(), self.person.display.told), (False, GONE))
+        self.assertEqual((self.person.commands.copying.state.is_on(), self.person.display.row.told), (False, GONE))

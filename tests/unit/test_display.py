@@ -12,7 +12,7 @@ from emulated import Emulated
 from roam_live.common import tty
 from roam_live.common.event_loop import Loop
 from roam_live.config.environment import PREFIXES
-from roam_live.frontend import display
+from roam_live.frontend import display, outer_terminal, shown_part
 from roam_live.frontend.bindings import HELP, Keymap, help_with
 from roam_live.frontend.commands import Commands
 from roam_live.frontend.display import Display, wrapped
@@ -45,6 +45,8 @@ class OuterTerminal:
     def ask(self, reports):
         """Keeps which reports of the mouse it is asked for."""
         self.reports = reports
+
+    set_keypad, ring = outer_terminal.OuterTerminal.set_keypad, outer_terminal.OuterTerminal.ring
 
     def set_clip(self, text):
         """Keeps a text for the clipboard."""
@@ -244,7 +246,7 @@ class Person:
         """Has the session paint what the front end asked for since it was looked at last."""
         for line in self.said():
             word, *numbers = line.split()
-            size = self.display.painted_size if word == "repaint" else tuple(map(int, numbers[-2:]))
+            size = self.display.part.painted_size if word == "repaint" else tuple(map(int, numbers[-2:]))
             self.paints(*(size if word != "whole" else self.session()), text)
 
     def session(self):
@@ -351,7 +353,7 @@ class Sizes(unittest.TestCase):
         person.commands.size.requested = 12, 60
         person.commands.show_known()
         person.answers()
-        person.display.place = 1, 0
+        person.display.part.place = 1, 0
         person.tell(places(12, 60))
         self.assertEqual((person.said(), person.commands.size.requested), (["part 0 0 11 60"], None))
 
@@ -391,24 +393,24 @@ class Sizes(unittest.TestCase):
                 person.display.take(DisplayRecord("part", (13, 0)))
                 clock.return_value += 30
                 person.loop.do_due()
-            self.assertEqual(len(person.said()), min(tries, display.MOST_CHOSEN))
+            self.assertEqual(len(person.said()), min(tries, shown_part.MOST_CHOSEN))
             person.display.take(DisplayRecord("part", (12, 0)))
             clock.return_value += 30
             person.loop.do_due()
-            self.assertEqual((person.said(), person.display.chosen), ([], 0))
+            self.assertEqual((person.said(), person.display.part.chosen), ([], 0))
 
     def test_wider_and_lower(self):
         """Neither side may be cut."""
         for size, part in (((20, 200), "part 19 80"), ((60, 70), "part 23 70")):
             person = Person(*size, told=places(24, 80))
             self.assertEqual((person.sizes(), person.said()), ([], [part]))
-            self.assertTrue(person.display.line().endswith(FITS))
+            self.assertTrue(person.display.row.line().endswith(FITS))
 
     def test_key_fits(self):
         person = Person(12, 40, told=places(24, 100))
         person.answers()
         self.assertEqual(person.types(b"\x02r"), ["size 12 40"])
-        self.assertEqual(person.display.line().rstrip(), "[1]")
+        self.assertEqual(person.display.row.line().rstrip(), "[1]")
         self.assertEqual(person.said(), ["repaint"])
         person.tell(places(12, 40))
         person.paints(11, 40, "here")
@@ -416,15 +418,28 @@ class Sizes(unittest.TestCase):
 
     def test_beside_another(self):
         """A larger terminal leaves the size to another that is there, and is told the key."""
-        person = Person(50, 132, told=places(24, 80), host=PlayedHost(True))
-        self.assertEqual((person.sizes(), person.said()), ([], ["part 23 80"]))
-        self.assertEqual(person.display.told, "24 by 80, as another terminal has it; C-b r fits this one")
-        self.assertEqual(person.types(b"\x02r"), ["size 50 132"])
-        # No resize of one that isn't alone makes the session smaller.
-        other_one = Person(24, 80, told=places(24, 80), host=PlayedHost(True))
-        other_one.resize(20, 70)
-        self.assertEqual((other_one.sizes(), other_one.display.line().endswith(FITS)), ([], True))
-        self.assertEqual(Person(50, 132, told=places(24, 80), host=PlayedHost(False)).sizes(), ["size 50 132"])
+        with tempfile.TemporaryDirectory() as folder:
+            other = os.fork()
+            if other == 0:
+                noted_front_end(folder)
+                signal_pause()
+            try:
+                note = pathlib.Path(folder, "attached", str(other))
+                while not note.exists():
+                    pass
+                person = Person(50, 132, told=places(24, 80), folder=folder)
+                self.assertEqual((person.sizes(), person.said()), ([], ["part 23 80"]))
+                self.assertEqual(person.display.row.told, "24 by 80, as another terminal has it; C-b r fits this one")
+                self.assertEqual(person.types(b"\x02r"), ["size 50 132"])
+                # No resize of one that isn't alone makes the session smaller.
+                other_one = Person(24, 80, told=places(24, 80), folder=folder)
+                other_one.resize(20, 70)
+                self.assertEqual((other_one.sizes(), other_one.display.row.line().endswith(FITS)), ([], True))
+                note.write_text(note.read_text(encoding="utf-8").replace("read-write", "read-only"), encoding="utf-8")
+                self.assertEqual(Person(50, 132, told=places(24, 80), folder=folder).sizes(), ["size 50 132"])
+            finally:
+                os.kill(other, 9)
+                os.waitpid(other, 0)
 
     def test_resized(self):
         """A lone terminal that showed all of it is followed to a smaller size, and back; one that showed a part isn't."""
@@ -470,7 +485,7 @@ class Sizes(unittest.TestCase):
             self.assertEqual(Person(50, 132, told=places(24, 80), host=PlayedHost(False)).sizes(), ["size 50 132"])
             self.assertEqual(Person(50, 132, told=places(24, 80), host=PlayedHost(None)).sizes(), [])
         person = Person(50, 132, told=places(24, 80), host=PlayedHost(True))
-        self.assertEqual((person.sizes(), person.display.told), ([], "24 by 80, as another terminal has it; C-b r fits this one"))
+        self.assertEqual((person.sizes(), person.display.row.told), ([], "24 by 80, as another terminal has it; C-b r fits this one"))
         small = Person(12, 40, told=places(24, 80), host=PlayedHost(False))
         small.answers()
         small.resize(10, 30)
@@ -510,7 +525,7 @@ class Sizes(unittest.TestCase):
         self.assertEqual(Person(24, 3, told=places(24, 80)).said(), [])
         person = Person(3, 30, told=places(24, 80))
         self.assertEqual((person.types(b"\x02r"), person.said()), ([], ["part 2 30", "repaint"]))
-        self.assertEqual(person.display.told, "a session has 4 rows and 8 columns at least")
+        self.assertEqual(person.display.row.told, "a session has 4 rows and 8 columns at least")
         person.resize(24, 80)
         self.assertEqual((person.said(), person.sizes()), (["part 23 80"], []))
 
@@ -522,12 +537,12 @@ class Sizes(unittest.TestCase):
         # A session that hasn't taken it yet may still have it.
         person.link.has_taken = False
         person.commands.size.refused()
-        self.assertEqual((person.display.told, person.commands.size.requested, "requested size" in person.loop.due), ("", (5, 8), True))
+        self.assertEqual((person.display.row.told, person.commands.size.requested, "requested size" in person.loop.due), ("", (5, 8), True))
         person.link.has_taken = True
         person.commands.size.refused()
-        self.assertEqual((person.display.told, person.commands.size.requested), ("its panes have no room in 5 by 8", None))
-        person.display.end_told()
-        self.assertTrue(person.display.shows_all() is False)
+        self.assertEqual((person.display.row.told, person.commands.size.requested), ("its panes have no room in 5 by 8", None))
+        person.display.row.end_told()
+        self.assertTrue(person.display.part.shows_all() is False)
 
     def test_given_and_had(self):
         """A size that was had isn't told as refused, when another makes the session larger later."""
@@ -537,11 +552,11 @@ class Sizes(unittest.TestCase):
         self.assertNotIn("requested size", person.loop.due)
         person.answers()
         person.tell(places(40, 120))
-        self.assertEqual((person.display.told, person.display.line()), ("", "[1]" + " " * 87 + FITS))
+        self.assertEqual((person.display.row.told, person.display.row.line()), ("", "[1]" + " " * 87 + FITS))
 
     def test_watcher(self):
         person = Person(12, 40, is_read_only=True, told=places(24, 100))
-        self.assertEqual((person.said(), person.display.line().rstrip()), (["part 11 40"], "[1]"))
+        self.assertEqual((person.said(), person.display.row.line().rstrip()), (["part 11 40"], "[1]"))
         person.types(b"\x02r")
         self.assertEqual(person.link.acts, [])
         person.resize(30, 120)
@@ -573,7 +588,7 @@ class Parts(unittest.TestCase):
         person = Person(24, 80, told=places(24, 80))
         person.answers()
         person.tell(places(24, 100))
-        self.assertEqual((person.said(), person.display.shows_all()), ([], False))
+        self.assertEqual((person.said(), person.display.part.shows_all()), ([], False))
         self.assertEqual(person.shown()[23], "[1]" + " " * 67 + FITS)
 
     def test_shrunk(self):
@@ -598,7 +613,7 @@ class Parts(unittest.TestCase):
         # A client that is connected to anew knows nothing of where it began.
         person.display.begin()
         person.commands.show_known()
-        self.assertEqual((person.said(), person.display.place, person.display.silent), (["part 11 40"], (0, 0), 0))
+        self.assertEqual((person.said(), person.display.part.place, person.display.row.silent), (["part 11 40"], (0, 0), 0))
 
     def test_larger_terminal(self):
         """One that has more room than the session has no more of it than its panes, and blanks beside these."""
@@ -639,7 +654,7 @@ class Parts(unittest.TestCase):
         person.resize(30, 100)
         self.assertEqual(person.said(), ["whole"])
         person.display.take(DisplayRecord("anew", (1,), painting(11, 40, "all")))
-        self.assertEqual((person.display.whole_size, person.shown()[:11]), ((11, 40), ["all"] * 11))
+        self.assertEqual((person.display.part.whole_size, person.shown()[:11]), ((11, 40), ["all"] * 11))
 
     def test_told_later(self):
         """Where it comes to be told where the panes are a part is shown from then on, and where it is told no more the whole."""
@@ -651,7 +666,7 @@ class Parts(unittest.TestCase):
         self.assertEqual(person.shown(), ["part"] * 23 + ["[1]"])
         with mock.patch.object(PlayedPanes, "awaited", True):
             person.tell(None)
-            self.assertEqual((person.said(), person.display.line().rstrip()), ([], "[1]"))
+            self.assertEqual((person.said(), person.display.row.line().rstrip()), ([], "[1]"))
         person.tell(None)
         self.assertEqual(person.said(), ["whole"])
 
@@ -681,7 +696,7 @@ class Parts(unittest.TestCase):
         person.display.outer.cols = 90
         person.display.resized()
         person.display.take(DisplayRecord("paint", (1,), b"still"))
-        self.assertTrue(b"still" in person.display.outer.waiting and not person.display.is_stale)
+        self.assertTrue(b"still" in person.display.outer.waiting and not person.display.part.is_stale)
         person.loop.due.clear()
         person.display.outer.cols = 80
         for rows in range(23, 10, -1):
@@ -776,7 +791,7 @@ class UnderNotice(unittest.TestCase):
         person.resize(2, 80)
         self.assertEqual(person.types(b"b\x1b[201~"), [])
         self.assertEqual(person.types(b"\x1b[200~a\x1b[201~"), [])
-        self.assertEqual(person.display.told, "nothing is pasted where the session isn't shown")
+        self.assertEqual(person.display.row.told, "nothing is pasted where the session isn't shown")
 
     def test_help(self):
         person = Person(24, 80, told=places(24, 80))
@@ -819,7 +834,7 @@ class Words(unittest.TestCase):
         person = Person(24, 80)
         person.paints(24, 80)
         before = len(person.display.outer.waiting)
-        person.display.tell("close \x1b]0;pwned\x07\u202e\n in pane 1? y closes it", None)
+        person.display.row.tell("close \x1b]0;pwned\x07\u202e\n in pane 1? y closes it", None)
         person.display.show("no \x1b[c\x9b6n\u2066 end\nnext")
         written = person.display.outer.waiting[before:].replace(tty.CLEARED, b"")
         self.assertIn("close ?]0;pwned??? in pane 1?".encode(), written)
@@ -832,7 +847,7 @@ class Words(unittest.TestCase):
         person = Person(24, 80)
         person.paints(24, 80)
         before = len(person.display.outer.waiting)
-        person.display.tell("\u4e2d" * 200)
+        person.display.row.tell("\u4e2d" * 200)
         written = bytes(person.display.outer.waiting[before:])
         self.assertTrue(written.startswith(b"\x1b7\x1b[?7l\x1b[24;1H") and written.endswith(b"\x1b[0m\x1b[?7h\x1b8"), written)
 
@@ -842,7 +857,7 @@ class Words(unittest.TestCase):
         ends = os.dup(0), os.dup(1)
         os.dup2(slave, 0), os.dup2(slave, 1)
         try:
-            outer = display.OuterTerminal()
+            outer = outer_terminal.OuterTerminal()
             outer.enter()
             outer.leave("[the relay has ended; \x1b[c/log tells why]")
         finally:
@@ -862,7 +877,7 @@ class Lines(Case):
         two = Places({1: Rect(1, 1, 23, 50), 2: Rect(1, 52, 23, 49)}, 2, 1)
         for size, line in (((24, 100), " 1 [2]".ljust(100)), ((24, 80), " 1 [2]".ljust(70) + FITS), ((24, 17), f" 1 [2] {FITS}"),
                            ((24, 16), f"      {FITS}"), ((24, 10), FITS), ((24, 9), " 1 [2]   ")):
-            self.assertEqual(Person(*size, told=two).display.line(), line, size)
+            self.assertEqual(Person(*size, told=two).display.row.line(), line, size)
 
     def test_starts(self):
         """From 48 starts on their number stands at the end."""
@@ -870,9 +885,10 @@ class Lines(Case):
         ends = []
         for clients in (47, 48, 64):
             person.tell(places(24, 80)._replace(clients=clients))
-            ends.append(person.display.line()[3:].strip())
+            ends.append(person.display.row.line()[3:].strip())
         person.tell(places(24, 100)._replace(clients=50))
-        self.assertEqual([*ends, person.display.line()[-28:]], ["", "48 of 64 clients", "64 of 64 clients", f" 50 of 64 clients {FITS}"])
+        self.assertEqual([*ends, person.display.row.line()[-28:]],
+                         ["", "48 of 64 clients", "64 of 64 clients", f" 50 of 64 clients {FITS}"])
 
     def test_same(self):
         """What stands there isn't written again."""
@@ -907,10 +923,10 @@ class Lines(Case):
         """What is told or asked stands there first, and a silence under a cover is told once that goes."""
         person = Person(24, 80, told=places(24, 80))
         person.answers()
-        person.display.tell("told", 1.0)
+        person.display.row.tell("told", 1.0)
         person.display.take(DisplayRecord("silent", (10,)))
         self.assertEqual(person.shown()[23], "told")
-        person.display.end_told()
+        person.display.row.end_told()
         self.assertTrue(person.shown()[23].startswith("roam: no answer for 10 s"))
         person.display.show("help")
         person.display.take(DisplayRecord("silent", (12,)))

@@ -185,12 +185,12 @@ class Programs(Pointed):
             person.types(keys)
             person.said()
             self.assertEqual(self.points(person, (0, 1, 1)), [])
-        self.assertIn("y closes it", person.display.prompt)
+        self.assertIn("y closes it", person.display.row.prompt)
         person.types(b"n")
         self.assertEqual(len(self.points(person, (0, 1, 1))), 1)
-        person.display.is_stale = True
+        person.display.part.is_stale = True
         self.assertEqual(self.points(person, (0, 1, 1)), [])
-        person.display.is_stale = False
+        person.display.part.is_stale = False
         person.commands.acts.paused = True
         self.assertEqual(self.points(person, (0, 1, 1)), [])
 
@@ -243,13 +243,13 @@ class Own(Pointed):
         for asked, line in (("drags", "the mouse focuses, scrolls and drags borders; C-b m ends that"),
                             ("", "the mouse selects text, but where a program has it")):
             person.types(b"\x02m")
-            self.assertEqual((person.display.outer.reports, person.display.told), (asked, line))
+            self.assertEqual((person.display.outer.reports, person.display.row.told), (asked, line))
         person.types(b"\x02m")
         person.tell(PANES._replace(focus=2))
         self.assertEqual(person.display.outer.reports, "motion")
         watcher = self.person({}, is_read_only=True)
         watcher.types(b"\x02m")
-        self.assertEqual((watcher.display.outer.reports, watcher.display.told), ("", ""))
+        self.assertEqual((watcher.display.outer.reports, watcher.display.row.told), ("", ""))
         unknown = Person(24, 80)
         unknown.types(b"\x02m")
         self.assertEqual(unknown.display.outer.reports, "")
@@ -284,13 +284,13 @@ class Own(Pointed):
         self.assertEqual(self.points(person, (65, 1, 41)), [])
         self.assertEqual(self.points(person, (64, 1, 41), (64, 1, 41), (65, 1, 41)),
                          [("focus 2", "view 3"), ("focus 2", "view 3"), ("focus 2", "view -3")])
-        self.assertTrue(person.display.told.startswith("3 rows back: "))
+        self.assertTrue(person.display.row.told.startswith("3 rows back: "))
         self.assertEqual(person.types(b"k"), ["view 1"])
         self.assertEqual(self.points(person, (65, 1, 41), (65, 1, 41)), [("focus 2", "view -3"), ("focus 2", "view -500")])
-        self.assertEqual((person.display.told, person.types(b"k")), ("", ["char 6b"]))
+        self.assertEqual((person.display.row.told, person.types(b"k")), ("", ["char 6b"]))
         for _ in range(200):
             self.points(person, (64, 1, 41))
-        self.assertTrue(person.display.told.startswith("500 rows back: "))
+        self.assertTrue(person.display.row.told.startswith("500 rows back: "))
         self.assertEqual(person.types(b"q"), ["view -500"])
 
     def test_scrolls_by_keys(self):
@@ -304,7 +304,7 @@ class Own(Pointed):
         person.said()
         before = len(person.link.acts)
         self.assertEqual(self.points(person, (0, 1, 50)), [("focus 2",)])
-        self.assertEqual((person.link.acts[before:], person.modes.is_typing(), person.display.told), (["view -500"], True, ""))
+        self.assertEqual((person.link.acts[before:], person.modes.is_typing(), person.display.row.told), (["view -500"], True, ""))
 
     def test_border(self):
         """A border is dragged with the first button alone; in another pane's place nothing comes of it."""

@@ -539,28 +539,28 @@ class Persons(unittest.TestCase):
         """At a terminal that watches nothing is pasted, and it says so."""
         person = self.person(is_read_only=True)
         acts = person.types(b"\x1b[200~ab\x1b[201~")
-        self.assertEqual((acts, person.display.told), ([], "nothing is pasted: this terminal only watches"))
+        self.assertEqual((acts, person.display.row.told), ([], "nothing is pasted: this terminal only watches"))
 
     def test_asked(self):
         """At a question a paste is a no, and nothing of it is typed, nor an answer."""
         person = self.person()
         person.commands.acts.ask("close it? y closes it", ClosePane(0))
         self.assertEqual(person.types(b"\x1b[200~y"), [])
-        self.assertEqual((person.types(b"y\x1b[201~z"), person.display.told), (["char 7a"], "nothing is pasted: a question was there"))
+        self.assertEqual((person.types(b"y\x1b[201~z"), person.display.row.told), (["char 7a"], "nothing is pasted: a question was there"))
 
     def test_scrolls(self):
         """It ends the scroll mode."""
         person = self.person()
         person.types(b"\x02[kk")
         self.assertEqual(person.types(b"\x1b[200~ab"), ["view -500"])
-        self.assertEqual((person.types(b"\x1b[201~"), person.display.told), (["char 61", "char 62"], ""))
+        self.assertEqual((person.types(b"\x1b[201~"), person.display.row.told), (["char 61", "char 62"], ""))
 
     def test_paused(self):
         """Where no start is there nothing is pasted, which is told; what is in it neither leaves nor is a key."""
         person = self.person()
         person.commands.acts.paused = True
         self.assertEqual(person.types(b"\x1b[200~q\x03\x1b[201~"), [])
-        self.assertEqual((person.left, person.display.told), (None, "nothing is pasted where the session isn't shown"))
+        self.assertEqual((person.left, person.display.row.told), (None, "nothing is pasted where the session isn't shown"))
 
 
 if __name__ == "__main__":

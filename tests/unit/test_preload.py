@@ -128,7 +128,7 @@ class Gone(Fronts):
         gone = ModuleNotFoundError("No module named 'roam_live.frontend.copymode.keys'")
         with mock.patch.object(controller.Copying, "open", side_effect=gone):
             self.type(b"\x02[x")
-        self.assertEqual((self.front.display.told, self.front.left), (REPLACED, None))
+        self.assertEqual((self.front.display.row.told, self.front.left), (REPLACED, None))
         self.assertIn(b"char 78\n", client.recv(9999))
 
     def test_moment(self):
@@ -144,7 +144,8 @@ class Gone(Fronts):
 
         self.front.loop.later("anything", 0.0, fails)
         self.turn(1)
-        self.assertEqual((self.front.display.told, commands.copying.state.is_on(), len(commands.copying.state.events)), (REPLACED, False, 0))
+        self.assertEqual((self.front.display.row.told, commands.copying.state.is_on(), len(commands.copying.state.events)),
+                         (REPLACED, False, 0))
         self.assertIn(REPLACED.encode(), self.shown())
 
     def test_width(self):

@@ -24,7 +24,7 @@ class Moves(Attached):
         """Where the borders of a pane in focus are, before a key and behind it."""
         self.session.focus = pane
         self.person.tell(self.session.places())
-        self.person.display.end_told()
+        self.person.display.row.end_told()
         before = self.ends(pane)
         self.types(KEYS[side])
         self.assertIsNone(self.person.commands.border_keys.drag)
@@ -42,11 +42,11 @@ class Moves(Attached):
                 before, after = self.move(pane, side)
                 moves = back if at_edge[("left", "up", "right", "down").index(side)] else side
                 step = 1 if side in ("right", "down") else -1
-                if self.person.display.told:
+                if self.person.display.row.told:
                     words = {resize_keys.NO_ROOM, NO_PANE, *(words.format(pane) for words in resize_keys.NO_BORDER.values())}
-                    self.assertIn(self.person.display.told, words)
+                    self.assertIn(self.person.display.row.told, words)
                     self.assertEqual((session.rects(), session.focus), (rects, pane))
-                    stuck += self.person.display.told == NO_PANE
+                    stuck += self.person.display.row.told == NO_PANE
                     continue
                 moved += 1
                 self.assertEqual((after[moves], session.focus), (before[moves] + step, pane), (side, rect, rects))
@@ -89,7 +89,7 @@ class Moves(Attached):
         session.area = Rect(1, 1, 5, 80)
         self.attach(session, (6, 80))
         self.move(1, "down")
-        self.assertEqual(self.person.display.told, NO_PANE)
+        self.assertEqual(self.person.display.row.told, NO_PANE)
 
     def test_trees(self):
         """In each of 40 trees, where the numbers tell the splits: what is said not to go has no pane whose own split it is."""
@@ -155,7 +155,7 @@ class Moves(Attached):
         self.assertEqual(session.rects()[3].col, before.col - 1)
         self.now += resize_keys.FOCUS_WAIT
         self.person.loop.do_due()
-        self.assertEqual((self.person.said(), self.person.display.told), ([], resize_keys.NO_FOCUS))
+        self.assertEqual((self.person.said(), self.person.display.row.told), ([], resize_keys.NO_FOCUS))
 
     def test_limits(self):
         """It goes no further than the panes have room; that is told."""
@@ -165,16 +165,16 @@ class Moves(Attached):
         for _ in range(50):
             self.types(KEYS["right"])
             self.take(3)
-        self.assertEqual((session.rects()[2].cols, self.person.display.told), (4, resize_keys.NO_ROOM))
+        self.assertEqual((session.rects()[2].cols, self.person.display.row.told), (4, resize_keys.NO_ROOM))
 
     def test_untold(self):
         """Where nothing tells the panes that is told."""
         self.attach(Lived())
         self.person.place.told = None
         for keys in (KEYS["up"], b"\x02 "):
-            self.person.display.end_told()
+            self.person.display.row.end_told()
             self.person.keyboard.fed(keys)
-            self.assertEqual(self.person.display.told, resize_keys.UNTOLD)
+            self.assertEqual(self.person.display.row.told, resize_keys.UNTOLD)
 
 
 class Even(Attached):
@@ -195,7 +195,7 @@ class Even(Attached):
                 self.take()
             evened = Evened(session.parts, session.rects())
             self.assertEqual((evened.acts, session.focus), ([], focus), seed)
-            self.assertEqual(self.person.display.told == resize_keys.STUCK, evened.is_stuck, seed)
+            self.assertEqual(self.person.display.row.told == resize_keys.STUCK, evened.is_stuck, seed)
             self.assertIsNone(self.person.commands.border_keys.wanted)
             stuck += evened.is_stuck
         self.assertTrue(0 < stuck < 30, stuck)
@@ -207,9 +207,9 @@ class Even(Attached):
             session.do(act)
         self.attach(session)
         self.types(b"\x02 ")
-        self.assertEqual(([rect.cols for rect in session.rects().values()], self.person.display.told), ([26, 26, 26], ""))
+        self.assertEqual(([rect.cols for rect in session.rects().values()], self.person.display.row.told), ([26, 26, 26], ""))
         self.types(b"\x02 ")
-        self.assertEqual(self.person.display.told, resize_keys.EVEN)
+        self.assertEqual(self.person.display.row.told, resize_keys.EVEN)
 
     def test_refused(self):
         """What isn't done is tried so often and no more."""

@@ -199,15 +199,15 @@ class Close(Folder):
         for places, named in ((TWO, "pane 1"), (None, "this pane")):
             for key, acts in ((b"y", ["close"]), (b"n", [])):
                 keyboard, link, shown = self.person(self.by_hand(), places)
-                self.assertEqual((link.acts, shown.prompt), ([], f"close whatever runs in {named}? y closes it"))
+                self.assertEqual((link.acts, shown.row.prompt), ([], f"close whatever runs in {named}? y closes it"))
                 keyboard.fed(key)
-                self.assertEqual((link.acts, shown.told), (acts, ""))
+                self.assertEqual((link.acts, shown.row.told), (acts, ""))
 
     def test_unasked(self):
         """Where shells alone are known to run it is closed at once."""
         self.keep_host()
         _, link, shown = self.person(self.by_hand(), TWO)
-        self.assertEqual((link.acts, shown.told), (["close"], ""))
+        self.assertEqual((link.acts, shown.row.told), (["close"], ""))
 
 
 if __name__ == "__main__":

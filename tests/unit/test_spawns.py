@@ -132,7 +132,7 @@ class AtFrontEnd(Case):
 
     def told(self):
         """What the person is told."""
-        return [one.args[0] for one in self.commands.display.tell.call_args_list]
+        return [one.args[0] for one in self.commands.display.row.tell.call_args_list]
 
     def test_split(self):
         """The pane is split once the command waits; what stands behind in the line is done then."""

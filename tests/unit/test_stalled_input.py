@@ -144,7 +144,7 @@ class Keys(Fronts):
         self.turn()
         self.now += 1
         self.turn()
-        self.assertEqual(self.front.display.told, "")
+        self.assertEqual(self.front.display.row.told, "")
 
 
 if __name__ == "__main__":

@@ -69,14 +69,14 @@ class Person(Attached):
         """Keys go to all panes while it is on, which the last row tells, and nothing is predicted; then to the one in focus."""
         self.begin()
         self.switch()
-        self.assertEqual((self.commands.display.told, self.commands.display.panes_label()),
+        self.assertEqual((self.commands.display.row.told, self.commands.display.row.panes_label()),
                          ("keys go to all panes of this window", " 1  2 [3] S"))
         self.types(b"ab\x1b[A")
         self.assertEqual(self.heard, ["char 61 ; char 62 ; key up ; focus 1 ; char 61 ; char 62 ; key up ; focus 2 ; char 61 ; char 62 ; "
                                       "key up ; focus 3"])
         self.switch()
         self.types(b"c")
-        self.assertEqual((self.heard[1:], self.predicted, self.commands.display.panes_label()),
+        self.assertEqual((self.heard[1:], self.predicted, self.commands.display.row.panes_label()),
                          (["char 63"], ["never", "adaptive"], " 1  2 [3]"))
 
     def test_commands(self):
@@ -145,7 +145,7 @@ class Person(Attached):
         self.types(b"\x02z")
         self.heard.clear()
         self.types(b"a")
-        self.assertEqual((self.heard, self.commands.display.panes_label()[-3:]), (["char 61"], " ZS"))
+        self.assertEqual((self.heard, self.commands.display.row.panes_label()[-3:]), (["char 61"], " ZS"))
         self.types(b"\x02zb")
         self.assertIn("char 62 ; focus 1 ; char 62 ; focus 2", self.heard)
         self.begin(2, is_read_only=True)

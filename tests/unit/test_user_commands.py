@@ -169,14 +169,14 @@ class Line(Case):
             self.assertEqual([one.args[0] for one in self.runner.keyboard.grant.call_args_list], ["synchronize"] * is_switched, line)
             self.assertNotIn("synchronize-panes", environment.BY_FILE)
         self.runner.typed("setw synchronize-panes perhaps")
-        self.commands.display.tell.assert_called_with("synchronize-panes is 'perhaps', and may be on or off", 4.0)
+        self.commands.display.row.tell.assert_called_with("synchronize-panes is 'perhaps', and may be on or off", 4.0)
 
     def test_done(self):
         """Commands are done in order, up to one that can't be."""
         self.runner.typed("splitw -h; send-keys 'a b' ; nosuch; killp")
         self.assertEqual([one.args[0] for one in self.runner.keyboard.grant.call_args_list], ["split right"])
         self.assertEqual([one.args for one in self.commands.type_key.call_args_list], [(["char 61", "char 20", "char 62"],)])
-        self.commands.display.tell.assert_called_with("nosuch is no command of roam", 4.0)
+        self.commands.display.row.tell.assert_called_with("nosuch is no command of roam", 4.0)
         self.assertEqual(list(self.runner.lines), ["splitw -h; send-keys 'a b' ; nosuch; killp"])
         for wrong in ("splitw 'x", "bind { killp }"):
             self.runner.typed(wrong)
@@ -185,9 +185,9 @@ class Line(Case):
     def test_shell(self):
         """The last line of what a shell says in the background is told, printable; nothing waits for it."""
         self.runner.typed("run -b 'echo one; printf \"two\\033[2J\"'")
-        while not self.commands.display.tell.called:
+        while not self.commands.display.row.tell.called:
             self.loop.turn()
-        self.commands.display.tell.assert_called_once_with("two?[2J", 4.0)
+        self.commands.display.row.tell.assert_called_once_with("two?[2J", 4.0)
         self.runner.runs[0].process.wait()
         self.assertTrue(self.runner.runs[0].has_ended())
 
@@ -198,24 +198,24 @@ class Line(Case):
         while not self.commands.lists.show_lines.called:
             self.loop.turn()
         self.commands.lists.show_lines.assert_called_once_with([" one", "two?    x"])
-        self.assertFalse(self.commands.display.tell.called)
+        self.assertFalse(self.commands.display.row.tell.called)
         self.commands.lists.show_lines.return_value = False
         for line in ("run 'echo only'", "run 'echo one; echo two'"):
-            self.commands.display.tell.reset_mock()
+            self.commands.display.row.tell.reset_mock()
             self.runner.typed(line)
-            while not self.commands.display.tell.called:
+            while not self.commands.display.row.tell.called:
                 self.loop.turn()
-        self.commands.display.tell.assert_called_once_with("two", 4.0)
+        self.commands.display.row.tell.assert_called_once_with("two", 4.0)
         self.assertEqual(self.commands.lists.show_lines.call_count, 2)
 
     def test_told(self):
         """A text is told with its formats filled; one of which roam hasn't all is refused."""
         self.runner.settings.filled.side_effect = lambda text: text.replace("#S", "main")
         self.runner.typed("display '#S is it'")
-        self.commands.display.tell.assert_called_once_with("main is it", 4.0)
+        self.commands.display.row.tell.assert_called_once_with("main is it", 4.0)
         self.runner.settings.filled.side_effect = ValueError("#{pid} isn't there in roam")
         self.runner.typed("display '#{pid}'")
-        self.commands.display.tell.assert_called_with("#{pid} isn't there in roam", 4.0)
+        self.commands.display.row.tell.assert_called_with("#{pid} isn't there in roam", 4.0)
 
     def test_bound(self):
         """Keys are bound and unbound at this terminal, beside those of the file; what can't be is told, and changes nothing."""
@@ -233,7 +233,7 @@ class Line(Case):
                           ("bind", "bind: it has a key"), ("unbind nokey", "nokey is no key that is known here"),
                           ("bind v", "bind v has no command")):
             self.runner.typed(line)
-            self.assertEqual(self.commands.display.tell.call_args.args[0], why)
+            self.assertEqual(self.commands.display.row.tell.call_args.args[0], why)
             self.assertEqual(OWN.found.bindings, found)
         self.runner.typed("unbind -a")
         self.assertEqual(OWN.found.bindings, {("prefix", "all"): None, ("root", "f5"): found["root", "f5"]})
@@ -241,7 +241,7 @@ class Line(Case):
     def test_set(self):
         """An option is set at this terminal; one that can't be is told."""
         self.runner.typed("set -g nosuch 1")
-        self.commands.display.tell.assert_called_with("nosuch is no option of roam", 4.0)
+        self.commands.display.row.tell.assert_called_with("nosuch is no option of roam", 4.0)
         self.runner.settings.go_by.assert_not_called()
 
 

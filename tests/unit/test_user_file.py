@@ -115,7 +115,7 @@ class Row(Case):
         outer.waiting = bytearray()
         self.patch("roam_live.frontend.display.OuterTerminal", lambda: outer)
         self.display = Display(self.loop, lambda line: None)
-        self.display.asked, self.display.told_size, self.display.labels = (23, 40), (24, 40), "[1]"
+        self.display.part.asked, self.display.part.told_size, self.display.row.labels = (23, 40), (24, 40), "[1]"
         told = mock.Mock(names={2: ""}, runs={2: "vim"})
         panes = mock.Mock(title_and_shape=("a title", 0))
         self.row = StatusRow(self.display, self.loop, lambda: format_values("main:2", 2, told, panes, False))
@@ -129,20 +129,20 @@ class Row(Case):
     def test_ends(self):
         """They stand before and behind the labels, in their styles; where there is less room they are cut."""
         self.assertEqual(self.choose("[#S] ", " #[fg=red]#I:#W"), [])
-        self.assertEqual(self.display.line(), "[main] [1]" + " " * 24 + " 2:vim")
-        text = self.display.line_text(self.display.line(), 40)
+        self.assertEqual(self.display.row.line(), "[main] [1]" + " " * 24 + " 2:vim")
+        text = self.display.row.line_text(self.display.row.line(), 40)
         self.assertEqual(text, "\x1b[0;7m[main] \x1b[0;7m[1]" + " " * 24 + "\x1b[0;7m \x1b[0;7;31m2:vim\x1b[0m")
         self.choose("#T#T#T", "")
-        self.assertEqual(self.display.line()[:17], "a titlea titl[1] ")
-        self.display.told = "told"
-        self.assertEqual(self.display.line_text("told", 9), "\x1b[0;7mtold     \x1b[0m")
+        self.assertEqual(self.display.row.line()[:17], "a titlea titl[1] ")
+        self.display.row.told = "told"
+        self.assertEqual(self.display.row.line_text("told", 9), "\x1b[0;7mtold     \x1b[0m")
 
     def test_wrong(self):
         """What isn't there in a format is told; a row without formats is as it always was."""
         self.assertEqual(self.choose("#(date)", ""), ["status-left: #(date) isn't there in roam"])
         self.choose("", "")
-        self.assertEqual((self.display.status, self.display.line()), (None, "[1]" + " " * 37))
-        self.assertEqual(self.display.parts[0] + [Styled("", "")], [Styled("", "")])
+        self.assertEqual((self.display.row.status, self.display.row.line()), (None, "[1]" + " " * 37))
+        self.assertEqual(self.display.row.parts[0] + [Styled("", "")], [Styled("", "")])
 
     def test_filled(self):
         """A format alone is filled by the same values, without styles; what of it isn't there is told."""

@@ -26,7 +26,8 @@ class Zoomed(Attached):
         """Whether a pane fills the terminal, and nothing else is shown."""
         rect, (rows, cols) = self.session.rects()[pane], self.person.display.outer.size()
         part = f"part {rect.row - 1} {rect.col - 1} {rect.rows} {rect.cols}"
-        return self.shown[-1] == part and (rect.rows, rect.cols) == (rows - 1, cols) and self.person.display.line().rstrip().endswith("Z")
+        return self.shown[-1] == part and (rect.rows, rect.cols) == (rows - 1,
+                                                                     cols) and self.person.display.row.line().rstrip().endswith("Z")
 
 
 class Back(Zoomed):
@@ -47,11 +48,11 @@ class Back(Zoomed):
                 for has, wanted, whole, most in zip(rect[2:], (size[0] - 1, size[1]), session.places().size(), MOST):
                     self.assertTrue(has == wanted or whole == most and has < wanted, (size, seed, rect))
                 full += (rect.rows, rect.cols) == (size[0] - 1, size[1])
-                self.assertTrue(self.person.display.line().rstrip().endswith("Z"))
+                self.assertTrue(self.person.display.row.line().rstrip().endswith("Z"))
                 self.types(b"\x02z")
-                self.assertEqual((session.rects(), self.person.display.zoomed, self.shown[-1].replace("part 0 0 ", "part ")),
+                self.assertEqual((session.rects(), self.person.display.part.zoomed, self.shown[-1].replace("part 0 0 ", "part ")),
                                  (before, None, "part {} {}".format(size[0] - 1, size[1])), (size, seed))
-                self.assertFalse(self.person.display.is_held)
+                self.assertFalse(self.person.display.part.is_held)
         self.assertGreater(full, 50)
 
     def test_pushed(self):
@@ -157,7 +158,8 @@ class Ends(Zoomed):
         for act in acts:
             other.do(act)
         self.assertEqual((self.session.places(), self.person.commands.zooming.is_on()), (other.places(), False), keys)
-        self.assertEqual((self.person.display.zoomed, self.person.display.is_held, self.person.host.zoom), (None, False, None), keys)
+        self.assertEqual((self.person.display.part.zoomed, self.person.display.part.is_held, self.person.host.zoom), (None, False, None),
+                         keys)
 
     def test_keys(self):
         """What this person does with panes is done at the session's own size."""
@@ -171,7 +173,7 @@ class Ends(Zoomed):
         """What puts the focus where it is ends nothing, and neither does a key that is typed, or one that no pane takes."""
         self.attach(self.grid())
         self.types(b"\x02z\x02q2x\r\x02;")
-        self.assertEqual((self.person.commands.zooming.is_on(), self.person.display.told), (True, "no other pane was in focus"))
+        self.assertEqual((self.person.commands.zooming.is_on(), self.person.display.row.told), (True, "no other pane was in focus"))
 
     def test_last(self):
         """C-b ; goes to the pane that was in focus, as the focus was told."""
@@ -194,7 +196,8 @@ class Ends(Zoomed):
             self.types(b"\x02z")
             self.by_another(*acts)
             self.assertEqual((self.session.places().size(), self.person.commands.zooming.is_on()), (size, False), acts)
-            self.assertEqual((self.person.display.zoomed, self.person.display.is_held, self.person.host.zoom), (None, False, None), acts)
+            self.assertEqual((self.person.display.part.zoomed, self.person.display.part.is_held, self.person.host.zoom),
+                             (None, False, None), acts)
 
     def test_no_room(self):
         """Where others have split so much meanwhile that the size isn't had again, that is told, and nothing is noted any more."""
@@ -210,8 +213,8 @@ class Ends(Zoomed):
         self.take()
         self.now += REFUSES
         self.person.loop.do_due()
-        self.assertIn("have no room in 24 by 80", self.person.display.told)
-        self.assertEqual((self.person.host.zoom, self.person.display.is_held), (None, False))
+        self.assertIn("have no room in 24 by 80", self.person.display.row.told)
+        self.assertEqual((self.person.host.zoom, self.person.display.part.is_held), (None, False))
 
     def test_leaving(self):
         """Who leaves gives the size back first."""
@@ -231,7 +234,7 @@ class Ends(Zoomed):
         after = self.session.rects()
         for told in ({**before, 1: after[1]}, {**before, 1: after[1], 2: after[2]}):
             self.person.tell(Places(told, 2, 1))
-            self.assertTrue(self.person.commands.zooming.is_on() and self.person.display.is_held)
+            self.assertTrue(self.person.commands.zooming.is_on() and self.person.display.part.is_held)
         self.take()
         self.take()
         self.assertTrue(self.is_zoomed(2))
@@ -241,7 +244,7 @@ class Ends(Zoomed):
         self.attach(self.grid())
         self.session.do = lambda act: None
         self.types(b"\x02z")
-        self.assertTrue(self.person.display.is_held)
+        self.assertTrue(self.person.display.part.is_held)
         self.person.link.has_taken = False
         self.now += REFUSES + 0.1
         self.person.loop.do_due()
@@ -249,9 +252,9 @@ class Ends(Zoomed):
         self.person.link.has_taken = True
         self.now += REFUSES + 0.1
         self.person.loop.do_due()
-        self.assertEqual((self.person.commands.zooming.is_on(), self.person.display.told), (False, zoom.REFUSED))
+        self.assertEqual((self.person.commands.zooming.is_on(), self.person.display.row.told), (False, zoom.REFUSED))
         self.take()
-        self.assertFalse(self.person.display.is_held)
+        self.assertFalse(self.person.display.part.is_held)
 
     def test_again(self):
         """With another connection the size that is awaited is asked for again, there and back; where none is, none is."""
@@ -271,11 +274,11 @@ class Ends(Zoomed):
                              (self.grid((60, 200)), "pane 2 has 29 by 100, more than this terminal shows: nothing is zoomed")):
             self.attach(session, host=PlayedHost(True))
             self.types(b"\x02z")
-            self.assertEqual((self.person.display.told, self.heard), (why, []))
+            self.assertEqual((self.person.display.row.told, self.heard), (why, []))
         person = Person(24, 80)
         person.paints(24, 80)
         person.types(b"\x02z")
-        self.assertEqual(person.display.told, sizes.UNTOLD)
+        self.assertEqual(person.display.row.told, sizes.UNTOLD)
         watcher = Person(24, 80, is_read_only=True, told=self.grid().places())
         watcher.types(b"\x02z\x02 \x02;\x02\x1b[1;5C")
         self.assertEqual((watcher.sizes(), [line for line in watcher.link.lines if "size" in line]), ([], []))
@@ -310,7 +313,7 @@ class Resized(Zoomed):
         self.person.resize(10, 30)
         self.take(6)
         self.assertEqual((self.session.places().size(), self.person.commands.zooming.is_on()), ((24, 80), False))
-        self.assertIn("more than this terminal shows", self.person.display.told)
+        self.assertIn("more than this terminal shows", self.person.display.row.told)
 
     def test_grown(self):
         """A session that wasn't all shown grows to a terminal that is larger by now, where nobody else types."""
@@ -331,7 +334,7 @@ class Resized(Zoomed):
             self.session.do(act)
             self.person.tell(self.session.places())
             self.assertTrue(self.person.commands.zooming.is_on(), act)
-        self.assertEqual((self.person.display.zoomed, self.session.rects()[2][2:]), (self.session.rects()[2], (29, 100)))
+        self.assertEqual((self.person.display.part.zoomed, self.session.rects()[2][2:]), (self.session.rects()[2], (29, 100)))
         self.types(b"\x02z")
         self.assertEqual(self.session.places().size(), (30, 100))
 

@@ -51,7 +51,7 @@ class FrontEnd:
         self.left_at: float | None = None
         self.status = 0
         self.wakeup = woken(signal.SIGWINCH, signal.SIGCONT, signal.SIGTSTP, *LEAVING)
-        self.watchdog = HostWatchdog(session, self.loop, lambda line: self.display.tell(line, LOSS_TOLD))
+        self.watchdog = HostWatchdog(session, self.loop, lambda line: self.display.row.tell(line, LOSS_TOLD))
         self.display = Display(self.loop, lambda line: self.connection.say(line))
         self.keyboard = Interpreter(ModeStack(Keymap()), self.display, self.loop, lambda: self.views.commands)
         self.settings = FrontSettings(self.keyboard, StatusRow(self.display, self.loop, self.values), prefix, prediction)
@@ -79,7 +79,7 @@ class FrontEnd:
 
     def values(self) -> dict[str, str]:
         """Return what the words of formats stand for."""
-        views, is_zoomed = self.views, self.display.zoomed is not None
+        views, is_zoomed = self.views, self.display.part.zoomed is not None
         return format_values(self.session.name, views.number, self.windows.told, views.panes, is_zoomed)
 
     def server_ended(self, view: WindowView) -> None:
@@ -152,12 +152,12 @@ class FrontEnd:
         if view.bells.keypads or outer.is_application:
             # The keypad is an application's, in a pane or at the terminal.
             places = view.panes.places
-            self.display.set_keypad(places is not None and places.focus in view.host.keypads)
+            self.display.outer.set_keypad(places is not None and places.focus in view.bells.keypads)
         if view.link.waiting and view.link.peer:
             self.connection.send()
         if outer.has_more():
             self.show()
-        if self.views.draining.views and not self.display.is_stale:
+        if self.views.draining.views and not self.display.part.is_stale:
             self.views.draining.settle()
 
     def typed(self) -> None:

@@ -55,7 +55,7 @@ class BorderDrag:
         elif not places or not at or not self.aim or self.aim == at:
             self.end_over()
         elif not self.leaves:
-            self.acts.display.tell(NO_PANE)
+            self.acts.display.row.tell(NO_PANE)
             self.ended()
         else:
             pane, sign = self.leaves[0]

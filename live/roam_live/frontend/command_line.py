@@ -104,7 +104,7 @@ class CommandRunner:
     def tell(self, text: str) -> None:
         """Tells a line in the last row."""
         if text:
-            self.keyboard.commands().display.tell(text, SAID)
+            self.keyboard.commands().display.row.tell(text, SAID)
 
     def show(self, lines: list[str], is_behind: bool) -> None:
         """Shows lines in a list, where there are several; of one, or where a list can't be, the last is told."""

@@ -112,14 +112,14 @@ class Commands:
 
     def fit_drawn(self) -> None:
         """Have what is drawn over a pane go by where that is now."""
-        if not self.display.is_held:
+        if not self.display.part.is_held:
             self.copying.fit()
             self.lists.fit()
 
     def tell_replaced(self) -> None:
         """Tell that a module of this roam can't be imported any more, and go on without what needs it."""
         self.copying.give_up()
-        self.display.tell(REPLACED, REPLACED_TOLD)
+        self.display.row.tell(REPLACED, REPLACED_TOLD)
 
     # ---- what is typed
 
@@ -185,9 +185,9 @@ class Commands:
         places, is_untold = self.acts.panes.places, self.acts.panes.is_untold()
         if places or is_untold:
             self.known = (places.size(), places.labels()) if places else (NO_SIZE, "")
-            self.display.warning = places.warning() if places else ""
+            self.display.row.warning = places.warning() if places else ""
         size, labels = self.known
-        self.display.is_synchronized = self.synchronizing.is_on()
+        self.display.row.is_synchronized = self.synchronizing.is_on()
         self.display.know(self.size.requested or size, labels, self.is_whole or is_untold)
 
     # ---- others
@@ -196,15 +196,16 @@ class Commands:
         """Have all other terminals at the session detached."""
         host = self.acts.host
         if not host or not host.peer:
-            self.display.tell(OTHERS_STAY, LEAVES_IN)
+            self.display.row.tell(OTHERS_STAY, LEAVES_IN)
             return
         host.ask(LEAVE_OTHERS)
-        self.loop.later("others leave", LEAVES_IN, lambda: self.display.tell(OTHERS_STAY, LEAVES_IN))
+        self.loop.later("others leave", LEAVES_IN, lambda: self.display.row.tell(OTHERS_STAY, LEAVES_IN))
 
     def others_left(self, count: str) -> None:
         """Tell how many others are detached."""
         self.loop.drop("others leave")
-        self.display.tell(f"{count} other terminal{'' if count == '1' else 's'} detached" if count.isdigit() else OTHERS_STAY, LEAVES_IN)
+        told = f"{count} other terminal{'' if count == '1' else 's'} detached" if count.isdigit() else OTHERS_STAY
+        self.display.row.tell(told, LEAVES_IN)
 
     # ---- scrollback rows
 
@@ -228,7 +229,7 @@ class Commands:
         """Scroll the view that all share, and return True if that is possible."""
         if wish != "copy search" and self.acts.begin_scroll(wish == "copy page"):
             return True
-        self.display.tell("no rows are kept that could be shown")
+        self.display.row.tell("no rows are kept that could be shown")
         return False
 
     # ---- from window to window

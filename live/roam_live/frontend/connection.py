@@ -35,7 +35,7 @@ class Connecting:
     def __init__(self, views: WindowViews, leaves_window: Callable[[int], bool]) -> None:
         self.views, self.leaves_window, self.display, self.loop = views, leaves_window, views.display, views.loop
         self.preloading = Preloading(self.loop)
-        self.untaken = UntakenLines(lambda: views.link, self.display, self.loop, self.ask_server)
+        self.untaken = UntakenLines(lambda: views.link, self.display.row, self.loop, self.ask_server)
 
     def connect(self) -> None:
         """Connect to the client; if that can't be done now it is tried again, and the person may leave."""
@@ -53,7 +53,7 @@ class Connecting:
         self.show_window()
         if loss:
             view.commands.follower.request_again()
-            self.display.tell(loss, LOSS_TOLD)
+            self.display.row.tell(loss, LOSS_TOLD)
 
     def is_window_gone(self) -> bool:
         """Return True if the window where the person is has no folder any more: that one of another machine's is gone may be reported too

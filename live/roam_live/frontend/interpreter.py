@@ -82,10 +82,10 @@ class Interpreter:
             effects.PasteBuffer: lambda asked: now().acts.pastes.paste_buffer(asked.number),
             effects.Perform: lambda asked: self.grant(asked.wish),
             effects.TellUnbound: self.tell_unbound,
-            effects.ShowStatus: lambda asked: display.tell(asked.line, asked.seconds),
-            effects.ClearStatus: lambda asked: display.end_told(),
-            effects.ShowPrompt: lambda asked: display.ask(asked.line, is_typed=True),
-            effects.HidePrompt: lambda asked: display.end_prompt(),
+            effects.ShowStatus: lambda asked: display.row.tell(asked.line, asked.seconds),
+            effects.ClearStatus: lambda asked: display.row.end_told(),
+            effects.ShowPrompt: lambda asked: display.row.ask(asked.line, is_typed=True),
+            effects.HidePrompt: lambda asked: display.row.end_prompt(),
             effects.EnterLine: self.enter,
             effects.GoToWindow: self.go_to_window,
             effects.ScrollHelp: self.scroll_help,
@@ -101,8 +101,8 @@ class Interpreter:
         """Make the key of a name the prefix."""
         self.modes.keymap.choose(prefix)
         self.help = help_with(prefix)
-        self.display.fits_line = "" if self.commands().link.is_read_only else f"{prefix} r fits"
-        self.display.leaves_line = f"{prefix} d leaves"
+        self.display.row.fits_line = "" if self.commands().link.is_read_only else f"{prefix} r fits"
+        self.display.row.leaves_line = f"{prefix} d leaves"
 
     # ---- what is typed
 
@@ -201,7 +201,7 @@ class Interpreter:
         elif word == "border":
             commands.border_keys.ask(wish.split()[-1])
         elif wish == "panes":
-            self.display.tell(f"{self.display.labels}: a digit goes to the pane of this number", PICKS)
+            self.display.row.tell(f"{self.display.row.labels}: a digit goes to the pane of this number", PICKS)
             self.modes.push(PickingMode(time.monotonic()))
         elif wish in ("paste", "choose"):
             commands.copying.close()
@@ -219,7 +219,7 @@ class Interpreter:
     def tell_unbound(self, asked: effects.TellUnbound) -> None:
         """Tell that a key is not bound."""
         prefix = self.modes.keymap.name
-        self.display.tell(f"{prefix} {spelled(asked.key)} is not bound; {prefix} ? shows the keys")
+        self.display.row.tell(f"{prefix} {spelled(asked.key)} is not bound; {prefix} ? shows the keys")
 
     def go_to_window(self, asked: effects.GoToWindow) -> None:
         """Go to a window."""
@@ -248,12 +248,12 @@ class Interpreter:
     def scroll_help(self, asked: effects.ScrollHelp) -> None:
         """Scroll the list of keys, which ends if it has room for all."""
         display = self.display
-        if not display.notice_most:
+        if not display.page.most:
             self.modes.drop(HelpMode)
             display.uncover()
             return
         rows = asked.rows + asked.pages * max(1, display.outer.size()[0] - 1)
-        display.show(display.notice, max(0, min(display.notice_first + rows, display.notice_most)), FOOT)
+        display.show(display.notice, max(0, min(display.page.first + rows, display.page.most)), FOOT)
 
     def offer_paste(self, asked: effects.OfferPaste) -> None:
         """Have copy mode take a paste, if it asks for a line; else it ends, and the key means what it means elsewhere."""

@@ -85,7 +85,7 @@ class Lists:
         self.close()
         places, acts = self.acts.places(), self.acts
         pane = places.focus if places else 0
-        rect = acts.display.visible(places.rects[pane]) if places and pane else None
+        rect = acts.display.part.visible(places.rects[pane]) if places and pane else None
         if not rect or not mode.lines or acts.display.notice or self.is_copying():
             return False
         self.mode, self.kind, self.rect, self.pane = mode, kind, rect, acts.panes.making(pane)
@@ -100,12 +100,12 @@ class Lists:
             self.acts.modes.remove(self.mode)
             self.mode = None
             self.acts.display.lift()
-            self.acts.display.change_line()
+            self.acts.display.row.change()
 
     def lay(self, mode: ListMode) -> None:
         """Draw it."""
         self.acts.display.lay(Popup(self.rect, lambda: painted(mode, self.rect), lambda: self.cursor(mode)))
-        self.acts.display.say_line(mode.lines[mode.chosen].status)
+        self.acts.display.row.say(mode.lines[mode.chosen].status)
 
     def cursor(self, mode: ListMode) -> tuple[int, int]:
         """Return where the terminal's cursor stands: on the chosen line."""
@@ -114,7 +114,7 @@ class Lists:
     def draw(self) -> None:
         """Show which line is chosen."""
         if self.mode:
-            self.acts.display.say_line(self.mode.lines[self.mode.chosen].status)
+            self.acts.display.row.say(self.mode.lines[self.mode.chosen].status)
             self.acts.display.draw()
 
     def fit(self) -> None:
@@ -123,7 +123,7 @@ class Lists:
         if not self.mode or not places:
             return
         rect = places.rects.get(int(self.pane.split()[0]) if self.pane else 0)
-        shown = self.acts.display.visible(rect) if rect else None
+        shown = self.acts.display.part.visible(rect) if rect else None
         if not shown or self.acts.panes.making(int(self.pane.split()[0])) != self.pane:
             self.close()
         elif shown != self.rect or not self.acts.display.is_masked:
@@ -138,7 +138,7 @@ class Lists:
         if self.acts.host:
             self.ask_again(self.asked, is_newest)
         else:
-            self.acts.display.tell(NONE_KEPT, TOLD)
+            self.acts.display.row.tell(NONE_KEPT, TOLD)
 
     def ask_again(self, asked: int, is_newest: bool) -> None:
         """Ask which buffers there are, unless something else was asked since."""
@@ -154,7 +154,7 @@ class Lists:
         if notes is None and host and host.is_connecting():
             self.acts.loop.later("buffers", AGAIN, lambda: self.ask_again(asked, is_newest))
         elif not notes:
-            self.acts.display.tell(UNTOLD if notes is None else NONE_KEPT, TOLD)
+            self.acts.display.row.tell(UNTOLD if notes is None else NONE_KEPT, TOLD)
         elif is_newest:
             self.acts.pastes.paste_buffer(notes[0].number)
         else:

@@ -73,7 +73,7 @@ class Pointing:
         """Has roam have the mouse itself, or no more."""
         self.is_on = not self.is_on
         self.asks()
-        self.acts.display.tell(ON.format(self.acts.modes.keymap.name) if self.is_on else OFF, TOLD)
+        self.acts.display.row.tell(ON.format(self.acts.modes.keymap.name) if self.is_on else OFF, TOLD)
 
     def panes_changed(self) -> None:
         """Takes note of what is told of the panes."""
@@ -112,7 +112,7 @@ class Pointing:
         """Goes to the window whose label in the last row a button is held on, and tells whether it does."""
         acts = self.acts
         is_press = not report.is_release and not report.moves() and report.number() == 0
-        place = acts.display.window_at(report.row, report.col) if is_press and acts.modes.is_typing() else None
+        place = acts.display.row.window_at(report.row, report.col) if is_press and acts.modes.is_typing() else None
         if place is None or not self.goes_to:
             return False
         self.end_drag()

@@ -35,16 +35,16 @@ class PaneActions:
     def ring(self, pane: int) -> None:
         """Ring, and tell of a pane that isn't in focus."""
         display = self.acts.display
-        display.ring()
-        if self.acts.focus() != pane and not display.told:
-            display.tell(f"bell in pane {pane}")
+        display.outer.ring()
+        if self.acts.focus() != pane and not display.row.told:
+            display.row.tell(f"bell in pane {pane}")
 
     def split(self, wish: str) -> None:
         """Split the pane in focus, or tell why that can't be done."""
         places = self.zooming.unzoomed(self.acts.places())
         why = places.unsplit(wish.split()[1]) if places else ""
         if why:
-            self.acts.display.tell(why)
+            self.acts.display.row.tell(why)
         else:
             self.acts.act(wish)
 
@@ -55,7 +55,7 @@ class PaneActions:
         if places and pane and len(places.rects) == 1 and self.windows and not self.windows.why_one():
             self.windows.ask_shut()
         elif places and pane and len(places.rects) == 1:
-            self.acts.display.tell("the last pane goes with its shell, and the session with it")
+            self.acts.display.row.tell("the last pane goes with its shell, and the session with it")
         elif busy == {} or busy and pane and pane not in busy:
             self.acts.act("close")
         else:
@@ -80,4 +80,4 @@ class PaneActions:
         if pane:
             self.acts.act(f"focus {pane}")
         else:
-            self.acts.display.tell(NO_LAST)
+            self.acts.display.row.tell(NO_LAST)

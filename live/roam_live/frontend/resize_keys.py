@@ -89,7 +89,7 @@ class BorderKeys:
         is_known = here is None or here.focus > 0
         if is_late and self.waiting and not is_known:
             self.waiting.clear()
-            self.acts.display.tell(NO_FOCUS)
+            self.acts.display.row.tell(NO_FOCUS)
         while self.waiting and is_known and not self.size.requested and (not places or places.is_covered()):
             wish = self.waiting.popleft()
             if wish == "even":
@@ -112,12 +112,12 @@ class BorderKeys:
         """Moves the border on a side of the pane in focus towards that side, or where it has none there the one on the other side."""
         places, way = self.acts.places(), axis_of(side)
         if not places:
-            self.acts.display.tell(UNTOLD)
+            self.acts.display.row.tell(UNTOLD)
             return
         found = [side_border(places.rects, places.focus, one) for one in (side, OPPOSITE[side])]
         border = found[0] or found[1]
         if not border:
-            self.acts.display.tell(NO_BORDER[way].format(places.focus))
+            self.acts.display.row.tell(NO_BORDER[way].format(places.focus))
             return
         is_same = self.drag is not None and self.drag.aim > 0 and (self.drag.border.way, self.drag.border.before) == (way, border.before)
         if not is_same or not self.drag:
@@ -129,11 +129,11 @@ class BorderKeys:
     def pull(self, drag: BorderDrag, aim: int) -> None:
         """Has a border go to a column or a row, as far as it may."""
         if not drag.leaves:
-            self.acts.display.tell(NO_PANE)
+            self.acts.display.row.tell(NO_PANE)
             self.drop()
             return
         if not drag.border.least <= aim <= drag.border.most:
-            self.acts.display.tell(NO_ROOM)
+            self.acts.display.row.tell(NO_ROOM)
         drag.to(aim, aim)
         if self.drag is drag:
             drag.let_go()
@@ -162,7 +162,7 @@ class BorderKeys:
         places = self.acts.panes.places
         parts = splits_of(places.rects) if places and places.is_covered() else None
         if not places or not parts or not places.focus:
-            self.acts.display.tell(UNTOLD)
+            self.acts.display.row.tell(UNTOLD)
             return
         evened = Evened(parts, places.rects)
         if evened.acts and self.lines_left:
@@ -171,9 +171,9 @@ class BorderKeys:
             self.loop.later("even", SETTLES, self.settle)
             self.acts.act_together(*evened.acts, *self.back(places))
         elif evened.is_stuck:
-            self.acts.display.tell(STUCK, TOLD)
+            self.acts.display.row.tell(STUCK, TOLD)
         elif is_first:
-            self.acts.display.tell(EVEN)
+            self.acts.display.row.tell(EVEN)
 
     def back(self, places: Places) -> list[str]:
         """The act that puts the focus back where this person has it."""

@@ -35,7 +35,7 @@ class SessionSize:
     def now(self) -> tty.Size:
         """Return the session's rows and columns, as they are reported or were painted; NO_SIZE if they are unknown."""
         places = self.acts.panes.places
-        return places.size() if places else self.acts.display.whole_size
+        return places.size() if places else self.acts.display.part.whole_size
 
     def coming(self) -> tty.Size:
         """Return the session's size, or the one that it was given and may still get."""
@@ -43,11 +43,11 @@ class SessionSize:
 
     def ask(self) -> None:
         """Give the session this terminal's size, if it may have it: what is wider than that is cut for good."""
-        size = self.acts.display.room()
+        size = self.acts.display.part.room()
         if self.acts.link.is_read_only:
             return
         if not tty.is_large_enough(size):
-            self.acts.display.tell("a session has {} rows and {} columns at least".format(*tty.LEAST))
+            self.acts.display.row.tell("a session has {} rows and {} columns at least".format(*tty.LEAST))
             return
         self.request(tty.largest(size))
 
@@ -77,14 +77,14 @@ class SessionSize:
         self.forget()
         self.is_refused()
         if requested and size not in (requested, NO_SIZE):
-            self.acts.display.tell("its panes have no room in {} by {}".format(*requested), FITS_TOLD)
+            self.acts.display.row.tell("its panes have no room in {} by {}".format(*requested), FITS_TOLD)
 
     def panes_changed(self) -> None:
         """Go by what is reported of the panes."""
         if self.requested == self.now():
             self.forget()
             # What is shown of one that is smaller now may begin too far below, or to the right.
-            self.acts.display.choose(is_anew=self.acts.display.place != (0, 0))
+            self.acts.display.choose(is_anew=self.acts.display.part.place != (0, 0))
 
     def has_others(self) -> bool | None:
         """Return True if somebody else types, as the pty host reports it, or else the notes in the session's folder. None if that is

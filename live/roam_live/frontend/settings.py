@@ -29,7 +29,7 @@ class FrontSettings:
         self.all_commands: Callable[[], list[Commands]] = list
         # What does commands.
         self.runs: Callable[[list[list[str]]], object] = lambda commands: None
-        self.display.is_row_hidden = self.row == "off"
+        self.display.part.is_row_hidden = self.row == "off"
         self.bind()
 
     def bind(self) -> None:
@@ -61,7 +61,7 @@ class FrontSettings:
             prefix, self.prediction = chosen_prefix(), chosen_prediction()
             here.pointing.is_on = wants_mouse()
         except Fault as fault:
-            self.display.tell(str(fault), TOLD)
+            self.display.row.tell(str(fault), TOLD)
             return
         if prefix != self.prefix:
             self.prefix = prefix
@@ -69,7 +69,7 @@ class FrontSettings:
         for commands in (here, *left):
             commands.synchronizing.choose_prediction()
         row, self.row = self.row, text_of("status")
-        if self.row != row and self.display.is_row_hidden != (self.row == "off"):
+        if self.row != row and self.display.part.is_row_hidden != (self.row == "off"):
             here.follower.switch_row()
         here.show_metadata()
         self.tell(otherwise)
@@ -79,4 +79,4 @@ class FrontSettings:
         wrong = self.status_row.choose()
         told = OWN.line() or "; ".join(wrong[:1]) or otherwise
         if told:
-            self.display.tell(told, TOLD)
+            self.display.row.tell(told, TOLD)

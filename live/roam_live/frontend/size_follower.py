@@ -61,19 +61,19 @@ class SizeFollower:
             self.loop.later("fit", FITS_AGAIN, self.fit_first)
             return
         else:
-            self.is_fitted = self.size.now() != NO_SIZE or not tty.is_large_enough(self.acts.display.room())
+            self.is_fitted = self.size.now() != NO_SIZE or not tty.is_large_enough(self.acts.display.part.room())
         self.fit()
 
     def resized(self) -> None:
         """Take note of what was shown before the terminal had another size, the first of many if it is drawn by hand."""
         if not self.loop.due.keys() & {"size", "others"}:
-            shows_all = self.zooming.showed_all if self.zooming.is_on() else self.acts.display.shows_all()
+            shows_all = self.zooming.showed_all if self.zooming.is_on() else self.acts.display.part.shows_all()
             self.showed_all = self.size.requested is not None or shows_all
 
     def fit(self) -> None:
         """Fit the session to this terminal: a new session goes by each size. For the rest it has to be known who else is attached, which
         may be reported soon."""
-        host, size, own = self.acts.host, self.size.coming(), tty.largest(self.acts.display.room())
+        host, size, own = self.acts.host, self.size.coming(), tty.largest(self.acts.display.part.room())
         self.showed_all = self.showed_all or size == self.left_size != NO_SIZE
         if host:
             host.say_here()
@@ -99,7 +99,7 @@ class SizeFollower:
             self.size.ask()
         elif not sizes.is_smaller(own, size):
             key = f"{self.acts.modes.keymap.name} r"
-            self.acts.display.tell(f"{size[0]} by {size[1]}, as another terminal has it; {key} fits this one", FITS_TOLD)
+            self.acts.display.row.tell(f"{size[0]} by {size[1]}, as another terminal has it; {key} fits this one", FITS_TOLD)
         self.showed_all, self.left_size = False, NO_SIZE
 
     def follow_latest(self) -> None:
@@ -107,9 +107,9 @@ class SizeFollower:
         acts = self.acts
         if not follows_latest() or acts.link.is_read_only or self.size.requested or acts.paused or self.zooming.is_on():
             return
-        if sizes.takes_latest(self.size.now(), acts.display.room()):
+        if sizes.takes_latest(self.size.now(), acts.display.part.room()):
             self.size.ask()
-            acts.display.tell(LATEST_TOLD, SIZED_TOLD)
+            acts.display.row.tell(LATEST_TOLD, SIZED_TOLD)
 
     def request_again(self) -> None:
         """Give the session again the size that it is to have: with a connection that act may be lost."""

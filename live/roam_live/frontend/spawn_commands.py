@@ -55,7 +55,7 @@ class Handing:
         try:
             self.begin(wish, begins, goes_on, until)
         except BadCommand as fault:
-            self.acts.display.tell(str(fault), SAID)
+            self.acts.display.row.tell(str(fault), SAID)
 
     def split(self, way: str, begins: Begins, goes_on: Callable[[], object]) -> None:
         """Has the pane in focus split for a command; then goes on."""
@@ -100,7 +100,7 @@ class Handing:
     def give_up(self, name: str) -> None:
         """Waits no more for an answer, and tells that nothing is run."""
         if self.waits.pop(name, None):
-            self.acts.display.tell(SILENT, SAID)
+            self.acts.display.row.tell(SILENT, SAID)
 
     def take(self, told: str) -> None:
         """Takes what is told of one."""
@@ -111,6 +111,6 @@ class Handing:
         if word == READY and goes_on:
             goes_on(name)
         elif word == REFUSED and goes_on:
-            self.acts.display.tell(f"not run: {printable(why)[:80]}", SAID)
+            self.acts.display.row.tell(f"not run: {printable(why)[:80]}", SAID)
         elif word == LATE:
-            self.acts.display.tell(NO_PANE, SAID)
+            self.acts.display.row.tell(NO_PANE, SAID)

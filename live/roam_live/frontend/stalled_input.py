@@ -7,7 +7,7 @@ from roam_live.common.event_loop import Loop
 
 TYPE_CHECKING = False
 if TYPE_CHECKING:
-    from roam_live.frontend.display import Display
+    from roam_live.frontend.last_row import LastRow
     from roam_live.protocol.client_link import ClientLink
 
 # What the moment is called at which it is looked again, and how many seconds lie between two looks.
@@ -31,8 +31,8 @@ class UntakenLines:
     `answered` takes.
     """
 
-    def __init__(self, link: Callable[[], ClientLink], display: Display, loop: Loop, asks: Callable[[], object] = lambda: None) -> None:
-        self.link, self.display, self.loop, self.asks = link, display, loop, asks
+    def __init__(self, link: Callable[[], ClientLink], row: LastRow, loop: Loop, asks: Callable[[], object] = lambda: None) -> None:
+        self.link, self.row, self.loop, self.asks = link, row, loop, asks
         # The link for which that is counted, how many of its lines were taken, since when no more were, and when something was painted or
         # answered.
         self.counted: ClientLink | None = None
@@ -63,10 +63,10 @@ class UntakenLines:
         if link is not self.counted or link.taken != self.taken:
             self.count()
         why = self.why()
-        if why and self.display.told in ("", NO_KEYS, NOT_TAKEN):
-            self.display.tell(why, None)
-        elif not why and self.display.told in (NO_KEYS, NOT_TAKEN):
-            self.display.end_told()
+        if why and self.row.told in ("", NO_KEYS, NOT_TAKEN):
+            self.row.tell(why, None)
+        elif not why and self.row.told in (NO_KEYS, NOT_TAKEN):
+            self.row.end_told()
         if link.peer and not link.is_done():
             self.asks()
             self.loop.later(MOMENT, LOOKS, self.look)
@@ -74,7 +74,7 @@ class UntakenLines:
     def why(self) -> str:
         """Say why no line is taken, or return "" if that isn't so, or a silence of the server tells it."""
         link, waits = self.link(), self.loop.clock() - self.since
-        if not link.peer or link.is_done() or self.display.silent:
+        if not link.peer or link.is_done() or self.row.silent:
             return ""
         if waits >= UNTAKEN and self.painted >= self.since + LOOKS:
             return NO_KEYS

@@ -49,13 +49,13 @@ class StatusRow:
 
             self.formats = [read_format(text) for text in texts.values()]
             wrong = [line for option, text in texts.items() for line in unread(option, text)]
-        display.status, display.line_put = self.shown if self.formats else None, None
+        display.row.status, display.row.line_put = self.shown if self.formats else None, None
         self.tick()
         return wrong
 
     def tick(self) -> None:
         """Has the row say what it says now, and again once a clock in it goes on."""
-        self.display.put_line()
+        self.display.row.put()
         if self.formats:
             from roam_live.config.formats import changes_in
 

@@ -108,7 +108,7 @@ class Synchronizing:
         self.choose_prediction()
         self.shows()
         places = self.acts.panes.places
-        self.acts.display.tell(OFF if not self.is_on() else ALL_PANES if places else UNTOLD, TOLD)
+        self.acts.display.row.tell(OFF if not self.is_on() else ALL_PANES if places else UNTOLD, TOLD)
 
     def choose_prediction(self) -> None:
         """Has no predictions be shown while it is on: what a key shows in one pane isn't known of the others."""
@@ -125,7 +125,7 @@ class Synchronizing:
             return []
         panes = self.panes()
         if not panes:
-            self.acts.display.tell(ALONE.format("where the panes are isn't told"), TOLD)
+            self.acts.display.row.tell(ALONE.format("where the panes are isn't told"), TOLD)
         return panes if len(panes) > 1 else []
 
     def is_full(self) -> bool:

@@ -49,7 +49,7 @@ class WindowActs:
         self.moved_from: Places | None = None
         # The making of the pane to which this person's last key went, where that is known.
         self.typed_in = ""
-        self.pastes = Pastes(link, panes, host, loop, self.unpasted, lambda line: display.tell(line, PASTE_TOLD))
+        self.pastes = Pastes(link, panes, host, loop, self.unpasted, lambda line: display.row.tell(line, PASTE_TOLD))
         self.pastes.is_cut = self.is_cut
         self.settles: Callable[[], object] = nothing
         self.ends_zoom: Callable[[tuple[str, ...]], tuple[str, ...]] = lambda acts: acts
@@ -90,7 +90,7 @@ class WindowActs:
 
     def is_cut(self) -> bool:
         """Return True during an outage: the server is silent, or there is no connection to the pty host."""
-        return self.display.silent > 0 or self.host is not None and self.host.peer is None
+        return self.display.row.silent > 0 or self.host is not None and self.host.peer is None
 
     def refuse_paste(self, why: str) -> None:
         """Type nothing of a paste whose end hasn't come yet, and tell why once it has."""
@@ -164,21 +164,21 @@ class WindowActs:
     def ask(self, text: str, *yes: Effect) -> None:
         """Ask a question, whose answer by y has these effects."""
         self.modes.push(ConfirmMode(*yes))
-        self.display.ask(text)
+        self.display.row.ask(text)
 
     def ask_line(self, asked: AskedLine, purpose: str) -> None:
         """Ask for a line, for a purpose."""
         self.modes.push(LineMode(asked, purpose))
-        self.display.ask(asked.line(), is_typed=True)
+        self.display.row.ask(asked.line(), is_typed=True)
 
     def scroll(self, pane: int, rows: int) -> None:
         """Scroll a pane; the newest rows end that."""
         act, line = self.modes.scroll_by(rows)
         self.act_together(f"focus {pane}", act)
         if line:
-            self.display.tell(line, None)
+            self.display.row.tell(line, None)
         else:
-            self.display.end_told()
+            self.display.row.end_told()
 
     def begin_scroll(self, is_page: bool) -> bool:
         """Begin to scroll the view that all share, by a page at once on request; return True unless this terminal only watches."""
@@ -188,11 +188,11 @@ class WindowActs:
         mode.view, mode.keymap.rows = 0, self.display.outer.size()[0]
         if is_page:
             self.act(mode.step(0, 1))
-        self.display.tell(mode.status().line, None)
+        self.display.row.tell(mode.status().line, None)
         return True
 
     def end_scroll(self) -> None:
         """End the scroll mode, at the newest rows."""
         self.act(NEWEST)
         self.modes.drop(ScrollMode)
-        self.display.end_told()
+        self.display.row.end_told()

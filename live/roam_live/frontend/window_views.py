@@ -58,13 +58,13 @@ class ViewMaker:
 
     def untold(self, line: str) -> None:
         """Go on where the panes aren't reported, which a line says."""
-        self.display.tell(line, LOSS_TOLD)
+        self.display.row.tell(line, LOSS_TOLD)
         self.here().show_known()
 
     def heard_bells(self, session: AnySession) -> BellSubscriber:
         """Return what follows the bells of a window."""
         return BellSubscriber(session.folder, self.loop, lambda pane: self.here().panes.ring(pane),
-                              lambda words: self.display.tell(words, LOSS_TOLD))
+                              lambda words: self.display.row.tell(words, LOSS_TOLD))
 
     def begun(self, session: AnySession, is_new: Callable[[Places | None], bool] = lambda places: False) -> WindowView:
         """Return a view of a window."""
@@ -164,7 +164,7 @@ class WindowViews:
         session = self.view.session.window(number)
         server = opened_server(session)
         before, view = self.view, self.draining.taken(number)
-        self.shown_whole[before.number] = before.commands.size.now() if self.display.shows_all() else NO_SIZE
+        self.shown_whole[before.number] = before.commands.size.now() if self.display.part.shows_all() else NO_SIZE
         self.draining.add(before)
         if view:
             view.take_up(self.maker.followed(session), self.maker.heard_bells(session))

@@ -150,7 +150,7 @@ class WindowWishes:
                 continue
             gone = self.told.take(line)
             if gone is not None and line.startswith(f"{BELL} ") and not line.startswith(f"{BELL} {self.here()} "):
-                self.display.ring()
+                self.display.outer.ring()
             for number in gone or ():
                 self.gone(number)
         self.show()
@@ -171,10 +171,10 @@ class WindowWishes:
         labels = [self.told.label(number, here, last) for number in numbers]
         place = numbers.index(here) if here in numbers else 0
         display = self.display
-        if display.windows != (labels, place) or display.status:
+        if display.row.windows != (labels, place) or display.row.status:
             # A settings file may have more of a name stand there than a label has.
-            display.windows = labels, place
-            display.put_line()
+            display.row.windows = labels, place
+            display.row.put()
         lists = self.views.lists
         if lists.kind == "windows":
             lists.refresh_windows(self.all_described())
@@ -195,7 +195,7 @@ class WindowWishes:
             if self.views.reached(one):
                 self.go_to(one)
                 self.visited = [before for before in self.visited if before != number]
-                self.display.tell(f"window {number} is gone", SAID)
+                self.display.row.tell(f"window {number} is gone", SAID)
                 return True
         return False
 
@@ -206,7 +206,7 @@ class WindowWishes:
         word, _, what = wish.partition(" ")
         why = self.why_one()
         if why:
-            self.display.tell(why, SAID)
+            self.display.row.tell(why, SAID)
         elif word == "go":
             self.go_by(what)
         elif what == "list":
@@ -230,7 +230,7 @@ class WindowWishes:
             return
         self.loop.drop("list waits")
         if not self.views.lists.show_windows(self.all_described(), self.here()):
-            self.display.tell(NO_ROOM, SAID)
+            self.display.row.tell(NO_ROOM, SAID)
         if waited:
             self.types(self.held_keys())
 
@@ -268,7 +268,7 @@ class WindowWishes:
                 raise Fault(why)
             self.views.go(number)
         except (Fault, OSError) as fault:
-            self.display.tell(printable(reason(fault)), SAID)
+            self.display.row.tell(printable(reason(fault)), SAID)
             return
         self.visited = [*(one for one in self.visited if one not in (here, number)), here]
         self.show()
@@ -280,7 +280,7 @@ class WindowWishes:
     def say(self, line: str) -> bool:
         """Says a line to the host, and tells whether it is there; where it isn't a person is told."""
         if not self.link.peer:
-            self.display.tell(NOBODY, SAID)
+            self.display.row.tell(NOBODY, SAID)
             return False
         self.link.ask(line)
         return True
@@ -290,7 +290,7 @@ class WindowWishes:
     def open(self, handed: str = "", stays: bool = False) -> None:
         """Has a window be opened, of the size that this terminal shows all of, by a command that was handed over where it is named; the
         person goes there, or stays."""
-        size, self.is_opening, self.stays = self.display.room(), True, stays
+        size, self.is_opening, self.stays = self.display.part.room(), True, stays
         why = SMALL if not is_large_enough(size) else MANY if len(self.numbers()) >= MOST_WINDOWS else ""
         if why:
             # What stands behind in the same read was for it too.
@@ -307,13 +307,13 @@ class WindowWishes:
     def tell_late(self) -> None:
         """Tells that a window takes long, and what doesn't wait for it."""
         self.is_late = True
-        self.display.tell(OPENING, OPENS)
+        self.display.row.tell(OPENING, OPENS)
 
     def opened(self, number: int, why: str) -> None:
         """Goes to a window that was opened, with what was typed for it; 0 where none was."""
         if not self.is_opening:
             # Nobody waits for it any more.
-            self.display.tell(f"window {number} is there now" if number else f"no window is opened: {why}", SAID)
+            self.display.row.tell(f"window {number} is there now" if number else f"no window is opened: {why}", SAID)
             return
         if not number:
             self.end_opening(f"no window is opened: {why}")
@@ -327,28 +327,28 @@ class WindowWishes:
         held = self.held_keys()
         self.end_opening("")
         if self.stays:
-            self.display.tell(f"window {number} is there now", SAID)
+            self.display.row.tell(f"window {number} is there now", SAID)
         else:
             self.go_to(number)
         if self.stays or self.here() == number:
             self.types(held)
         elif held:
-            self.display.tell(f"window {number} can't be shown{DROPPED}", SAID)
+            self.display.row.tell(f"window {number} can't be shown{DROPPED}", SAID)
 
     def end_opening(self, why: str) -> None:
         """Waits for no window, and drops what was typed for it: in another window it would mean something else."""
         for name in ("window opens", "window waits"):
             self.loop.drop(name)
-        was_told = self.display.told == OPENING
+        was_told = self.display.row.told == OPENING
         dropped, self.unsaid = self.held_keys(), ""
         self.is_opening = self.is_late = False
         if [key.name for key in dropped if key.name in ("paste", "pasted")][-1:] == ["paste"]:
             # What comes of it still isn't typed either.
             self.views.acts.refuse_paste(why + DROPPED)
         if why:
-            self.display.tell(why + DROPPED * bool(dropped), SAID)
+            self.display.row.tell(why + DROPPED * bool(dropped), SAID)
         elif was_told:
-            self.display.end_told()
+            self.display.row.end_told()
 
     def takes(self, keys: list[Key], place: int) -> bool:
         """Takes the keys from this place on, if they are for a window that is being opened, or for a list. Tells whether they were

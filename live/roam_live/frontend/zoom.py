@@ -63,7 +63,7 @@ class Zooming:
 
     def area(self) -> Size:
         """The rows and columns that a pane has to fill."""
-        rows, cols = tty.largest(self.acts.display.room())
+        rows, cols = tty.largest(self.acts.display.part.room())
         return rows - 1, cols
 
     def unzoomed(self, places: Places | None) -> Places | None:
@@ -88,9 +88,9 @@ class Zooming:
         before = places_at(places, size) if places and places.focus and places.is_covered() else None
         why = sizes.zoom_refusal(before, self.area())
         if why or not places:
-            self.acts.display.tell(why, TOLD)
+            self.acts.display.row.tell(why, TOLD)
             return
-        self.pane, self.before, self.showed_all = places.focus, before, self.acts.display.shows_all()
+        self.pane, self.before, self.showed_all = places.focus, before, self.acts.display.part.shows_all()
         self.note = ZoomNote(size, ())
         self.ask(places)
 
@@ -118,7 +118,7 @@ class Zooming:
         self.tell_host()
         self.awaited = places
         self.loop.later("zoom", REFUSES, self.give_up)
-        self.acts.display.hold()
+        self.acts.display.part.hold()
         self.acts.type_together(tty.size_act(size))
 
     def show(self, places: Places) -> None:
@@ -134,8 +134,8 @@ class Zooming:
         if not note.asked:
             self.acts.display.zoom(None)
             return []
-        self.acts.display.zoomed = None
-        self.acts.display.hold()
+        self.acts.display.part.zoomed = None
+        self.acts.display.part.hold()
         self.size.expect(note.size)
         return [tty.size_act(note.size)]
 
@@ -155,7 +155,7 @@ class Zooming:
         if not self.acts.link.is_done():
             self.loop.later("zoom", REFUSES, self.give_up)
             return
-        self.acts.display.tell(REFUSED, TOLD)
+        self.acts.display.row.tell(REFUSED, TOLD)
         self.end()
 
     def ended_by(self, acts: tuple[str, ...]) -> tuple[str, ...]:
@@ -188,19 +188,19 @@ class Zooming:
         """Ends it where somebody gave the session another size, which stays."""
         self.forget()
         self.acts.display.zoom(None)
-        self.acts.display.tell(OTHERS, TOLD)
+        self.acts.display.row.tell(OTHERS, TOLD)
         self.tell_over()
 
     def resized(self) -> None:
         """Goes by another size of the terminal, and by the one that the session would have there if nothing were zoomed."""
-        places, own = self.acts.panes.places, tty.largest(self.acts.display.room())
+        places, own = self.acts.panes.places, tty.largest(self.acts.display.part.room())
         if not places or not self.before or not places.is_covered() or not tty.is_large_enough(own):
             return
         size = own if self.size.follows(self.note.size, own, self.showed_all) else self.note.size
         self.before, self.note = places_at(self.before, size), ZoomNote(size, self.note.asked[-1:])
         why = sizes.zoom_refusal(self.before._replace(focus=self.pane), self.area())
         if why:
-            self.acts.display.tell(why, TOLD)
+            self.acts.display.row.tell(why, TOLD)
             self.end()
             return
         self.tell_host()

@@ -33,7 +33,7 @@ class CopiedTexts:
 
     def tell(self, line: str) -> None:
         """Tells a person what became of it."""
-        self.acts.display.tell(line, TOLD)
+        self.acts.display.row.tell(line, TOLD)
 
     def take(self, text: bytes | None, is_appended: bool = False) -> None:
         """Takes a text, to be put behind the newest buffer or to be one; None stands for one that is too long."""

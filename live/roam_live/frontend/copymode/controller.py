@@ -194,9 +194,9 @@ class Copying:
         self.closed()
         if was_shown:
             display.lift()
-            display.change_line()
+            display.row.change()
         if why:
-            display.tell(why, TOLD)
+            display.row.tell(why, TOLD)
 
     def fit(self) -> None:
         """Goes by where the panes are now: the end of its pane ends it, and another size has its rows laid out anew."""

@@ -22,7 +22,7 @@ class CopyScreen:
         """The rectangle of the terminal on which a pane is shown, as far as it is; None where no character of it is."""
         places = self.state.acts.panes.places
         rect = places.rects.get(pane) if places else None
-        shown = self.display.visible(rect) if rect else None
+        shown = self.display.part.visible(rect) if rect else None
         return shown if shown and shown.cols >= LEAST_COLS else None
 
     def lay(self) -> None:
@@ -67,7 +67,7 @@ class CopyScreen:
         try:
             back, most = mode.view.back()
         except Missing:
-            return self.display.popup_line
+            return self.display.row.popup_line
         came = f"{self.state.came} row{'s' * (self.state.came != 1)} came since" if self.state.came else ""
         count = f"(repeat) {mode.count.digits}" if mode.count.digits else ""
         return "; ".join(filter(None, (f"[{back}/{most}] copy mode", came, count, mode.told)))
@@ -75,7 +75,7 @@ class CopyScreen:
     def say(self) -> None:
         """Has that line stand there: one that is asked for in any case."""
         mode = self.state.mode
-        self.display.say_line(self.line(), is_asking=mode is not None and mode.prompt is not None)
+        self.display.row.say(self.line(), is_asking=mode is not None and mode.prompt is not None)
 
     def draw(self) -> None:
         """Draws what is new."""

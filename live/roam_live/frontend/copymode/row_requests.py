@@ -43,13 +43,13 @@ class CopyAsking:
     def tell_later(self) -> None:
         """Has it be told that an answer is awaited, once that takes long."""
         if "copy waits" not in self.loop.due:
-            self.loop.later("copy waits", WAITS, lambda: self.display.tell(WAITING, None))
+            self.loop.later("copy waits", WAITS, lambda: self.display.row.tell(WAITING, None))
 
     def settle(self) -> None:
         """Tells no more that an answer is awaited."""
         self.loop.drop("copy waits")
-        if self.display.told == WAITING:
-            self.display.end_told()
+        if self.display.row.told == WAITING:
+            self.display.row.end_told()
 
     def ask(self, lack: Missing) -> None:
         """Asks for what isn't here."""
