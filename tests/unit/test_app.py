@@ -11,7 +11,6 @@ from aids import Case, StillLoop, closed, read_now, record
 from roam_live.common import tty
 from roam_live.common.errors import Fault
 from roam_live.common.event_loop import comes
-from roam_live.common.process import begun
 from roam_live.frontend import app, outer_terminal, paste, window_view, window_views
 from roam_live.frontend.app import FrontEnd
 from roam_live.frontend.connection import Connecting
@@ -96,7 +95,7 @@ class Fronts(Case):
         self.front = FrontEnd(self.place, False, "C-b", "adaptive", lambda places: False, StillLoop())
         self.addCleanup(lambda: closed(self.front.display.outer.end))
         self.addCleanup(lambda: self.front.views.link.close())
-        self.addCleanup(lambda: self.front.views.view.bells.close())
+        self.addCleanup(lambda: self.front.host_link.end())
 
     def give_back(self, kept, slave):
         """Gives this process its own input and output."""
@@ -295,7 +294,7 @@ class Loop(Fronts):
         client = self.connect()
         commands = self.front.views.commands
         self.assertTrue(commands.acts.is_cut())
-        commands.acts.host.peer = mock.Mock()
+        self.front.host_link.peer = mock.Mock()
         self.assertFalse(commands.acts.is_cut())
         client.send(record("silent", 10))
         self.turn()
@@ -303,7 +302,7 @@ class Loop(Fronts):
         client.send(record("heard"))
         self.turn()
         self.assertFalse(commands.acts.pastes.is_cut())
-        commands.acts.host.peer = None
+        self.front.host_link.peer = None
 
     def test_fault(self):
         """What nobody foresaw brings the terminal back too, from the moment on at which it is taken: that is none before it runs."""
@@ -341,7 +340,7 @@ class Loop(Fronts):
         read_now(client)
         for text in (b"a\x1b]11;rgb:1e/1e/2e\x1b\\b", b"\x1b]10;rgb:ff", b"ff/ffff/ffff\x07c"):
             self.type(text)
-        told = self.front.views.commands.acts.host.colours.known
+        told = self.front.host_link.colours.known
         self.assertEqual(told, {"background": "1e1e/1e1e/2e2e", "foreground": "ffff/ffff/ffff"})
         self.assertEqual([line for line in read_now(client).split(b"\n") if line.startswith(b"char")], [b"char 61 ; char 62", b"char 63"])
 
@@ -486,7 +485,7 @@ class Loop(Fronts):
         self.assertEqual((self.front.display.row.told, self.front.loop.due["told"][0]), (said, 103.0))
         self.shown()
         self.panes.rings(2)
-        self.front.view.host.take("say pane 3 isn't shown")
+        self.front.views.view.host.take("say pane 3 isn't shown")
         self.turn()
         self.assertEqual((self.front.display.row.told, self.shown().count(b"\x07")), ("pane 3 isn't shown", 1))
 
@@ -494,7 +493,7 @@ class Loop(Fronts):
         """The keypad goes by the pane in focus, as soon as that is told."""
         client = self.connect()
         self.paints()
-        self.front.view.host.take("keypad 2 application")
+        self.front.views.view.host.take("keypad 2 application")
         self.place.told = Places({1: Rect(1, 1, 23, 39), 2: Rect(1, 41, 23, 40)}, 1)
         self.turn()
         client.send(record("paint", data=b"\x1b[1;1Hx"))
@@ -532,7 +531,7 @@ class Loop(Fronts):
 
     def test_sizes(self):
         """What is shown goes by a new size soon, and the session by one that has stood for 0.3 s; a new session by each."""
-        self.front.views.view.host.faults = FEW + 1
+        self.front.host_link.faults = FEW + 1
         client = self.connect()
         self.paints()
         read_now(client)
@@ -561,7 +560,7 @@ class Loop(Fronts):
         self.now += 0.3
         self.turn()
         self.assertEqual(read_now(client), b"")
-        self.front.views.view.host.faults = FEW + 1
+        self.front.host_link.faults = FEW + 1
         self.now += 0.3
         self.turn()
         self.assertEqual(read_now(client), b"size 24 80\n")

@@ -85,9 +85,8 @@ class Windows(Case):
     def close(self, front):
         """Closes what a front end has open."""
         closed(front.display.outer.end)
-        front.windows.link.end()
+        front.host_link.end()
         for view in (front.views.view, *front.views.draining.views.values()):
-            view.bells.close()
             view.close(self.loop)
 
     def add(self, number):
@@ -226,7 +225,7 @@ class Switches(Windows):
         self.type(b"a\x022")
         self.turn()
         there = [number for number, _ in self.clients.values()]
-        self.assertEqual((there, self.hosts[0][0].recv(99), self.front.views.draining.views), ([2], b"", {}))
+        self.assertEqual((there, list(self.front.host_link.clients), self.front.views.draining.views), ([2], [2], {}))
 
     def test_lost(self):
         """Where the client of a window that was left ends, another has what was typed there and hasn't gone; else nothing is waited for."""
@@ -563,7 +562,7 @@ class Told(Windows):
         self.hosts[0].send(b"0 left 2\n")
         self.turn()
         self.assertEqual(self.front.display.row.told, "2 other terminals detached")
-        self.hosts[0][0].send(b"leave\n")
+        self.hosts[0].send(b"0 leave\n")
         self.turn()
         self.assertEqual(self.front.left, "[detached from elsewhere]")
 

@@ -1,9 +1,7 @@
 """What a person's terminal shows: a part of the session, or lines in its place, and a line of its own; and what is typed meanwhile."""
 import os
-import pathlib
 import pty
 import signal
-import tempfile
 import unittest
 from unittest import mock
 
@@ -418,28 +416,15 @@ class Sizes(unittest.TestCase):
 
     def test_beside_another(self):
         """A larger terminal leaves the size to another that is there, and is told the key."""
-        with tempfile.TemporaryDirectory() as folder:
-            other = os.fork()
-            if other == 0:
-                noted_front_end(folder)
-                signal_pause()
-            try:
-                note = pathlib.Path(folder, "attached", str(other))
-                while not note.exists():
-                    pass
-                person = Person(50, 132, told=places(24, 80), folder=folder)
-                self.assertEqual((person.sizes(), person.said()), ([], ["part 23 80"]))
-                self.assertEqual(person.display.row.told, "24 by 80, as another terminal has it; C-b r fits this one")
-                self.assertEqual(person.types(b"\x02r"), ["size 50 132"])
-                # No resize of one that isn't alone makes the session smaller.
-                other_one = Person(24, 80, told=places(24, 80), folder=folder)
-                other_one.resize(20, 70)
-                self.assertEqual((other_one.sizes(), other_one.display.row.line().endswith(FITS)), ([], True))
-                note.write_text(note.read_text(encoding="utf-8").replace("read-write", "read-only"), encoding="utf-8")
-                self.assertEqual(Person(50, 132, told=places(24, 80), folder=folder).sizes(), ["size 50 132"])
-            finally:
-                os.kill(other, 9)
-                os.waitpid(other, 0)
+        person = Person(50, 132, told=places(24, 80), host=PlayedHost(True))
+        self.assertEqual((person.sizes(), person.said()), ([], ["part 23 80"]))
+        self.assertEqual(person.display.row.told, "24 by 80, as another terminal has it; C-b r fits this one")
+        self.assertEqual(person.types(b"\x02r"), ["size 50 132"])
+        # No resize of one that isn't alone makes the session smaller.
+        other_one = Person(24, 80, told=places(24, 80), host=PlayedHost(True))
+        other_one.resize(20, 70)
+        self.assertEqual((other_one.sizes(), other_one.display.row.line().endswith(FITS)), ([], True))
+        self.assertEqual(Person(50, 132, told=places(24, 80), host=PlayedHost(False)).sizes(), ["size 50 132"])
 
     def test_resized(self):
         """A lone terminal that showed all of it is followed to a smaller size, and back; one that showed a part isn't."""
@@ -481,9 +466,12 @@ class Sizes(unittest.TestCase):
             person.answers()
             person.resize(30, 90)
             self.assertEqual(person.sizes(), ["size 30 90"] if types is False else [], types)
-        with mock.patch("roam_live.frontend.session_size.has_others", return_value=True):
-            self.assertEqual(Person(50, 132, told=places(24, 80), host=PlayedHost(False)).sizes(), ["size 50 132"])
-            self.assertEqual(Person(50, 132, told=places(24, 80), host=PlayedHost(None)).sizes(), [])
+        # It grows where no pty host is there at all, and not where one may tell later.
+        for is_known, is_there, sizes in ((True, False, []), (False, True, []), (False, False, ["size 50 132"])):
+            host = PlayedHost(None)
+            host.is_known, host.is_there = is_known, is_there
+            self.assertEqual(Person(50, 132, told=places(24, 80), host=host).sizes(), sizes, (is_known, is_there))
+        self.assertEqual(Person(50, 132, told=places(24, 80)).sizes(), ["size 50 132"])
         person = Person(50, 132, told=places(24, 80), host=PlayedHost(True))
         self.assertEqual((person.sizes(), person.display.row.told), ([], "24 by 80, as another terminal has it; C-b r fits this one"))
         small = Person(12, 40, told=places(24, 80), host=PlayedHost(False))

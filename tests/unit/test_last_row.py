@@ -28,7 +28,7 @@ class Labels(unittest.TestCase):
             self.assertEqual((said(found[0]), found[1], said(found[2])), parts, (labels, width))
             self.assertEqual(sum(map(len, (said(found[0]), found[1], said(found[2])))), width)
 
-    def test_cells(self):
+    def test_row_cells(self):
         """The row's own parts keep their styles; another line is reversed, and behind one that is typed there is the cursor's place."""
         parts = [Styled("0;7;31", "a ")], "[1]  ", [Styled("0;7;32", " z")]
         for given, text, is_typed, cells in (

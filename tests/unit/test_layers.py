@@ -125,7 +125,7 @@ class Layers(Case):
     def test_found(self):
         """An upward import is found wherever it is, and a sideways or relative one too."""
         cases = (
-            ("roam_live/common/a.py", "from roam_live.protocol.bells import X\n", 1),
+            ("roam_live/common/a.py", "from roam_live.protocol.panes import X\n", 1),
             ("roam_live/common/a.py", "import roam_live.cli.cmd\n", 1),
             ("roam_live/input/a.py", "TYPE_CHECKING = False\nif TYPE_CHECKING:\n    from roam_live.session.names import NAME\n", 3),
             ("roam_live/host/a.py", "def f():\n    from roam_live.relay import near\n", 2),

@@ -5,7 +5,7 @@ import itertools
 import random
 import re
 
-from roam_live.frontend import app, window_views
+from roam_live.frontend import window_views
 from roam_live.frontend.app import FrontEnd
 from roam_live.protocol.panes_client import PanesSubscriber
 from aids import StillLoop, closed, read_now, record
@@ -64,7 +64,7 @@ class Written(Fronts):
         self.environment(TERM="xterm")
         super().setUp()
         self.patch_of(window_views, "PanesSubscriber", PanesSubscriber)
-        self.tells = {name: self.listening(self.place.folder / name) for name in ("panes", "bells")}
+        self.tells = {name: self.listening(self.place.folder / name) for name in ("panes", "host")}
 
     def begin(self):
         """A front end that sets the clipboard, at sockets at which panes and notices are told."""

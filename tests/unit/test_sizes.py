@@ -43,16 +43,16 @@ class Whose(unittest.TestCase):
             self.assertEqual(sizes.first_step(*case), step, case)
 
     def test_follows(self):
-        """A session grows for who is alone, and shrinks for who is known to be and showed all of it."""
+        """A session grows for who is alone, and shrinks for who showed all of it and is alone by what the pty host reports."""
         size = (24, 80)
-        for own, showed_all, has_others, has_folder, follows in (
+        for own, showed_all, has_others, is_told, follows in (
             ((30, 100), False, False, False, True), ((24, 80), False, False, True, True), ((30, 80), True, False, False, True),
-            ((30, 100), True, True, True, False), ((30, 100), True, None, True, False),
+            ((30, 100), True, True, True, False), ((30, 100), True, None, False, False),
             ((20, 80), True, False, True, True), ((24, 79), True, False, True, True), ((20, 100), True, False, True, True),
-            ((20, 80), False, False, True, False), ((20, 80), True, False, False, False), ((24, 79), True, None, True, False),
+            ((20, 80), False, False, True, False), ((20, 80), True, False, False, False), ((24, 79), True, None, False, False),
             ((20, 100), True, True, True, False), ((30, 79), False, False, True, False),
         ):
-            case = size, own, showed_all, has_others, has_folder
+            case = size, own, showed_all, has_others, is_told
             self.assertIs(sizes.follows(*case), follows, case)
 
     def test_latest(self):

@@ -1,7 +1,6 @@
 """A person's front end of a session: a terminal connected to the session's client process, until the person leaves or the session ends."""
 from __future__ import annotations
 
-import contextlib
 import signal
 import time
 from collections.abc import Callable
@@ -19,18 +18,16 @@ from roam_live.frontend.interpreter import Interpreter
 from roam_live.frontend.modes import ModeStack
 from roam_live.frontend.settings import FrontSettings
 from roam_live.frontend.status_segments import StatusRow, format_values
-from roam_live.frontend.window_views import LOSS_TOLD, FrontOptions, ViewMaker, WindowViews
+from roam_live.frontend.window_views import DETACHED, LOSS_TOLD, FrontOptions, ViewMaker, WindowViews
 from roam_live.frontend.windows import WindowWishes
 from roam_live.protocol.client_link import LAST_WAIT
-from roam_live.session.attached import noted_front_end
+from roam_live.protocol.host_client import HostLink
 from roam_live.session.environment import environment_lines
 from roam_live.session.front_end_lock import locked_session
 from roam_live.session.host_watchdog import HostWatchdog
 
 TYPE_CHECKING = False
 if TYPE_CHECKING:
-    import pathlib
-
     from roam_live.frontend.window_view import WindowView
     from roam_live.protocol.panes import Places
     from roam_live.protocol.session_interface import AnySession
@@ -56,9 +53,10 @@ class FrontEnd:
         self.keyboard = Interpreter(ModeStack(Keymap()), self.display, self.loop, lambda: self.views.commands)
         self.settings = FrontSettings(self.keyboard, StatusRow(self.display, self.loop, self.values), prefix, prediction)
         options = FrontOptions(is_read_only, is_whole, has_clips and not is_read_only)
-        self.views = WindowViews(ViewMaker(self.keyboard, self.settings, options, self.leave), session, is_new)
-        self.views.view.host.environment = environment_lines(session, is_read_only)
-        self.windows = WindowWishes(self.views)
+        self.host_link = HostLink(session.common, self.loop, self.display.outer.size, is_read_only)
+        self.host_link.environment = environment_lines(session, is_read_only)
+        self.views = WindowViews(ViewMaker(self.keyboard, self.settings, options, self.host_link, self.leave), session, is_new)
+        self.windows = WindowWishes(self.views, self.host_link)
         self.runner = CommandRunner(self.keyboard, self.settings)
         self.connection = Connecting(self.views, self.windows.leave)
         self.join_parts()
@@ -72,6 +70,8 @@ class FrontEnd:
         views, keyboard, windows = self.views, self.keyboard, self.windows
         views.windows, views.server_ends, views.shows = windows, self.server_ended, self.connection.show
         views.commands.has_windows(windows)
+        self.host_link.leaves = lambda: self.leave(DETACHED)
+        self.host_link.others_left = lambda count: views.commands.others_left(count)
         windows.types, windows.reports = keyboard.typed, keyboard.reported
         keyboard.windows, keyboard.left_window = windows, views.left_commands
         keyboard.enters, keyboard.runs = self.runner.typed, self.runner.run_wish
@@ -149,10 +149,10 @@ class FrontEnd:
         except ImportError:
             self.views.commands.tell_replaced()
         view, outer = self.views.view, self.display.outer
-        if view.bells.keypads or outer.is_application:
+        if view.host.keypads or outer.is_application:
             # The keypad is an application's, in a pane or at the terminal.
             places = view.panes.places
-            self.display.outer.set_keypad(places is not None and places.focus in view.bells.keypads)
+            self.display.outer.set_keypad(places is not None and places.focus in view.host.keypads)
         if view.link.waiting and view.link.peer:
             self.connection.send()
         if outer.has_more():

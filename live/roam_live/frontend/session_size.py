@@ -6,7 +6,6 @@ from collections.abc import Callable
 from roam_live.common import tty
 from roam_live.frontend import sizes
 from roam_live.frontend.sizes import NO_SIZE
-from roam_live.session.attached import has_others
 
 TYPE_CHECKING = False
 if TYPE_CHECKING:
@@ -87,13 +86,18 @@ class SessionSize:
             self.acts.display.choose(is_anew=self.acts.display.part.place != (0, 0))
 
     def has_others(self) -> bool | None:
-        """Return True if somebody else types, as the pty host reports it, or else the notes in the session's folder. None if that is
-        unknown: not all are noted in the folder of another machine's session."""
-        told, session = self.acts.host.has_others() if self.acts.host else None, self.acts.session
-        if told is None and not has_others(session.common):
-            return None if session.served == "relay" else False
-        return told is None or told
+        """Return True if somebody else types at the session, False if nobody is known to, and None if that is unknown.
+
+        The pty host knows. A session on this machine that has none has nobody who says that he is there.
+        """
+        host, told = self.acts.host, self.told_others()
+        is_unknown = self.acts.session.served == "relay" or host is not None and (host.is_known or host.is_there)
+        return told if told is not None or is_unknown else False
+
+    def told_others(self) -> bool | None:
+        """Return whether somebody else types, as the pty host reports it; None if it reports nothing."""
+        return self.acts.host.has_others() if self.acts.host else None
 
     def follows(self, size: tty.Size, own: tty.Size, showed_all: bool) -> bool:
         """Return True if the session follows this terminal."""
-        return sizes.follows(size, own, showed_all, self.has_others(), self.acts.session.common is not None)
+        return sizes.follows(size, own, showed_all, self.has_others(), self.told_others() is not None)

@@ -68,15 +68,15 @@ def is_smaller(own: Size, size: Size) -> bool:
     return own[0] < size[0] or own[1] < size[1]
 
 
-def follows(size: Size, own: Size, showed_all: bool, has_others: bool | None, has_folder: bool) -> bool:
+def follows(size: Size, own: Size, showed_all: bool, has_others: bool | None, is_told: bool) -> bool:
     """Return True if the session takes this terminal's size.
 
-    The session grows if nobody else types. It shrinks only for a terminal that showed all of it and is known to be alone, which needs the
-    session's folder. `has_others` is None if that is unknown.
+    The session grows if nobody else types. It shrinks only for a terminal that showed all of it, and if the pty host reports that nobody
+    else types. `has_others` is None if that is unknown, and `is_told` is True if the pty host reports it.
     """
     if has_others is not False:
         return False
-    return showed_all and has_folder if is_smaller(own, size) else True
+    return showed_all and is_told if is_smaller(own, size) else True
 
 
 def takes_latest(size: Size, room: Size) -> bool:

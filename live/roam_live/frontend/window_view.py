@@ -60,9 +60,9 @@ class WindowView:
         if self.link.peer:
             loop.remove(self.link)
 
-    def take_up(self, panes: PanesSubscriber, bells: BellSubscriber) -> None:
-        """Follows the window again, by others who tell where the panes are, and of bells."""
-        self.panes, self.bells = panes, bells
+    def take_up(self, panes: PanesSubscriber) -> None:
+        """Follow the window again, by another subscription of its panes."""
+        self.panes = panes
         self.commands.acts.follow_panes(panes)
         self.reconnector.is_full = panes.is_full
 

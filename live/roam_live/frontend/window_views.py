@@ -8,7 +8,6 @@ from roam_live.common.errors import Fault
 from roam_live.frontend.commands import Commands
 from roam_live.frontend.sizes import NO_SIZE
 from roam_live.frontend.window_view import DrainingViews, WindowView, opened_server
-from roam_live.protocol.bells import BellSubscriber
 from roam_live.protocol.client_link import ClientLink, Reconnector
 from roam_live.protocol.host_client import HostClient
 from roam_live.protocol.panes_client import AWAITED, PanesSubscriber
@@ -21,6 +20,7 @@ if TYPE_CHECKING:
     from roam_live.frontend.lists import Lists
     from roam_live.frontend.settings import FrontSettings
     from roam_live.frontend.window_acts import WindowActs
+    from roam_live.protocol.host_client import HostLink
     from roam_live.protocol.panes import Places
     from roam_live.protocol.session_interface import AnySession
 
@@ -42,8 +42,9 @@ class FrontOptions(namedtuple("FrontOptions", "is_read_only is_whole has_clips")
 class ViewMaker:
     """Makes views of windows."""
 
-    def __init__(self, keyboard: Interpreter, settings: FrontSettings, options: FrontOptions, leave: Callable[[str | None], None]) -> None:
-        self.keyboard, self.settings, self.options, self.leave = keyboard, settings, options, leave
+    def __init__(self, keyboard: Interpreter, settings: FrontSettings, options: FrontOptions, host_link: HostLink,
+                 leave: Callable[[str | None], None]) -> None:
+        self.keyboard, self.settings, self.options, self.host_link, self.leave = keyboard, settings, options, host_link, leave
         self.display, self.loop, self.here = keyboard.display, keyboard.loop, keyboard.commands
         # In which windows keys were switched to go to all panes, or not, by their numbers.
         self.synchronized: dict[int, bool] = {}
@@ -51,6 +52,7 @@ class ViewMaker:
     def followed(self, session: AnySession) -> PanesSubscriber:
         """Return what follows the panes of a window."""
         panes = PanesSubscriber(session.folder, self.loop, lambda: self.here().panes_changed(), self.untold)
+        panes.rings = lambda pane: self.here().panes.ring(pane)
         if self.options.has_clips:
             panes.follow_clips(lambda text, making: self.here().acts.set_clip(text, making))
         self.loop.later("untold", AWAITED, lambda: self.here().show_known())
@@ -61,21 +63,16 @@ class ViewMaker:
         self.display.row.tell(line, LOSS_TOLD)
         self.here().show_known()
 
-    def heard_bells(self, session: AnySession) -> BellSubscriber:
-        """Return what follows the bells of a window."""
-        return BellSubscriber(session.folder, self.loop, lambda pane: self.here().panes.ring(pane),
-                              lambda words: self.display.row.tell(words, LOSS_TOLD))
-
     def begun(self, session: AnySession, is_new: Callable[[Places | None], bool] = lambda places: False) -> WindowView:
         """Return a view of a window."""
         options, loop, display = self.options, self.loop, self.display
         link, panes = ClientLink(session.terminals, options.is_read_only, self.settings.prediction), self.followed(session)
-        host = HostClient(session.folder, loop, display.outer.size, options.is_read_only, lambda: commands.follower.others_told())
-        host.leaves, host.others_left = lambda: self.leave(DETACHED), lambda count: self.here().others_left(count)
+        host = HostClient(self.host_link, session.number, lambda: commands.follower.others_told())
+        host.notices = lambda words: display.row.tell(words, LOSS_TOLD)
         commands = Commands(session, panes, link, display, loop, self.leave, self.keyboard.modes, is_new, options.is_whole, host)
         commands.copying.gives_back = self.keyboard.take
         commands.synchronizing.remember(self.synchronized, session.number, lambda: self.settings.prediction)
-        return WindowView(session, link, Reconnector(session, link, panes.is_full), panes, host, self.heard_bells(session), commands)
+        return WindowView(session, link, Reconnector(session, link, panes.is_full), panes, host, commands)
 
 
 class WindowViews:
@@ -95,6 +92,7 @@ class WindowViews:
         self.shows: Callable[[], object] = lambda: None
         server = opened_server(session)
         self.view = maker.begun(session, is_new)
+        maker.host_link.go(self.view.host)
         self.watch_server(server)
 
     # ---- the window where the person is
@@ -167,13 +165,13 @@ class WindowViews:
         self.shown_whole[before.number] = before.commands.size.now() if self.display.part.shows_all() else NO_SIZE
         self.draining.add(before)
         if view:
-            view.take_up(self.maker.followed(session), self.maker.heard_bells(session))
+            view.take_up(self.maker.followed(session))
         else:
             view = self.maker.begun(session)
-            view.host.follow_on(before.host)
             if self.windows:
                 view.commands.has_windows(self.windows)
         self.view = view
+        self.maker.host_link.go(view.host)
         self.watch_server(server)
         view.commands.follow_on(before.commands, self.shown_whole.get(number, NO_SIZE))
         self.display.begin_window()

@@ -22,6 +22,7 @@ TYPE_CHECKING = False
 if TYPE_CHECKING:
     from roam_live.frontend.window_views import WindowViews
     from roam_live.input.keys import Key
+    from roam_live.protocol.host_client import HostLink
 
 
 # What is told to who had a window opened.
@@ -68,8 +69,8 @@ class AskedName(AskedLine):
 class WindowWishes:
     """The windows of a session at one front end. A session that can't have others has none here."""
 
-    def __init__(self, views: WindowViews) -> None:
-        self.views, self.display, self.loop = views, views.display, views.loop
+    def __init__(self, views: WindowViews, link: HostLink) -> None:
+        self.views, self.link, self.display, self.loop = views, link, views.display, views.loop
         # What takes keys that waited, and what the terminal reports.
         self.types: Callable[[list[Key]], object] = lambda keys: None
         self.reports: Callable[[Key], object] = lambda key: None
@@ -88,16 +89,11 @@ class WindowWishes:
         self.opens = self.unsaid = ""
         # Whether the person stays where he is once a window is opened.
         self.stays = False
-        self.link = WindowsLink(self.path, self.loop, self.take, self.told.begin, self.lose)
-
-    def path(self) -> str:
-        """The socket that tells of the windows: that of the window where the person is."""
-        return os.path.join(self.views.acts.session.folder or "", "host")
 
     def begin(self) -> None:
         """Follows them, where there may be some."""
         if self.views.number:
-            self.link.connect()
+            self.link.follow_windows(self.take, self.told.begin, self.lose)
             self.show()
 
     # ---- which there are
@@ -134,7 +130,7 @@ class WindowWishes:
         """Why no other window can be had here; nothing where one can."""
         if not self.views.number:
             return FAR if self.views.view.session.served == "relay" else BY_HAND
-        return BY_HAND if self.link.is_refused else ""
+        return ""
 
     # ---- what is told
 
