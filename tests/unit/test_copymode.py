@@ -8,8 +8,8 @@ from scrollback_played import PlayedScrollback
 from roam_live.frontend import lists
 from roam_live.frontend.copymode import selection
 from roam_live.frontend.copymode.clipboard import MOST_COPIED
-from roam_live.frontend.copymode.controller import LENDS, MOST_WAITING, NO_ROOM
-from roam_live.frontend.copymode.row_requests import GONE, MOST_ASKED, WAITING, WAITS
+from roam_live.frontend.copymode.controller import MOST_WAITING, NO_ROOM
+from roam_live.frontend.copymode.row_requests import LENDS, GONE, MOST_ASKED, WAITING, WAITS
 from roam_live.protocol.display_records import DisplayRecord
 from roam_live.protocol.panes import Places, Rect
 from roam_live.protocol.paste_text import placeholder_acts

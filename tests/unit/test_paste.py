@@ -3,10 +3,11 @@ import unittest
 from unittest import mock
 
 from aids import Case, LinkedClient, StillLoop
-from roam_live.frontend import paste
+from roam_live.frontend import paste, paste_intake
 from roam_live.frontend.effects import ClosePane
-from roam_live.frontend.paste import (BEHIND_IT, COUNTS, DROPPED, DROPS, ENDS, FULL_BEHIND, HANDING, LOST_WORDS, MOST_BEHIND, NOT_TAKEN,
-                                      SHORT, TOO_LONG, Pastes, weight)
+from roam_live.frontend.paste import (BEHIND_IT, COUNTS, DROPPED, DROPS, FULL_BEHIND, HANDING, LOST_WORDS, MOST_BEHIND, NOT_TAKEN,
+                                      TOO_LONG, Pastes, weight)
+from roam_live.frontend.paste_intake import ENDS, NO_ROOM, SHORT, PasteIntake
 from roam_live.input.keys import BRACKETS
 from roam_live.protocol.host_client import LATER, MOST_UNSENT, NO_HOST, STORES_AGAIN
 from roam_live.protocol.panes_client import PAUSES
@@ -55,16 +56,17 @@ class Handed(Case):
         self.loop, self.link, self.host, self.said = StillLoop(lambda: self.now), Line(), PlayedHost(), []
         self.panes = PlayedPanes(mock.Mock(told=None))
         self.why = ""
-        self.pastes = Pastes(self.link, self.panes, self.host, self.loop, lambda: self.why, self.said.append)
+        self.pastes = Pastes(self.link, self.host, self.loop, self.said.append)
+        self.intake = PasteIntake(self.pastes, self.panes, lambda: self.why)
         self.names = iter(f"{number:016x}" for number in range(1, 1000))
         self.patch_of(paste, "random_name", side_effect=lambda: next(self.names))
 
     def paste(self, text, why=""):
         """Pastes a text."""
-        self.pastes.begin(why)
-        self.pastes.add(text[:3])
-        self.pastes.add(text[3:])
-        self.pastes.end()
+        self.intake.begin(why)
+        self.intake.add(text[:3])
+        self.intake.add(text[3:])
+        self.intake.end()
 
     def tell(self, number, word, more=""):
         """Has the host tell of a text."""
@@ -80,7 +82,7 @@ class Handed(Case):
 
     def test_spread(self):
         """What is pasted in several panes is handed over for each, and each has a placeholder of its own; a C-c drops what waits of it."""
-        self.pastes.spreads = lambda: [3, 1, 2]
+        self.intake.spreads = lambda: [3, 1, 2]
         self.paste("ab")
         self.assertEqual(self.host.stored, {f"{number:016x}": b"ab" for number in (1, 2, 3)})
         self.tell(2, "stored")
@@ -95,8 +97,8 @@ class Handed(Case):
 
     def test_unspread(self):
         """Where the pty host takes no texts, or not so many, the pane in focus has it alone, which is told."""
-        self.pastes.spreads = lambda: [3, 1]
-        for takes, room, why in ((False, None, paste.NO_TEXTS), (True, 3, paste.NO_ROOM)):
+        self.intake.spreads = lambda: [3, 1]
+        for takes, room, why in ((False, None, paste.NO_TEXTS), (True, 3, NO_ROOM)):
             self.host.takes, self.host.room = takes, room
             self.paste("ab")
             self.assertEqual((self.link.lines.pop(), self.said.pop()), ("paste ; char 61 ; char 62", paste.ALONE.format(why)))
@@ -298,7 +300,7 @@ class Handed(Case):
         """Where no host takes texts a long one goes as acts too."""
         self.panes.brackets, self.host.takes = True, False
         self.paste(LONG)
-        alone = Pastes(self.link, self.panes, None, self.loop, lambda: "", self.said.append)
+        alone = PasteIntake(Pastes(self.link, None, self.loop, self.said.append), self.panes, lambda: "")
         alone.begin()
         alone.add(LONG)
         alone.end()
@@ -307,40 +309,40 @@ class Handed(Case):
 
     def test_dropped(self):
         """Nothing of one is typed where it is told why, as it begins or ends; it takes no memory meanwhile."""
-        self.pastes.begin("not here")
-        self.pastes.add(LONG)
-        self.assertEqual(self.pastes.chunks, [])
-        self.pastes.end()
+        self.intake.begin("not here")
+        self.intake.add(LONG)
+        self.assertEqual(self.intake.chunks, [])
+        self.intake.end()
         for before, behind in (("not now", ""), ("", "not then")):
             self.why = before
-            self.pastes.begin()
-            self.pastes.add(LONG)
+            self.intake.begin()
+            self.intake.add(LONG)
             self.why = behind
-            self.pastes.end()
+            self.intake.end()
         self.assertEqual((self.said, self.link.lines, self.host.stored), (["not here", "not now", "not then"], [], {}))
 
     def test_unended(self):
         """One of which nothing more comes for five seconds is typed; what comes later is a paste of its own."""
-        self.pastes.begin()
-        self.pastes.add("ab")
+        self.intake.begin()
+        self.intake.add("ab")
         self.now += ENDS
         self.loop.do_due()
-        self.pastes.add("c")
-        self.pastes.end()
-        self.pastes.end()
+        self.intake.add("c")
+        self.intake.end()
+        self.intake.end()
         self.assertEqual(self.link.lines, ["paste ; char 61 ; char 62", "paste ; char 63"])
 
     def test_too_long(self):
         """More than 16 MB is told of, and not kept; so is what is that long in UTF-8, or with what waits."""
         self.assertEqual((paste.MOST_BYTES, MOST_UNSENT), (1 << 24, 1 << 25))
-        self.patch_of(paste, "MOST_BYTES", 1000)
+        self.patch_of(paste_intake, "MOST_BYTES", 1000)
         for text, before in (("x" * 1001, 0), ("\u4e2d" * 500, 0), ("x" * 990, 1)):
             if before:
                 self.paste(LONG)
-            self.pastes.begin()
-            self.pastes.add(text)
-            self.pastes.end()
-        self.assertEqual((self.said, len(self.host.stored), self.pastes.size), ([TOO_LONG] * 3, 1, 0))
+            self.intake.begin()
+            self.intake.add(text)
+            self.intake.end()
+        self.assertEqual((self.said, len(self.host.stored), self.intake.size), ([TOO_LONG] * 3, 1, 0))
         self.host.room = len(LONG)
         self.paste(LONG)
         self.paste(LONG + "x")

@@ -7,6 +7,7 @@ from roam_live.frontend.copymode.controller import INTERRUPT, Copying
 from roam_live.frontend.copymode.mouse import CopyPointing
 from roam_live.frontend.copymode.state import CopyEvent
 from roam_live.frontend.display import Display
+from roam_live.frontend.left_zoom import LeftZoom
 from roam_live.frontend.lists import Lists
 from roam_live.frontend.modes import CopyPasteMode, ModeStack, PastingMode, ScrollMode
 from roam_live.frontend.mouse import Pointing
@@ -63,7 +64,8 @@ class Commands:
         self.acts = acts = WindowActs(session, panes, link, display, loop, modes, host)
         self.size = SessionSize(acts)
         self.zooming = Zooming(acts, self.size)
-        self.follower = SizeFollower(acts, self.size, self.zooming, is_new)
+        self.left_zoom = LeftZoom(acts, self.size, self.zooming.is_on)
+        self.follower = SizeFollower(acts, self.size, self.zooming, self.left_zoom, is_new)
         self.panes, self.border_keys = PaneActions(acts, self.zooming), BorderKeys(acts, self.size, self.zooming)
         self.copying = Copying(acts)
         self.copy_pointing = CopyPointing(self.copying)
@@ -81,9 +83,9 @@ class Commands:
         acts = self.acts
         acts.settles = lambda: self.synchronizing.settle(is_last=True)
         acts.ends_zoom, acts.focus_moves, acts.borders_move = self.zooming.ended_by, self.focus_moves, self.borders_move
-        acts.pastes.spreads = self.synchronizing.pasted_in
+        acts.intake.spreads = self.synchronizing.pasted_in
         self.size.is_given, self.size.is_refused = self.size_given, self.size_refused
-        self.zooming.mends_late = lambda: self.follower.mend(is_late=True)
+        self.left_zoom.mends_late = lambda: self.follower.mend(is_late=True)
         self.copying.opens, self.copying.closed = self.lists.close, self.copy_pointing.end
         self.pointing.asks = self.show_metadata
         self.synchronizing.shows = self.show_known
@@ -93,7 +95,7 @@ class Commands:
 
     def size_given(self) -> None:
         """Go by a size that the session is given."""
-        self.zooming.overrule()
+        self.left_zoom.overrule()
         self.show_known()
 
     def size_refused(self) -> None:
@@ -148,7 +150,7 @@ class Commands:
     def end_paste(self) -> None:
         """Take the end of a paste."""
         self.synchronizing.settle(is_last=True)
-        self.acts.pastes.end()
+        self.acts.intake.end()
         self.acts.note_key()
 
     def is_full(self) -> bool:
@@ -252,7 +254,7 @@ class Commands:
         self.copying.close()
         self.lists.close()
         self.pointing.end_drag()
-        self.acts.pastes.break_off()
+        self.acts.intake.break_off()
         self.size.requested = None
         for name in OF_WINDOW:
             self.loop.drop(name)

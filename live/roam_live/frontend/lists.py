@@ -156,7 +156,7 @@ class Lists:
         elif not notes:
             self.acts.display.row.tell(UNTOLD if notes is None else NONE_KEPT, TOLD)
         elif is_newest:
-            self.acts.pastes.paste_buffer(notes[0].number)
+            self.acts.intake.paste_buffer(notes[0].number)
         else:
             self.open("buffers", buffer_list(self.acts.modes.keymap, notes))
 

@@ -17,12 +17,6 @@ if TYPE_CHECKING:
     from roam_live.protocol.host_client import HostClient
     from roam_live.protocol.panes_client import PanesSubscriber
 
-# A paste of so many characters at most is typed as acts.
-SHORT = 40
-
-# One of which nothing more comes for so many seconds is taken for whole, so that a terminal that tells no end keeps nothing back.
-ENDS = 5.0
-
 # So many seconds a host has for taking a text. They are counted each second: those of an outage don't count.
 HANDING = 60.0
 COUNTS = 1.0
@@ -36,7 +30,6 @@ DROPS = 1.0
 # Why what is pasted isn't typed in each of several panes.
 ALONE = "pasted in the pane in focus alone: {}"
 NO_TEXTS = "the pty host takes no texts"
-NO_ROOM = f"for all panes it has more than {MOST_BYTES >> 20} MB"
 
 # The act of C-c, by which a person drops what waits.
 INTERRUPT = "char 3"
@@ -100,15 +93,10 @@ class Paste:
 
 class Pastes:
     """Pastes and acts, in the order in which they come: a short paste as acts, a longer one as a placeholder, of which the text is handed
-    to the host. A call tells why nothing is pasted now, and another tells a person something."""
+    to the host. A call tells a person something."""
 
-    def __init__(self, link: ClientLink, panes: PanesSubscriber, host: HostClient | None, loop: Loop, refuses: Callable[[], str],
-                 tells: Callable[[str], object]) -> None:
-        self.link, self.panes, self.host, self.loop, self.refuses, self.tells = link, panes, host, loop, refuses, tells
-        # What came of a paste, and why nothing of it is typed.
-        self.chunks: list[str] = []
-        self.size = 0
-        self.why = ""
+    def __init__(self, link: ClientLink, host: HostClient | None, loop: Loop, tells: Callable[[str], object]) -> None:
+        self.link, self.host, self.loop, self.tells = link, host, loop, tells
         self.waiting: deque[Behind | Paste] = deque()
         # How many acts wait among them.
         self.behind = 0
@@ -116,93 +104,14 @@ class Pastes:
         self.drops_until, self.drops_why = 0.0, ""
         # Return True during an outage, as while the server is silent.
         self.is_cut: Callable[[], object] = lambda: False
-        # The panes in which what is pasted is typed, of which the first is in focus; none where that has it alone.
-        self.spreads: Callable[[], list[int]] = list
         if host:
             host.answers = self.answered
 
-    # ---- what is pasted
-
-    def begin(self, why: str = "") -> None:
-        """A paste begins; nothing of it is typed where it is told why, or nothing is pasted now, nor as it ends."""
-        self.chunks, self.size, self.why = [], 0, why or self.refuses()
-
-    def add(self, text: str) -> None:
-        """More of it comes."""
-        self.size += len(text)
-        if not self.why and self.size + self.handing() > MOST_BYTES:
-            self.why = TOO_LONG
-        if self.why:
-            self.chunks = []
-        else:
-            self.chunks.append(text)
-        self.loop.later("paste", ENDS, self.end)
-
-    def end(self) -> None:
-        """It is whole."""
-        self.loop.drop("paste")
-        text, why = cleaned("".join(self.chunks)), self.why or self.refuses()
-        self.chunks, self.size = [], 0
-        if why == TOO_LONG:
-            self.refuse(why)
-        elif why:
-            self.tells(why)
-        elif text:
-            self.paste(text)
-
-    def break_off(self) -> None:
-        """Nothing more comes of one here: it isn't typed."""
-        self.loop.drop("paste")
-        self.chunks, self.size = [], 0
+    # ---- what is handed over
 
     def handing(self) -> int:
         """How many characters wait to be handed over."""
         return sum(len(one.text) for one in self.waiting if isinstance(one, Paste))
-
-    def paste(self, text: str) -> None:
-        """Types a text as acts where it is short, and else hands it over; that too where it isn't known here whether the program wants
-        brackets, as of another machine's."""
-        panes = self.spreads()
-        if panes and self.is_spread(text, panes):
-            return
-        is_bracketed = self.panes.wants_brackets()
-        is_short = len(text) <= SHORT and self.panes.knows_modes()
-        if is_short or not self.host or not self.host.takes_texts():
-            self.type(*pasted_acts(text, is_bracketed), is_pasted=True)
-            return
-        paste, data = Paste(text, is_bracketed), text.encode("utf-8", "replace")
-        if len(data) > MOST_BYTES or not self.host.has_room(len(data)):
-            self.refuse(TOO_LONG)
-            return
-        self.host.store(paste.name, data)
-        self.hand(paste)
-
-    def is_spread(self, text: str, panes: list[int]) -> bool:
-        """Hands a text over for each of these panes, by a placeholder of its own there, and tells whether it does: else why not is told."""
-        data = text.encode("utf-8", "replace")
-        if not self.host or not self.host.takes_texts():
-            self.tells(ALONE.format(NO_TEXTS))
-            return False
-        if len(data) * len(panes) > MOST_BYTES or not self.host.has_room(len(data) * len(panes)):
-            self.tells(ALONE.format(NO_ROOM))
-            return False
-        for pane in panes:
-            paste = Paste(text, False, focuses=(pane, panes[0]) if pane != panes[0] else None)
-            self.host.store(paste.name, data)
-            self.hand(paste)
-        return True
-
-    def paste_buffer(self, number: int) -> None:
-        """Has a buffer of the host's be pasted."""
-        why = self.refuses()
-        if why or not self.host:
-            self.tells(why or NOT_TAKEN)
-            return
-        panes = self.spreads() or [0]
-        for pane in panes:
-            paste = Paste("", False, number, (pane, panes[0]) if pane != panes[0] else None)
-            self.host.store(paste.name, number)
-            self.hand(paste)
 
     def hand(self, paste: Paste) -> None:
         """Waits until a paste is held."""

@@ -12,6 +12,7 @@ from roam_live.frontend.sizes import NO_SIZE, Fitting
 
 TYPE_CHECKING = False
 if TYPE_CHECKING:
+    from roam_live.frontend.left_zoom import LeftZoom
     from roam_live.frontend.session_size import SessionSize
     from roam_live.frontend.window_acts import WindowActs
     from roam_live.frontend.zoom import Zooming
@@ -31,8 +32,9 @@ NEW = 2.0
 class SizeFollower:
     """Fits the session to one terminal, as far as that may be."""
 
-    def __init__(self, acts: WindowActs, size: SessionSize, zooming: Zooming, is_new: Callable[[Places | None], bool]) -> None:
-        self.acts, self.size, self.zooming, self.loop = acts, size, zooming, acts.loop
+    def __init__(self, acts: WindowActs, size: SessionSize, zooming: Zooming, left_zoom: LeftZoom,
+                 is_new: Callable[[Places | None], bool]) -> None:
+        self.acts, self.size, self.zooming, self.left_zoom, self.loop = acts, size, zooming, left_zoom, acts.loop
         # Whether the session is new, and whether it and this terminal were fitted to each other once.
         self.is_new, self.is_fitted, self.new_until = is_new, False, 0.0
         # Whether this terminal showed all of the session before it had another size itself; and the size that this window had as it was
@@ -87,7 +89,7 @@ class SizeFollower:
             self.loop.later("others", FITS_AGAIN, self.fit)
             return
         elif step == sizes.FOLLOWS:
-            if not self.zooming.mend():
+            if not self.left_zoom.mend():
                 self.follow(size, own)
                 return
             self.fit()
@@ -120,7 +122,7 @@ class SizeFollower:
     def mend(self, is_late: bool = False) -> None:
         """Give the session the size back that it had before a zoom that a front end has left, and then the one that it has at this
         terminal."""
-        if self.zooming.mend(is_late):
+        if self.left_zoom.mend(is_late):
             self.fit()
 
     def others_told(self) -> None:

@@ -6,6 +6,7 @@ from collections.abc import Callable
 from roam_live.frontend.bindings import NEWEST
 from roam_live.frontend.modes import ConfirmMode, CopyPasteMode, LineMode, ModeStack, PastingMode, ScrollMode
 from roam_live.frontend.paste import Pastes
+from roam_live.frontend.paste_intake import PasteIntake
 from roam_live.protocol.client_link import TYPES
 from roam_live.protocol.panes import MOVES
 
@@ -49,7 +50,8 @@ class WindowActs:
         self.moved_from: Places | None = None
         # The making of the pane to which this person's last key went, where that is known.
         self.typed_in = ""
-        self.pastes = Pastes(link, panes, host, loop, self.unpasted, lambda line: display.row.tell(line, PASTE_TOLD))
+        self.pastes = Pastes(link, host, loop, lambda line: display.row.tell(line, PASTE_TOLD))
+        self.intake = PasteIntake(self.pastes, panes, self.unpasted)
         self.pastes.is_cut = self.is_cut
         self.settles: Callable[[], object] = nothing
         self.ends_zoom: Callable[[tuple[str, ...]], tuple[str, ...]] = lambda acts: acts
@@ -58,7 +60,7 @@ class WindowActs:
 
     def follow_panes(self, panes: PanesSubscriber) -> None:
         """Go by what another subscriber reports of the panes."""
-        self.panes = self.pastes.panes = panes
+        self.panes = self.intake.panes = panes
 
     # ---- acts
 
@@ -96,7 +98,7 @@ class WindowActs:
         """Type nothing of a paste whose end hasn't come yet, and tell why once it has."""
         self.modes.drop(PastingMode, CopyPasteMode)
         self.modes.push(PastingMode())
-        self.pastes.begin(why)
+        self.intake.begin(why)
 
     def set_clip(self, text: str, making: str) -> None:
         """Set the terminal's clipboard by what the program in focus sets, in base64, if this person's last key went to it."""

@@ -2,12 +2,10 @@
 back that it had."""
 from __future__ import annotations
 
-from collections.abc import Callable
-
 from roam_live.common import tty
 from roam_live.frontend import sizes
 from roam_live.frontend.sizes import NO_SIZE, Zoom, places_at
-from roam_live.protocol.zoom_record import LEFT, ZoomNote
+from roam_live.protocol.zoom_record import ZoomNote
 
 TYPE_CHECKING = False
 if TYPE_CHECKING:
@@ -36,8 +34,6 @@ class Zooming:
 
     def __init__(self, acts: WindowActs, size: SessionSize) -> None:
         self.acts, self.size, self.loop = acts, size, acts.loop
-        # What gives the session its size back once nothing else can have asked for that of a zoom which was left.
-        self.mends_late: Callable[[], object] = lambda: None
         # The pane that is zoomed, 0 for none; where the panes are without that, and what the session is to have again and was asked for.
         self.pane = 0
         self.before: Places | None = None
@@ -45,11 +41,8 @@ class Zooming:
         # What was told of the panes when the last size was asked for, while it may come; and where they were when the pane was shown.
         self.awaited: Places | None = None
         self.rects: dict[int, Rect] = {}
-        # Whether this terminal showed all of the session; the zoom of another that was looked after, and one without whose sizes the
-        # session was seen since.
+        # Whether this terminal showed all of the session.
         self.showed_all = False
-        self.mended: ZoomNote | None = None
-        self.unseen: ZoomNote | None = None
         # Whether the pane in focus is to be zoomed once it is told which that is, by what was typed, and whether another has a zoom.
         self.waits = False
 
@@ -235,41 +228,3 @@ class Zooming:
         """Ends it where the person leaves, and is told of no more."""
         if self.pane:
             self.end()
-
-    def left_by(self) -> ZoomNote | None:
-        """The zoom that a front end has left, as one that was killed, and that isn't looked after yet; None where there is none."""
-        host = self.acts.host
-        maker, note = host.zoomed if host else (0, None)
-        if maker or not note:
-            self.mended = self.unseen = None
-        return None if maker or self.pane or self.acts.link.is_read_only or note == self.mended else note
-
-    def mend(self, is_late: bool = False) -> bool:
-        """Gives the session its size back where a front end made it larger that has left, and tells whether it does: what that typed last
-        may not be taken yet. Where somebody else types, or the session had another size meanwhile, it may have that of his zoom: of that
-        the host tells, maybe a moment after the panes are told, which is late enough."""
-        note, size = self.left_by(), self.size.coming()
-        step = sizes.left_zoom(note, size, note == self.unseen, self.size.has_others() if note else None, is_late)
-        if step == sizes.UNSEEN:
-            self.unseen = note
-            self.loop.drop("zoom comes")
-            self.loop.later("zoom left", LEFT, self.overrule_late)
-        elif step == sizes.GIVES and note:
-            self.loop.drop("zoom comes")
-            self.size.request(note.size)
-        elif step == sizes.AWAITS and "zoom comes" not in self.loop.due:
-            self.loop.later("zoom comes", LEFT, self.mends_late)
-        return step == sizes.GIVES
-
-    def overrule_late(self) -> None:
-        """Tells the host that such a zoom is over, where nothing has come of it."""
-        note, size = self.left_by(), self.size.coming()
-        if note and size != NO_SIZE and size not in note.asked:
-            self.overrule()
-
-    def overrule(self) -> None:
-        """Tells the host that a zoom which a front end has left is over: the session's size is one that it was given otherwise."""
-        note = self.left_by()
-        if note and self.acts.host:
-            self.mended = note
-            self.acts.host.note_zoom(None)

@@ -6,7 +6,7 @@ from collections.abc import Callable
 
 from roam_live.frontend.copymode.clipboard import CopiedTexts
 from roam_live.frontend.copymode.popup import CopyScreen
-from roam_live.frontend.copymode.row_requests import GONE, CopyAsking
+from roam_live.frontend.copymode.row_requests import GONE, CopyAsking, SnapshotAsking
 from roam_live.frontend.copymode.state import CopyEvent, CopyState, nothing
 from roam_live.frontend.modes import CopyKeysMode
 from roam_live.protocol.panes import MOVES
@@ -18,12 +18,6 @@ if TYPE_CHECKING:
     from roam_live.frontend.window_acts import WindowActs
     from roam_live.input.keys import Key
     from roam_live.protocol.scrollback_client import ScrollbackClient, Snapshot
-
-# So many seconds a host has for lending a snapshot: where it is stopped the view that all share scrolls.
-LENDS = 2.0
-
-# So often it is looked whether the host is connected meanwhile.
-CONNECTS = 0.05
 
 # So many keys and reports wait at most.
 MOST_WAITING = 4096
@@ -53,7 +47,7 @@ class Copying:
         # What was searched for last, and which way, which stays when it is closed.
         self.sought = "", False
         self.screen, self.asking = CopyScreen(self.state), CopyAsking(self.state, self.go_on, self.close)
-        self.texts = CopiedTexts(acts)
+        self.texts, self.snapshots = CopiedTexts(acts), SnapshotAsking(self.state, self.asking.tell_later, self.lent)
 
     def is_full(self) -> bool:
         """Return True if so much waits that nothing more is to come."""
@@ -72,7 +66,7 @@ class Copying:
         self.state.pane, self.state.generation, self.state.rect, self.instead = pane, int(making[1]), rect, instead
         self.take_keys()
         self.state.events.extend(begins)
-        self.ask_snapshot(scrollback)
+        self.snapshots.ask(scrollback)
 
     def await_focus(self, instead: Callable[[], object], *begins: CopyEvent) -> None:
         """Opens it in the pane in focus once that is told, as where a relay goes another way; where it isn't in time something else is done
@@ -81,7 +75,7 @@ class Copying:
         self.state.pane, self.instead = 0, instead
         self.take_keys()
         self.state.events.extend(begins)
-        self.begin_opening()
+        self.snapshots.begin()
 
     def take_keys(self) -> None:
         """Has the keys be copy mode's."""
@@ -101,35 +95,6 @@ class Copying:
         places = self.acts.places()
         if places and places.focus:
             self.open(places.focus, self.instead, *self.state.events)
-
-    def begin_opening(self) -> int:
-        """Waits for what opens it, no longer than for a snapshot; tells its number."""
-        self.state.opening += 1
-        opening, self.state.is_opening = self.state.opening, True
-        self.loop.later("copy opens", LENDS, lambda: self.lent(opening, None))
-        self.asking.tell_later()
-        return opening
-
-    def ask_snapshot(self, scrollback: ScrollbackClient) -> None:
-        """Asks for a snapshot."""
-        self.ask_connected(self.begin_opening(), scrollback)
-
-    def ask_connected(self, opening: int, scrollback: ScrollbackClient) -> None:
-        """Asks for it once the host is connected, where that may be soon."""
-        if opening != self.state.opening or not self.state.is_opening:
-            return
-        if self.state.is_connecting():
-            self.loop.later("copy connects", CONNECTS, lambda: self.ask_connected(opening, scrollback))
-        else:
-            scrollback.snapshot(self.state.pane, self.state.generation, lambda snapshot: self.answered(opening, scrollback, snapshot))
-
-    def answered(self, opening: int, scrollback: ScrollbackClient, snapshot: Snapshot | None) -> None:
-        """Takes what the host answers. Where the connection was lost instead, as by a relay that goes another way, it is asked again once
-        there is another."""
-        if snapshot is None and self.state.is_connecting():
-            self.ask_connected(opening, scrollback)
-        else:
-            self.lent(opening, snapshot)
 
     def lent(self, opening: int, snapshot: Snapshot | None) -> None:
         """Takes a snapshot; None where none is lent."""
@@ -295,7 +260,7 @@ class Copying:
         elif asked.word != REFRESH:
             self.state.events.appendleft(CopyEvent(lambda mode: self.copy(asked)))
         elif scrollback:
-            self.ask_snapshot(scrollback)
+            self.snapshots.ask(scrollback)
 
     def copy(self, asked: CopyWish) -> None:
         """Copies a text, once all its rows are here."""

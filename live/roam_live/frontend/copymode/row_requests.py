@@ -9,7 +9,7 @@ if TYPE_CHECKING:
     from roam_live.frontend.copymode.rows import Missing
     from roam_live.frontend.copymode.search import MissingFind
     from roam_live.frontend.copymode.state import CopyState
-    from roam_live.protocol.scrollback_client import ScrollbackClient
+    from roam_live.protocol.scrollback_client import ScrollbackClient, Snapshot
 
 # So many rows are asked for at once at most, and so many pages at first: the one that is needed, and one ahead.
 MOST_ASKED = 2000
@@ -17,6 +17,12 @@ PAGES_ASKED = 2
 
 # Where the connection was lost it is asked again after so many seconds.
 ASKS_AGAIN = 0.1
+
+# So many seconds a host has for lending a snapshot: where it is stopped the view that all share scrolls.
+LENDS = 2.0
+
+# So often it is looked whether the host is connected meanwhile.
+CONNECTS = 0.05
 
 # What is awaited for longer than so many seconds is told.
 WAITS = 0.5
@@ -115,3 +121,40 @@ class CopyAsking:
         self.is_waiting = False
         self.settle()
         self.goes_on()
+
+
+class SnapshotAsking:
+    """Asks for a snapshot of a pane's rows. Calls tell a person later that it is awaited, and take it by the number of the question; None
+    where none is lent."""
+
+    def __init__(self, state: CopyState, tells_later: Callable[[], object], lent: Callable[[int, Snapshot | None], object]) -> None:
+        self.state, self.tells_later, self.lent, self.loop = state, tells_later, lent, state.acts.loop
+
+    def begin(self) -> int:
+        """Waits for what opens it, no longer than for a snapshot; tells its number."""
+        self.state.opening += 1
+        opening, self.state.is_opening = self.state.opening, True
+        self.loop.later("copy opens", LENDS, lambda: self.lent(opening, None))
+        self.tells_later()
+        return opening
+
+    def ask(self, scrollback: ScrollbackClient) -> None:
+        """Asks for a snapshot."""
+        self.ask_connected(self.begin(), scrollback)
+
+    def ask_connected(self, opening: int, scrollback: ScrollbackClient) -> None:
+        """Asks for it once the host is connected, where that may be soon."""
+        if opening != self.state.opening or not self.state.is_opening:
+            return
+        if self.state.is_connecting():
+            self.loop.later("copy connects", CONNECTS, lambda: self.ask_connected(opening, scrollback))
+        else:
+            scrollback.snapshot(self.state.pane, self.state.generation, lambda snapshot: self.answered(opening, scrollback, snapshot))
+
+    def answered(self, opening: int, scrollback: ScrollbackClient, snapshot: Snapshot | None) -> None:
+        """Takes what the host answers. Where the connection was lost instead, as by a relay that goes another way, it is asked again once
+        there is another."""
+        if snapshot is None and self.state.is_connecting():
+            self.ask_connected(opening, scrollback)
+        else:
+            self.lent(opening, snapshot)

@@ -160,20 +160,15 @@ class CopyView:
 
     def go_top(self) -> None:
         """Goes to the first row."""
-        self.turn_where(self.selection is not None and self.selection.keeps == "end")
+        turn_where(self, "end")
         self.top = self.rows.first_line()
         self.position = self.top[0], 0
 
     def go_bottom(self) -> None:
         """Goes to the end of the last row."""
-        self.turn_where(self.selection is not None and self.selection.keeps == "begin")
+        turn_where(self, "begin")
         self.top = self.lowest_top()
         self.position = self.rows.last(), self.rows.length(self.rows.last())
-
-    def turn_where(self, is_kept: bool) -> None:
-        """Has the cursor be at the other end of lines that are selected, where it is on the row at which they begin."""
-        if is_kept and self.selection and self.position[0] == self.selection.fixed()[0]:
-            self.other_end()
 
     def go_back(self, count: int) -> None:
         """Shows lines so many rows above the last, with the cursor where it stands."""
@@ -201,3 +196,10 @@ class CopyView:
         """Selects nothing any more."""
         self.selection = None
         self.clamp()
+
+
+def turn_where(view: CopyView, keeps: str) -> None:
+    """Puts the cursor at the other end of lines that are selected, if it keeps to this one of them and is on the row at which they begin."""
+    selection = view.selection
+    if selection and selection.keeps == keeps and view.position[0] == selection.fixed()[0]:
+        view.other_end()
