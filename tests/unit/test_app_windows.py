@@ -15,7 +15,8 @@ from roam_live.frontend import app, command_line, window_view, window_views
 from roam_live.frontend.app import FrontEnd
 from roam_live.frontend.lists import WINDOWS_LINE
 from roam_live.frontend.modes import CopyPasteMode
-from roam_live.frontend.windows import BY_HAND, DROPPED, FAR, LATE, LISTS, NOT_AWAITED, NO_ROOM, OPENING, OPENS, SMALL, TAKES_LONG
+from roam_live.frontend.window_opening import DROPPED, LATE, LISTS, NOT_AWAITED, NO_ROOM, OPENING, OPENS, SMALL, TAKES_LONG
+from roam_live.frontend.windows import BY_HAND, FAR
 from roam_live.input.keys import acts_of_bytes
 from test_display import PlayedPanes, painting, places
 from test_app import AnySession
@@ -362,7 +363,7 @@ class Opened(Windows):
         self.turn()
         self.assertEqual((self.front.display.row.told, self.typed[1]), (OPENING, ""))
         self.type(b"\x03d")
-        self.assertEqual((self.typed[1], self.front.windows.is_opening, self.front.display.row.told), ("d", False, NOT_AWAITED + DROPPED))
+        self.assertEqual((self.typed[1], self.front.windows.waiting.is_opening, self.front.display.row.told), ("d", False, NOT_AWAITED + DROPPED))
         self.type(b"\x02c\x03e")
         self.add(3)
         self.tell("window 3 -", "opened 3")
@@ -417,7 +418,7 @@ class Opened(Windows):
         self.type(b"\x02cab")
         self.hosts[0].close()
         self.turn()
-        self.assertEqual((self.front.windows.is_opening, self.front.display.row.told.endswith(DROPPED)), (False, True))
+        self.assertEqual((self.front.windows.waiting.is_opening, self.front.display.row.told.endswith(DROPPED)), (False, True))
 
     def test_relay_turns(self):
         """Of another machine's session the connection is cut where its relay goes another way: the window is asked for again, until it is
@@ -440,7 +441,7 @@ class Opened(Windows):
         self.now += 0.02
         self.add(3)
         self.turn()
-        self.assertEqual((self.typed, self.front.views.number, self.front.windows.unsaid), ({1: "", 2: "", 3: "ab"}, 3, ""))
+        self.assertEqual((self.typed, self.front.views.number, self.front.windows.waiting.unsaid), ({1: "", 2: "", 3: "ab"}, 3, ""))
 
     def test_bounded(self):
         """No more is read than is kept for a window that is being opened."""
@@ -666,7 +667,7 @@ class Named(Windows):
                 self.front.views.commands.panes_changed()
                 self.turn()
             self.assertEqual((self.front.views.number, self.typed), (1, {1: "x", 2: ""}) if is_told else (2, {1: "x", 2: "kx"}))
-            self.assertEqual((self.front.display.row.told, self.front.windows.held), ("" if is_told else NO_ROOM, []))
+            self.assertEqual((self.front.display.row.told, self.front.windows.waiting.held), ("" if is_told else NO_ROOM, []))
 
 
 class Pointed(Windows):

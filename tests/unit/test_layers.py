@@ -13,8 +13,13 @@ PACKAGE = TOOLS / "roam_live"
 
 # From the lowest layer to the highest. Packages on the same line do not import each other.
 LAYERS = (("common",), ("protocol",), ("input", "session"), ("config",), ("frontend", "host", "relay"), ("cli",))
+
 # The packages in which no two modules import each other, and no part knows its owner.
 ACYCLIC = ("input", "config", "frontend")
+
+# The sizes of modules and classes there.
+MOST_LINES, MOST_METHODS = 450, 25
+
 LAYER = {package: number for number, packages in enumerate(LAYERS) for package in packages}
 
 
@@ -114,6 +119,16 @@ class Layers(Case):
     def test_no_owner(self):
         """No object there gives itself to one that it makes, so that no part has a field for its owner."""
         self.assertEqual([fault for name, text in texts().items() if name.split("/")[1] in ACYCLIC for fault in owners_in(name, text)], [])
+
+    def test_sizes(self):
+        """No module there has more than MOST_LINES lines, and no class more than MOST_METHODS methods of its own."""
+        for name, text in texts().items():
+            if name.split("/")[1] in ACYCLIC:
+                self.assertLessEqual(text.count("\n"), MOST_LINES, name)
+                for node in ast.walk(ast.parse(text)):
+                    if isinstance(node, ast.ClassDef):
+                        methods = sum(isinstance(one, ast.FunctionDef) for one in node.body)
+                        self.assertLessEqual(methods, MOST_METHODS, f"{name}: {node.name}")
 
     def test_owner_found(self):
         """An object that is given to a part as it is made is found, and a call of its own isn't."""

@@ -159,10 +159,10 @@ class AtFrontEnd(Case):
 
     def test_window(self):
         for line, stays in (("neww -n logs htop", False), ("neww -d", True)):
-            self.commands.windows.open.reset_mock()
+            self.commands.windows.waiting.open.reset_mock()
             self.runner.typed(line)
             self.acts.host.ran(f"{NAME} ready")
-            self.commands.windows.open.assert_called_once_with(NAME, stays)
+            self.commands.windows.waiting.open.assert_called_once_with(NAME, stays)
 
     def test_awaited(self):
         """Where it isn't known yet which pane is in focus, or no connection is there, that is waited for, no longer than two seconds."""

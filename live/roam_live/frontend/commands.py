@@ -156,7 +156,7 @@ class Commands:
     def is_full(self) -> bool:
         """Return True if so much waits for rows, for the focus or for a window that nothing more is to come. What waits behind a paste
         keeps nothing back: C-c and the prefix are read in any case."""
-        return self.synchronizing.is_full() or self.copying.is_full() or self.windows is not None and self.windows.is_full()
+        return self.synchronizing.is_full() or self.copying.is_full() or self.windows is not None and self.windows.waiting.is_full()
 
     # ---- what is reported
 
@@ -175,7 +175,7 @@ class Commands:
         self.show_metadata()
         self.synchronizing.settle()
         if self.windows:
-            self.windows.told_panes()
+            self.windows.waiting.told_panes()
 
     def show_metadata(self) -> None:
         """Give the terminal the title and the cursor's shape of the pane in focus, and ask it for what its program wants of the mouse."""

@@ -7,14 +7,8 @@ from typing import Protocol
 from roam_live.input.keys import Key
 
 
-class OtherWindows(Protocol):
-    """The windows of a session, as the one where the person is asks for others."""
-
-    def why_one(self) -> str:
-        """Return why no other window can be had here, "" if one can."""
-
-    def ask_shut(self) -> None:
-        """Shut the window where the person is."""
+class WaitingKeys(Protocol):
+    """What is typed for a window that isn't there yet."""
 
     def open(self, handed: str = "", stays: bool = False) -> None:
         """Have a window be opened, by a command that was handed over if it is named."""
@@ -27,6 +21,20 @@ class OtherWindows(Protocol):
 
     def takes(self, keys: list[Key], place: int) -> bool:
         """Take the keys from a place on if they are for another window, and return True if they are."""
+
+
+class OtherWindows(Protocol):
+    """The windows of a session, as the one where the person is asks for others."""
+
+    @property
+    def waiting(self) -> WaitingKeys:
+        """What is typed for a window that isn't there yet."""
+
+    def why_one(self) -> str:
+        """Return why no other window can be had here, "" if one can."""
+
+    def ask_shut(self) -> None:
+        """Shut the window where the person is."""
 
     def grant(self, wish: str) -> None:
         """Do what a person asks for of windows."""

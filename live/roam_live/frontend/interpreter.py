@@ -120,7 +120,7 @@ class Interpreter:
         keys = self.modes.keymap.joined(keys)
         place = 0
         while place < len(keys):
-            if self.windows and self.windows.takes(keys, place):
+            if self.windows and self.windows.waiting.takes(keys, place):
                 break
             if self.commands() is not here:
                 here = self.commands()

@@ -9,13 +9,12 @@ from roam_live.input.keys import pasted_acts
 from roam_live.protocol.client_link import TYPES
 from roam_live.protocol.host_client import INSERTED, LATER, LOST, NO_HOST, STORED
 from roam_live.protocol.panes import MOVES
-from roam_live.protocol.paste_text import MOST_BYTES, cleaned, placeholder_acts, placeholder_in, random_name
+from roam_live.protocol.paste_text import MOST_BYTES, placeholder_acts, placeholder_in, random_name
 
 TYPE_CHECKING = False
 if TYPE_CHECKING:
     from roam_live.protocol.client_link import ClientLink
     from roam_live.protocol.host_client import HostClient
-    from roam_live.protocol.panes_client import PanesSubscriber
 
 # So many seconds a host has for taking a text. They are counted each second: those of an outage don't count.
 HANDING = 60.0

@@ -82,7 +82,7 @@ class Handing:
         opens = windows
 
         def open_named(name: str) -> None:
-            opens.open(name, begins.is_aside)
+            opens.waiting.open(name, begins.is_aside)
             goes_on()
         self.hand(begins, "window", open_named)
 

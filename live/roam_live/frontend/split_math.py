@@ -13,8 +13,6 @@ if TYPE_CHECKING:
     from roam_live.common.tty import Size
     from roam_live.frontend.borders import Parts
 
-WAYS = ("down", "right")
-
 
 class Above(namedtuple("Above", "way is_first shift least_first least_second")):
     """A split above a pane: whether the pane is in its first part, how far its border is shifted from the middle, and how long both parts

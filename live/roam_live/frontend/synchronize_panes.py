@@ -11,7 +11,6 @@ from roam_live.frontend.status_line import ALL_PANES
 TYPE_CHECKING = False
 if TYPE_CHECKING:
     from roam_live.frontend.window_acts import WindowActs
-    from roam_live.protocol.panes import Places
 
     # What a key types in a pane.
     Typed = Callable[[int], list[str]]

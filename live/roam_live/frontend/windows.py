@@ -1,58 +1,32 @@
-"""The windows of a session at one person's front end: which there are, as the pty host tells it, where the person is and was, and
-what is asked of the host. What is typed for a window that is being opened waits for it."""
+"""The windows of a session at one person's front end: which there are, as the pty host tells it, where the person is and was, and what
+is asked of the host."""
 from __future__ import annotations
 
 import contextlib
 import re
-from collections.abc import Callable
 
 from roam_live.common.errors import Fault, reason
 from roam_live.common.text import printable
-from roam_live.common.tty import LEAST, is_large_enough, largest
 from roam_live.frontend.effects import SendRequest
 from roam_live.frontend.line_editor import AskedLine
+from roam_live.frontend.window_opening import SAID, WindowOpening
 from roam_live.frontend.windows_client import WindowsState
-from roam_live.input.extended_keys import ANSWERED
-from roam_live.input.mouse_reports import MOUSE
-from roam_live.protocol.colours import COLOUR
-from roam_live.protocol.window_lines import BELL, LONGEST_BYTES, LONGEST_NAME, MOST_WINDOWS
+from roam_live.protocol.host_lines import SESSION
+from roam_live.protocol.window_lines import BELL, LONGEST_BYTES, LONGEST_NAME
 from roam_live.session.foreground import told
 
 TYPE_CHECKING = False
 if TYPE_CHECKING:
     from roam_live.frontend.window_views import WindowViews
-    from roam_live.input.keys import Key
     from roam_live.protocol.host_client import HostLink
-
 
 # What is told to who had a window opened.
 OPENED = re.compile(r"opened (?:(?P<window>[1-9]\d?)|none (?P<why>.{1,200}))", re.ASCII)
 
-# So many seconds a window has until it is opened, so often it is looked whether it is there, and after so many a person is told that it
-# takes long: what is typed meanwhile is for it, so many keys and characters at most.
-OPENS = 3.0
-COMES = 0.02
-TAKES_LONG = 0.5
-MOST_KEYS = 4096
-MOST_TEXT = 1 << 20
-INTERRUPT = "\x03"
-
-# So many seconds a list of windows waits until it is told where the panes are, over one of which it stands.
-LISTS = 1.0
-NO_ROOM = "the list of windows has no room here"
-
-# So many seconds a line stands.
-SAID = 2.0
 ONE = "no other window can be had here"
 FAR = f"{ONE}: the session there was begun by hand"
 BY_HAND = f"{ONE}: the session was begun by hand"
 NOBODY = "what keeps the windows isn't there just now"
-LATE = "no window is opened yet: what keeps them is silent"
-DROPPED = "; keys for it are dropped"
-OPENING = "a window is opened; C-c doesn't wait for it"
-NOT_AWAITED = "a window may still come, and isn't waited for"
-SMALL = "a window has {} rows and {} columns at least".format(*LEAST)
-MANY = f"there are {MOST_WINDOWS} windows, and no more"
 
 
 class AskedName(AskedLine):
@@ -71,24 +45,12 @@ class WindowWishes:
 
     def __init__(self, views: WindowViews, link: HostLink) -> None:
         self.views, self.link, self.display, self.loop = views, link, views.display, views.loop
-        # What takes keys that waited, and what the terminal reports.
-        self.types: Callable[[list[Key]], object] = lambda keys: None
-        self.reports: Callable[[Key], object] = lambda key: None
         self.told = WindowsState()
         # Where the person was before, the last one at the end.
         self.visited: list[int] = []
         # The numbers of those whose labels stand in the last row.
         self.shown: list[int] = []
-        # Whether a window is being opened, and that takes so long that a person was told; whether a list of them is about to be; and what
-        # is typed for either.
-        self.is_opening = self.is_late = self.is_listing = False
-        self.held: list[Key] = []
-        self.held_size = 0
-        # What opens one, while it isn't answered; and where it wasn't said yet, since the host isn't connected: it may be soon, as where
-        # it was launched just before.
-        self.opens = self.unsaid = ""
-        # Whether the person stays where he is once a window is opened.
-        self.stays = False
+        self.waiting = WindowOpening(views, self.numbers, self.go_to, lambda line: self.asks(line, self.here()), self.show_list)
 
     def begin(self) -> None:
         """Follows them, where there may be some."""
@@ -136,13 +98,11 @@ class WindowWishes:
 
     def take(self, lines: list[str]) -> None:
         """Takes what the host told."""
-        if self.unsaid:
-            self.link.ask(self.unsaid, self.here())
-            self.unsaid = ""
+        self.waiting.say_unsaid()
         for line in lines:
             opened = OPENED.fullmatch(line)
             if opened:
-                self.opened(int(opened["window"] or 0), printable(opened["why"] or ""))
+                self.waiting.opened(int(opened["window"] or 0), printable(opened["why"] or ""))
                 continue
             gone = self.told.take(line)
             if gone is not None and line.startswith(f"{BELL} ") and not line.startswith(f"{BELL} {self.here()} "):
@@ -154,10 +114,7 @@ class WindowWishes:
     def lose(self) -> None:
         """Goes on with what was told: the windows are told anew once the connection is there again. Of another machine's session that is
         cut as often as its relay goes another way: a window is asked for again then, which is the same there."""
-        if self.is_opening and self.views.view.session.served == "relay":
-            self.unsaid = self.opens
-        elif self.is_opening and not self.unsaid:
-            self.end_opening(NOBODY)
+        self.waiting.lose(NOBODY)
 
     def show(self) -> None:
         """Has the last row show the windows, and what is chosen from a list of them."""
@@ -206,34 +163,15 @@ class WindowWishes:
         elif word == "go":
             self.go_by(what)
         elif what == "list":
-            self.list_all()
+            self.waiting.list_all()
         elif self.views.acts.link.is_read_only:
             return
         elif what == "new":
-            self.open()
+            self.waiting.open()
         elif what == "name":
             self.ask_name()
         elif what == "shut":
             self.ask_shut()
-
-    def list_all(self) -> None:
-        """Opens a list of the windows over the pane in focus. While it isn't told yet which that is, as where the person has just come
-        there, the list waits, and keys for it, but no longer than a moment."""
-        acts, waited = self.views.acts, self.is_listing
-        self.is_listing = not waited and acts.awaits_focus()
-        if self.is_listing:
-            self.loop.later("list waits", LISTS, self.list_all)
-            return
-        self.loop.drop("list waits")
-        if not self.views.lists.show_windows(self.all_described(), self.here()):
-            self.display.row.tell(NO_ROOM, SAID)
-        if waited:
-            self.types(self.held_keys())
-
-    def told_panes(self) -> None:
-        """Opens a list that waits for what is told of the panes."""
-        if self.is_listing and not self.views.acts.awaits_focus():
-            self.list_all()
 
     def go_by(self, what: str) -> None:
         """Goes to the next window, the one before in order, the last one, or that of a number."""
@@ -273,109 +211,22 @@ class WindowWishes:
         """Goes to the window whose label stands at a place in the last row."""
         self.go_to(self.shown[place])
 
+    def show_list(self) -> bool:
+        """Shows a list of the windows, and tells whether that can be."""
+        return self.views.lists.show_windows(self.all_described(), self.here())
+
+    def asks(self, line: str, number: int = SESSION) -> bool:
+        """Says a line about a window, or about the session, to the host where it is there, and tells whether it is."""
+        if self.link.peer:
+            self.link.ask(line, number)
+        return self.link.peer is not None
+
     def say(self, line: str) -> bool:
         """Says a line to the host, and tells whether it is there; where it isn't a person is told."""
-        if not self.link.peer:
+        is_there = self.asks(line)
+        if not is_there:
             self.display.row.tell(NOBODY, SAID)
-            return False
-        self.link.ask(line)
-        return True
-
-    # ---- a window more
-
-    def open(self, handed: str = "", stays: bool = False) -> None:
-        """Has a window be opened, of the size that this terminal shows all of, by a command that was handed over where it is named; the
-        person goes there, or stays."""
-        size, self.is_opening, self.stays = self.display.part.room(), True, stays
-        why = SMALL if not is_large_enough(size) else MANY if len(self.numbers()) >= MOST_WINDOWS else ""
-        if why:
-            # What stands behind in the same read was for it too.
-            self.loop.later("window opens", 0.0, lambda: self.end_opening(why))
-            return
-        self.opens = "open {} {}".format(*largest(size)) + (f" {handed}" if handed else "")
-        if self.link.peer:
-            self.link.ask(self.opens, self.here())
-        else:
-            self.unsaid = self.opens
-        self.loop.later("window opens", OPENS, lambda: self.end_opening(LATE))
-        self.loop.later("window waits", TAKES_LONG, self.tell_late)
-
-    def tell_late(self) -> None:
-        """Tells that a window takes long, and what doesn't wait for it."""
-        self.is_late = True
-        self.display.row.tell(OPENING, OPENS)
-
-    def opened(self, number: int, why: str) -> None:
-        """Goes to a window that was opened, with what was typed for it; 0 where none was."""
-        if not self.is_opening:
-            # Nobody waits for it any more.
-            self.display.row.tell(f"window {number} is there now" if number else f"no window is opened: {why}", SAID)
-            return
-        if not number:
-            self.end_opening(f"no window is opened: {why}")
-            return
-        # It isn't asked for again.
-        self.opens = ""
-        if self.views.reached(number) is None and "window opens" in self.loop.due:
-            # Of another machine's session it is told here a moment later, by another way.
-            self.loop.later("window comes", COMES, lambda: self.opened(number, why))
-            return
-        held = self.held_keys()
-        self.end_opening("")
-        if self.stays:
-            self.display.row.tell(f"window {number} is there now", SAID)
-        else:
-            self.go_to(number)
-        if self.stays or self.here() == number:
-            self.types(held)
-        elif held:
-            self.display.row.tell(f"window {number} can't be shown{DROPPED}", SAID)
-
-    def end_opening(self, why: str) -> None:
-        """Waits for no window, and drops what was typed for it: in another window it would mean something else."""
-        for name in ("window opens", "window waits"):
-            self.loop.drop(name)
-        was_told = self.display.row.told == OPENING
-        dropped, self.unsaid = self.held_keys(), ""
-        self.is_opening = self.is_late = False
-        if [key.name for key in dropped if key.name in ("paste", "pasted")][-1:] == ["paste"]:
-            # What comes of it still isn't typed either.
-            self.views.acts.refuse_paste(why + DROPPED)
-        if why:
-            self.display.row.tell(why + DROPPED * bool(dropped), SAID)
-        elif was_told:
-            self.display.row.end_told()
-
-    def takes(self, keys: list[Key], place: int) -> bool:
-        """Takes the keys from this place on, if they are for a window that is being opened, or for a list. Tells whether they were
-        taken."""
-        if not self.is_opening and not self.is_listing:
-            return False
-        self.hold(keys[place:])
-        return True
-
-    def hold(self, keys: list[Key]) -> None:
-        """Has keys wait for a window that is being opened; once a person was told that it takes long C-c waits no longer. What the terminal
-        tells itself doesn't wait."""
-        for place, key in enumerate(keys):
-            if key.name in (COLOUR, ANSWERED):
-                self.reports(key)
-            elif key.name == INTERRUPT and self.is_late:
-                self.end_opening(NOT_AWAITED)
-                self.types(keys[place + 1 :])
-                return
-            elif key.name != MOUSE:
-                self.held.append(key)
-                self.held_size += len(key.text)
-
-    def held_keys(self) -> list[Key]:
-        """The keys that waited, which wait no more."""
-        held, self.held, self.held_size = self.held, [], 0
-        return held
-
-    def is_full(self) -> bool:
-        """Whether so much waits that nothing more is to come."""
-        return len(self.held) >= MOST_KEYS or self.held_size >= MOST_TEXT
+        return is_there
 
     # ---- names, and ends
 

@@ -2,8 +2,6 @@
 a triple one."""
 from __future__ import annotations
 
-from collections.abc import Callable
-
 from roam_live.frontend.copymode.state import CopyEvent
 from roam_live.input.mouse_reports import DOWN, UP, MouseReport
 
