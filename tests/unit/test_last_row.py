@@ -2,8 +2,8 @@
 import unittest
 
 from roam_live.config.styled_text import ROW_STYLE, Styled
-from roam_live.frontend.display import Notice, notice_page
-from roam_live.frontend.last_row import RowLabels, row_cells
+from roam_live.frontend.display import notice_page
+from roam_live.frontend.last_row import row_cells, row_parts
 from roam_live.frontend.status_line import said
 
 NOTHING = ([], "", [])
@@ -17,14 +17,14 @@ class Labels(unittest.TestCase):
         """What a settings file has is cut to a third at the left and to half at the right, where it gives way to the key that fits."""
         left, right = [Styled("0;7", "left" * 9)], [Styled("0;7", "right" * 9)]
         for labels, ends, width, parts in (
-            (RowLabels("[1]", [], 0, "", ""), ([], []), 9, ("", "[1]      ", "")),
-            (RowLabels("[1]", ["1:a", "2:b*"], 1, "", ""), ([], []), 16, ("", "[1] 1:a 2:b*    ", "")),
-            (RowLabels("[1]", [], 0, "", FITS), ([], []), 16, ("", f"[1]   {FITS}", "")),
-            (RowLabels("[1]", [], 0, "64 of 64", FITS), ([], []), 30, ("", f"[1]        64 of 64 {FITS}", "")),
-            (RowLabels("[1]", [], 0, "", ""), (left, right), 24, ("leftleft", "[1] ", "rightrightri")),
-            (RowLabels("[1]", [], 0, "", FITS), (left, right), 24, ("leftleft", f"[1]   {FITS}", "")),
+            (("[1]", ([], 0), "", ""), ([], []), 9, ("", "[1]      ", "")),
+            (("[1]", (["1:a", "2:b*"], 1), "", ""), ([], []), 16, ("", "[1] 1:a 2:b*    ", "")),
+            (("[1]", ([], 0), "", FITS), ([], []), 16, ("", f"[1]   {FITS}", "")),
+            (("[1]", ([], 0), "64 of 64", FITS), ([], []), 30, ("", f"[1]        64 of 64 {FITS}", "")),
+            (("[1]", ([], 0), "", ""), (left, right), 24, ("leftleft", "[1] ", "rightrightri")),
+            (("[1]", ([], 0), "", FITS), (left, right), 24, ("leftleft", f"[1]   {FITS}", "")),
         ):
-            found = labels.parts(*ends, width)
+            found = row_parts(*labels, ends, width)
             self.assertEqual((said(found[0]), found[1], said(found[2])), parts, (labels, width))
             self.assertEqual(sum(map(len, (said(found[0]), found[1], said(found[2])))), width)
 
@@ -49,10 +49,10 @@ class Notices(unittest.TestCase):
         """What has no room is cut, or scrolls above a foot; no control character is shown."""
         text, foot = "\n".join("abcde"), "{} to {} of {}"
         for size, first, foot, page in (
-            ((9, 9), 0, foot, Notice(list("abcde"), 0, 0)), ((5, 9), 3, foot, Notice(list("abcde"), 0, 0)),
-            ((3, 20), 0, "", Notice(list("abc"), 0, 0)), ((1, 20), 0, foot, Notice(["a"], 0, 0)),
-            ((3, 20), 0, foot, Notice(["a", "b", "1 to 2 of 5"], 0, 3)), ((3, 20), 2, foot, Notice(["c", "d", "3 to 4 of 5"], 2, 3)),
-            ((3, 20), 9, foot, Notice(["d", "e", "4 to 5 of 5"], 3, 3)), ((3, 5), 0, foot, Notice(["a", "b", "1 to"], 0, 3)),
+            ((9, 9), 0, foot, (list("abcde"), 0, 0)), ((5, 9), 3, foot, (list("abcde"), 0, 0)),
+            ((3, 20), 0, "", (list("abc"), 0, 0)), ((1, 20), 0, foot, (["a"], 0, 0)),
+            ((3, 20), 0, foot, (["a", "b", "1 to 2 of 5"], 0, 3)), ((3, 20), 2, foot, (["c", "d", "3 to 4 of 5"], 2, 3)),
+            ((3, 20), 9, foot, (["d", "e", "4 to 5 of 5"], 3, 3)), ((3, 5), 0, foot, (["a", "b", "1 to"], 0, 3)),
         ):
             self.assertEqual(notice_page(text, size, first, foot), page, (size, first))
-        self.assertEqual(notice_page("one two\x1b three", (9, 9), 0, "").lines, ["one two?", "three"])
+        self.assertEqual(notice_page("one two\x1b three", (9, 9), 0, "")[0], ["one two?", "three"])

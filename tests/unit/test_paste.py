@@ -3,11 +3,11 @@ import unittest
 from unittest import mock
 
 from aids import Case, LinkedClient, StillLoop
-from roam_live.frontend import paste, paste_intake
+from roam_live.frontend import paste
 from roam_live.frontend.effects import ClosePane
 from roam_live.frontend.paste import (BEHIND_IT, COUNTS, DROPPED, DROPS, FULL_BEHIND, HANDING, LOST_WORDS, MOST_BEHIND, NOT_TAKEN,
                                       TOO_LONG, Pastes, weight)
-from roam_live.frontend.paste_intake import ENDS, NO_ROOM, SHORT, PasteIntake
+from roam_live.frontend.paste import ENDS, NO_ROOM, SHORT, PasteIntake
 from roam_live.input.keys import BRACKETS
 from roam_live.protocol.host_client import LATER, MOST_UNSENT, NO_HOST, STORES_AGAIN
 from roam_live.protocol.panes_client import PAUSES
@@ -335,7 +335,7 @@ class Handed(Case):
     def test_too_long(self):
         """More than 16 MB is told of, and not kept; so is what is that long in UTF-8, or with what waits."""
         self.assertEqual((paste.MOST_BYTES, MOST_UNSENT), (1 << 24, 1 << 25))
-        self.patch_of(paste_intake, "MOST_BYTES", 1000)
+        self.patch_of(paste, "MOST_BYTES", 1000)
         for text, before in (("x" * 1001, 0), ("\u4e2d" * 500, 0), ("x" * 990, 1)):
             if before:
                 self.paste(LONG)

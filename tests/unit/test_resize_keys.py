@@ -4,7 +4,7 @@ import unittest
 
 from lived import Attached, Lived, by_chance
 from roam_live.frontend import resize_keys
-from roam_live.frontend.border_drag import NO_PANE
+from roam_live.frontend.resize_keys import NO_PANE
 from roam_live.frontend.borders import PaneSplit, border_at, end_of, panes_of, splits_of
 from roam_live.frontend.split_math import Evened
 from roam_live.protocol.panes import Places, Rect

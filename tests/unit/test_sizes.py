@@ -3,7 +3,7 @@ import unittest
 
 from roam_live.common.tty import MOST
 from roam_live.frontend import sizes
-from roam_live.frontend.sizes import NO_SIZE, Fitting, TerminalView, Zoom
+from roam_live.frontend.sizes import NO_SIZE
 from roam_live.protocol.panes import Places, Rect
 from roam_live.protocol.zoom_record import MOST_ASKED, ZoomNote
 
@@ -34,7 +34,7 @@ class Whose(unittest.TestCase):
             ((session, larger, False, False, False, True), sizes.WAITS),
             ((session, larger, False, False, False, False), sizes.FOLLOWS),
         ):
-            self.assertEqual(Fitting(*case).step(), step, case)
+            self.assertEqual(sizes.fit_step(*case), step, case)
 
     def test_first(self):
         """Nothing is cut in a new session; else the panes are awaited."""
@@ -88,7 +88,7 @@ class Parts(unittest.TestCase):
             (((20, 80), False, (24, 160), pane, False), (20, 40)),
             (((20, 80), True, (24, 160), pane, False), (19, 40)),
         ):
-            self.assertEqual(TerminalView(*case).part(), part, case)
+            self.assertEqual(sizes.part_for(*case), part, case)
 
     def test_all(self):
         """A part has all if the session's status row alone is left out."""
@@ -167,10 +167,10 @@ class Zooms(unittest.TestCase):
             (shown, HALVES, sizes.LOST), (shown, WIDE, sizes.STAYS), (shown, moved, sizes.ENDS),
             (shown, WIDE._replace(focus=1), sizes.ENDS),
         ):
-            self.assertEqual(Zoom(2, HALVES, NOTE, awaited, rects).told(places), step, places)
+            self.assertEqual(sizes.zoom_step(2, HALVES, NOTE, awaited, rects, places), step, places)
         # With a second size on its way the first may still be reported.
         note = ZoomNote((24, 80), ((24, 150), (24, 160)))
-        self.assertEqual([Zoom(2, HALVES, note, HALVES, {}).told(sizes.places_at(WIDE, (24, cols))) for cols in (150, 160, 155)],
+        self.assertEqual([sizes.zoom_step(2, HALVES, note, HALVES, {}, sizes.places_at(WIDE, (24, cols))) for cols in (150, 160, 155)],
                          [sizes.STAYS, sizes.ASKS, sizes.LOST])
 
     def test_left(self):

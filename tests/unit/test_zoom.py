@@ -4,7 +4,7 @@ import unittest
 
 from lived import Attached, Lived, by_chance
 from roam_live.common.tty import MOST
-from roam_live.frontend import left_zoom, sizes, zoom
+from roam_live.frontend import sizes, zoom
 from roam_live.frontend.session_size import REFUSES
 from roam_live.frontend.split_math import above, size_at, size_for
 from roam_live.protocol.display_records import DisplayRecord
@@ -376,7 +376,7 @@ class Noted(Zoomed):
             session.do("size {} {}".format(*has))
             self.attach(session, own, host)
             self.take(6)
-            self.now += left_zoom.LEFT
+            self.now += zoom.LEFT
             self.person.loop.do_due()
             self.take()
             self.assertEqual((session.places().size(), host.zooms[-1:]), (after, ["None"]), (own, has))
@@ -397,7 +397,7 @@ class Noted(Zoomed):
             self.person.commands.follower.others_told()
             self.take()
             self.assertEqual(session.places().size(), soon, (maker, is_read_only, types, changed))
-            self.now += left_zoom.LEFT
+            self.now += zoom.LEFT
             self.person.loop.do_due()
             self.take()
             self.assertEqual(session.places().size(), after, (maker, is_read_only, types, changed))
@@ -412,13 +412,13 @@ class Noted(Zoomed):
             self.attach(session, host=PlayedHost(True))
             self.person.host.zoomed = 0, note
             self.person.commands.follower.others_told()
-            self.now += left_zoom.LEFT / 2
+            self.now += zoom.LEFT / 2
             self.person.loop.do_due()
             self.by_another("grow 1")
             self.assertEqual((session.places().size(), self.person.host.zooms), ((48, 160), []))
             self.person.host.zoomed = 9 if is_told else 0, note
             self.person.commands.follower.others_told()
-            self.now += left_zoom.LEFT
+            self.now += zoom.LEFT
             self.person.loop.do_due()
             self.take()
             self.assertEqual((session.places().size(), self.person.host.zooms), ((48, 160), []) if is_told else ((24, 80), ["None"]))
@@ -432,7 +432,7 @@ class Noted(Zoomed):
             self.person.commands.follower.others_told()
             self.types(key)
             self.by_another("size 48 160")
-            self.now += left_zoom.LEFT
+            self.now += zoom.LEFT
             self.person.loop.do_due()
             self.take()
             self.assertEqual((self.session.places().size(), self.person.host.zooms[-1:]), (after, ["None"]), key)
@@ -447,12 +447,12 @@ class Noted(Zoomed):
             self.person.commands.follower.others_told()
             self.by_another("size 48 160")
             self.assertEqual(self.session.places().size(), (48, 160))
-            self.now += left_zoom.LEFT / 2
+            self.now += zoom.LEFT / 2
             self.person.loop.do_due()
             self.by_another("grow 1")
             self.person.host.zoomed = 9 if told else 0, note
             self.person.commands.follower.others_told()
-            self.now += left_zoom.LEFT / 2
+            self.now += zoom.LEFT / 2
             self.person.loop.do_due()
             self.take()
             self.assertEqual((self.session.places().size(), self.person.host.zooms), (after, [] if told else ["None"]))

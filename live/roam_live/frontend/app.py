@@ -18,7 +18,7 @@ from roam_live.frontend.interpreter import Interpreter
 from roam_live.frontend.modes import ModeStack
 from roam_live.frontend.settings import FrontSettings
 from roam_live.frontend.status_segments import StatusRow, format_values
-from roam_live.frontend.window_views import DETACHED, LOSS_TOLD, FrontOptions, ViewMaker, WindowViews
+from roam_live.frontend.window_views import DETACHED, LOSS_TOLD, ViewMaker, WindowViews
 from roam_live.frontend.windows import WindowWishes
 from roam_live.protocol.client_link import LAST_WAIT
 from roam_live.protocol.host_client import HostLink
@@ -52,10 +52,10 @@ class FrontEnd:
         self.display = Display(self.loop, lambda line: self.connection.say(line))
         self.keyboard = Interpreter(ModeStack(Keymap()), self.display, self.loop, lambda: self.views.commands)
         self.settings = FrontSettings(self.keyboard, StatusRow(self.display, self.loop, self.values), prefix, prediction)
-        options = FrontOptions(is_read_only, is_whole, has_clips and not is_read_only)
         self.host_link = HostLink(session.common, self.loop, self.display.outer.size, is_read_only)
         self.host_link.environment = environment_lines(session, is_read_only)
-        self.views = WindowViews(ViewMaker(self.keyboard, self.settings, options, self.host_link, self.leave), session, is_new)
+        maker = ViewMaker(self.keyboard, self.settings, self.host_link, self.leave, is_read_only, is_whole, has_clips and not is_read_only)
+        self.views = WindowViews(maker, session, is_new)
         self.windows = WindowWishes(self.views, self.host_link)
         self.runner = CommandRunner(self.keyboard, self.settings)
         self.connection = Connecting(self.views, self.windows.leave)

@@ -2,7 +2,6 @@
 from __future__ import annotations
 
 import os
-import subprocess
 from collections import deque
 from collections.abc import Callable
 
@@ -67,6 +66,9 @@ class ShellRun:
     """A command of the shell that runs beside: what it says is shown, and where it runs in the background the last line is told."""
 
     def __init__(self, loop: Loop, command: str, shows: Callable[[list[str]], object]) -> None:
+        # Few sessions run one.
+        import subprocess
+
         self.loop, self.command, self.shows = loop, command, shows
         self.heard = b""
         self.process = subprocess.Popen(["/bin/sh", "-c", command], stdin=subprocess.DEVNULL, stdout=subprocess.PIPE,

@@ -7,7 +7,7 @@ from roam_live.frontend.copymode.controller import INTERRUPT, Copying
 from roam_live.frontend.copymode.mouse import CopyPointing
 from roam_live.frontend.copymode.state import CopyEvent
 from roam_live.frontend.display import Display
-from roam_live.frontend.left_zoom import LeftZoom
+from roam_live.frontend.zoom import LeftZoom
 from roam_live.frontend.lists import Lists
 from roam_live.frontend.modes import CopyPasteMode, ModeStack, PastingMode, ScrollMode
 from roam_live.frontend.mouse import Pointing

@@ -1,7 +1,6 @@
 """What a person's terminal shows: a part of a session as it is painted, or lines in place of it, and a line in the last row."""
 from __future__ import annotations
 
-from collections import namedtuple
 from collections.abc import Callable
 
 from roam_live.common import tty
@@ -28,14 +27,6 @@ ENTERS = 0.15
 TOO_SMALL = "too small"
 
 
-class Notice(namedtuple("Notice", "lines first most", defaults=((), 0, 0))):
-    """The lines of a notice that are shown, the first of them among all, and the last one that may be the first."""
-
-    lines: list[str]
-    first: int
-    most: int
-
-
 class Display:
     """What is shown on a terminal: a part of a session, as it is painted, and in the last row a line of the front end's own. Where the
     session may be shown whole, with its status row, a line that is told stands over that.
@@ -48,9 +39,10 @@ class Display:
         self.part = ShownPart(self.outer, loop, says)
         self.part.chooses = self.choose
         self.row = LastRow(self.outer, loop, self.part, lambda: bool(self.notice) or self.is_entering)
-        # What stands in place of the session, which lines of it are shown, and what its last row tells of that.
+        # What stands in place of the session, the first of its lines that is shown and the last that may be, and what its last row tells of
+        # that.
         self.notice = self.notice_foot = ""
-        self.page = Notice()
+        self.notice_first = self.notice_most = 0
         # Whether what stands on the terminal is still of the window that was left.
         self.is_entering = False
         # What is drawn over a part of what is painted; whether the client was told of its mask; and what is called where what is shown of
@@ -219,8 +211,8 @@ class Display:
         self.notice, self.part.is_stale, self.row.line_put, self.notice_foot = text, True, None, foot
         self.end_entering()
         self.forget_drawn()
-        self.page = notice_page(text, self.outer.size(), first, foot)
-        self.outer.waiting += tty.CLEARED + tty.unwrapped("\r\n".join(self.page.lines))
+        lines, self.notice_first, self.notice_most = notice_page(text, self.outer.size(), first, foot)
+        self.outer.waiting += tty.CLEARED + tty.unwrapped("\r\n".join(lines))
 
     def uncover(self) -> None:
         """Show the session again."""
@@ -244,23 +236,23 @@ class Display:
         sizes come where it is drawn by hand."""
         self.row.line_put = None
         if self.notice:
-            self.show(self.notice, self.page.first, self.notice_foot)
+            self.show(self.notice, self.notice_first, self.notice_foot)
         self.part.is_stale = self.part.is_stale or not self.part.fits()
         if "paint" not in self.loop.due:
             self.loop.later("paint", DRAWN, lambda: self.choose(is_painted=True))
 
 
-def notice_page(text: str, size: tty.Size, first: int, foot: str) -> Notice:
-    """Return the lines of a notice that a terminal of a size shows, from one on; if they have no room, and there is a foot, it stands in
-    the last row."""
+def notice_page(text: str, size: tty.Size, first: int, foot: str) -> tuple[list[str], int, int]:
+    """Return the lines of a notice that a terminal of a size shows, from one on, the first of them among all, and the last one that may be
+    the first. If they have no room, and there is a foot, it stands in the last row."""
     rows, cols = size
     lines = [part for line in text.split("\n") for part in wrapped(printable(line), max(1, cols - 1))]
     most = len(lines) - rows + 1 if foot and rows > 1 and len(lines) > rows else 0
     first = min(first, most)
     if not most:
-        return Notice(lines[: max(1, rows)], first, most)
+        return lines[: max(1, rows)], first, most
     shown = lines[first : first + rows - 1]
-    return Notice([*shown, cut(foot.format(first + 1, first + len(shown), len(lines)), cols - 1)], first, most)
+    return [*shown, cut(foot.format(first + 1, first + len(shown), len(lines)), cols - 1)], first, most
 
 
 def too_small(rows: int, cols: int) -> str:

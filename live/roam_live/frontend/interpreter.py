@@ -248,12 +248,12 @@ class Interpreter:
     def scroll_help(self, asked: effects.ScrollHelp) -> None:
         """Scroll the list of keys, which ends if it has room for all."""
         display = self.display
-        if not display.page.most:
+        if not display.notice_most:
             self.modes.drop(HelpMode)
             display.uncover()
             return
         rows = asked.rows + asked.pages * max(1, display.outer.size()[0] - 1)
-        display.show(display.notice, max(0, min(display.page.first + rows, display.page.most)), FOOT)
+        display.show(display.notice, max(0, min(display.notice_first + rows, display.notice_most)), FOOT)
 
     def offer_paste(self, asked: effects.OfferPaste) -> None:
         """Have copy mode take a paste, if it asks for a line; else it ends, and the key means what it means elsewhere."""

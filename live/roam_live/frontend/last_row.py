@@ -1,7 +1,6 @@
 """The last row of a terminal: what a person is asked there, what is told, and else the panes and windows."""
 from __future__ import annotations
 
-from collections import namedtuple
 from collections.abc import Callable
 
 from roam_live.common import tty
@@ -21,23 +20,14 @@ if TYPE_CHECKING:
 TOLD = 1.0
 
 
-class RowLabels(namedtuple("RowLabels", "panes windows here warning fits")):
-    """What stands in the row if nothing is told: the labels of the panes, those of the windows, the place of the one that is shown, and at
-    the end of the row a warning and the key that fits the session to the terminal."""
-
-    panes: str
-    windows: list[str]
-    here: int
-    warning: str
-    fits: str
-
-    def parts(self, left: list[Styled], right: list[Styled], width: int) -> tuple[list[Styled], str, list[Styled]]:
-        """Return the row's parts, between what a settings file has at both ends: these are cut to a third and to half of the row, and
-        there is nothing at the right beside the key that fits the session."""
-        left, right = clipped(left, width // 3), clipped(right, 0 if self.fits else width // 2)
-        room = width - columns(said(left)) - columns(said(right))
-        end = BETWEEN.join(text for text in (self.warning, self.fits) if text)
-        return left, row_text(self.panes, self.windows, self.here, end, room), right
+def row_parts(panes: str, windows: tuple[list[str], int], warning: str, fits: str, ends: tuple[list[Styled], list[Styled]],
+              width: int) -> tuple[list[Styled], str, list[Styled]]:
+    """Return the parts of a row if nothing is told: the labels of panes and windows, of which one is shown, between what a settings file
+    has at both ends. These are cut to a third and to half of the row, and there is nothing at the right beside the key that fits the
+    session to the terminal."""
+    left, right = clipped(ends[0], width // 3), clipped(ends[1], 0 if fits else width // 2)
+    room = width - columns(said(left)) - columns(said(right))
+    return left, row_text(panes, *windows, BETWEEN.join(text for text in (warning, fits) if text), room), right
 
 
 def row_cells(parts: tuple[list[Styled], str, list[Styled]], text: str, is_typed: bool, width: int) -> list[Styled]:
@@ -104,10 +94,10 @@ class LastRow:
 
     def labels_line(self, width: int) -> str:
         """Return the labels of the panes and of the windows, between what a settings file has at both ends."""
+        is_all = self.part.shows_all()
         left, right = self.status() if self.status else ([], [])
-        fits = "" if self.part.shows_all() else self.fits_line
-        labels = RowLabels(self.panes_label(), *self.windows, self.warning, fits)
-        self.parts = labels.parts(left, right if self.part.shows_all() else [], width)
+        ends, fits = (left, right if is_all else []), "" if is_all else self.fits_line
+        self.parts = row_parts(self.panes_label(), self.windows, self.warning, fits, ends, width)
         return said(self.parts[0]) + self.parts[1] + said(self.parts[2])
 
     def window_at(self, row: int, col: int) -> int | None:

@@ -4,7 +4,7 @@ from __future__ import annotations
 
 from collections.abc import Callable
 
-from roam_live.frontend.border_drag import BorderDrag
+from roam_live.frontend.resize_keys import BorderDrag
 from roam_live.frontend.borders import border_at
 from roam_live.frontend.copymode.mouse import Clicks
 from roam_live.frontend.modes import ScrollMode

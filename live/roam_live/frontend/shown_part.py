@@ -5,7 +5,7 @@ from collections.abc import Callable
 
 from roam_live.common import tty
 from roam_live.frontend import sizes
-from roam_live.frontend.sizes import NO_SIZE, TerminalView, has_all
+from roam_live.frontend.sizes import NO_SIZE, has_all
 
 TYPE_CHECKING = False
 if TYPE_CHECKING:
@@ -73,7 +73,7 @@ class ShownPart:
 
     def wanted(self) -> tty.Size | None:
         """Return the part of the session that is to be shown, None for the whole."""
-        return TerminalView(self.outer.size(), self.has_row(), self.size(), self.zoomed, self.may_be_whole).part()
+        return sizes.part_for(self.outer.size(), self.has_row(), self.size(), self.zoomed, self.may_be_whole)
 
     def shows_all(self) -> bool:
         """Return True if all of the session is shown, as far as its size is known: its status row may be left out."""

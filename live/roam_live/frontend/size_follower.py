@@ -8,11 +8,11 @@ from roam_live.common import tty
 from roam_live.config.environment import follows_latest
 from roam_live.frontend import sizes
 from roam_live.frontend.session_size import FITS_TOLD
-from roam_live.frontend.sizes import NO_SIZE, Fitting
+from roam_live.frontend.sizes import NO_SIZE
 
 TYPE_CHECKING = False
 if TYPE_CHECKING:
-    from roam_live.frontend.left_zoom import LeftZoom
+    from roam_live.frontend.zoom import LeftZoom
     from roam_live.frontend.session_size import SessionSize
     from roam_live.frontend.window_acts import WindowActs
     from roam_live.frontend.zoom import Zooming
@@ -80,7 +80,7 @@ class SizeFollower:
         if host:
             host.say_here()
         awaits_others = host is not None and host.is_awaited()
-        step = Fitting(size, own, self.acts.link.is_read_only, self.zooming.is_on(), self.is_fresh(), awaits_others).step()
+        step = sizes.fit_step(size, own, self.acts.link.is_read_only, self.zooming.is_on(), self.is_fresh(), awaits_others)
         if step == sizes.ZOOMS:
             self.zooming.resized()
         elif step == sizes.TAKES:

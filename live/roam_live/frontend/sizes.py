@@ -5,8 +5,6 @@ Nothing here knows a terminal, a socket or a clock, so each decision is tested a
 """
 from __future__ import annotations
 
-from collections import namedtuple
-
 from roam_live.common import tty
 from roam_live.frontend.borders import splits_of
 from roam_live.frontend.split_math import above, area_of, laid, size_for
@@ -36,26 +34,18 @@ ZOOMS, TAKES, KEEPS, WAITS, FOLLOWS = "zooms", "takes", "keeps", "waits", "follo
 IS_NEW, LATER, FITS = "new", "later", "fits"
 
 
-class Fitting(namedtuple("Fitting", "size own is_read_only is_zoomed is_fresh awaits_others")):
-    """The session's size and the largest one that the terminal shows whole; whether the terminal types, has a zoom, belongs to a session
-    launched just now, and may soon hear who else is attached."""
+def fit_step(size: Size, own: Size, is_read_only: bool, is_zoomed: bool, is_fresh: bool, awaits_others: bool) -> str:
+    """Return what fitting a session of a size comes to, `own` being the largest one that the terminal shows whole.
 
-    size: Size
-    own: Size
-    is_read_only: bool
-    is_zoomed: bool
-    is_fresh: bool
-    awaits_others: bool
-
-    def step(self) -> str:
-        """Return what fitting the session to the terminal comes to."""
-        if self.is_zoomed:
-            return ZOOMS
-        if self.is_fresh:
-            return TAKES
-        if self.is_read_only or self.size in (NO_SIZE, self.own) or not tty.is_large_enough(self.own):
-            return KEEPS
-        return WAITS if self.awaits_others else FOLLOWS
+    The terminal may only watch, have a zoom, belong to a session launched just now, and hear soon who else is attached.
+    """
+    if is_zoomed:
+        return ZOOMS
+    if is_fresh:
+        return TAKES
+    if is_read_only or size in (NO_SIZE, own) or not tty.is_large_enough(own):
+        return KEEPS
+    return WAITS if awaits_others else FOLLOWS
 
 
 def first_step(is_new: bool, is_awaited: bool) -> str:
@@ -87,27 +77,20 @@ def takes_latest(size: Size, room: Size) -> bool:
 # ---- which part a terminal shows
 
 
-class TerminalView(namedtuple("TerminalView", "terminal has_row size zoomed may_be_whole")):
-    """A terminal's size, whether its last row is the front end's own, the session's size, the rectangle of a zoomed pane or None, and
-    whether the session may be shown with its own status row."""
+def part_for(terminal: Size, has_row: bool, size: Size, zoomed: Rect | None, may_be_whole: bool) -> Size | None:
+    """Return the size of the part of a session that a terminal is to show, None for the whole session.
 
-    terminal: Size
-    has_row: bool
-    size: Size
-    zoomed: Rect | None
-    may_be_whole: bool
-
-    def part(self) -> Size | None:
-        """Return the size of the part that is to be shown, None for the whole session. Another machine may report any size: what is asked
-        for is always possible."""
-        rows, cols = self.terminal
-        if self.zoomed:
-            return min(rows - self.has_row, self.zoomed.rows), min(cols, self.zoomed.cols)
-        if self.may_be_whole and self.has_row and self.size[0] <= rows and self.size[1] <= cols:
-            return None
-        rows, cols = tty.largest((rows + (not self.has_row), cols))
-        least, most = tty.LEAST_SHOWN, self.size if self.size != NO_SIZE else tty.MOST
-        return max(min(rows, most[0]), least[0]) - 1, max(min(cols, most[1]), least[1])
+    `has_row` is True if the terminal's last row is the front end's own, and `zoomed` the rectangle of a zoomed pane. The session may be
+    shown with its own status row. Another machine may report any size: what is asked for is always possible.
+    """
+    rows, cols = terminal
+    if zoomed:
+        return min(rows - has_row, zoomed.rows), min(cols, zoomed.cols)
+    if may_be_whole and has_row and size[0] <= rows and size[1] <= cols:
+        return None
+    rows, cols = tty.largest((rows + (not has_row), cols))
+    least, most = tty.LEAST_SHOWN, size if size != NO_SIZE else tty.MOST
+    return max(min(rows, most[0]), least[0]) - 1, max(min(cols, most[1]), least[1])
 
 
 def has_all(size: Size, part: Size | None) -> bool:
@@ -189,27 +172,21 @@ def zoom_size(places: Places, pane: int, area: Size, note: ZoomNote) -> Size | N
     return None if size == places.size() or size in note.asked or len(note.asked) >= MOST_ASKED else size
 
 
-class Zoom(namedtuple("Zoom", "pane before note awaited rects")):
-    """A zoomed pane, where the panes are without the zoom, what the host was told of it, the places for which a size was asked last or
-    None, and the rectangles with which the pane was shown."""
+def zoom_step(pane: int, before: Places | None, note: ZoomNote, awaited: Places | None, rects: dict[int, Rect], places: Places) -> str:
+    """Return what becomes of a zoomed pane once the panes are reported at these places.
 
-    pane: int
-    before: Places | None
-    note: ZoomNote
-    awaited: Places | None
-    rects: dict[int, Rect]
-
-    def told(self, places: Places) -> str:
-        """Return what becomes of the zoom once the panes are reported at these places."""
-        sizes = [self.note.size, *self.note.asked]
-        earlier = [self.awaited.size(), *sizes[:-1]] if self.awaited else []
-        if places.focus != self.pane or places.rects.keys() != (self.before or places).rects.keys():
-            return ENDS
-        if not places.is_covered() or places.size() in earlier:
-            return STAYS
-        if places.size() != sizes[-1]:
-            return LOST
-        return ASKS if self.awaited else STAYS if places.rects == self.rects else ENDS
+    `before` is where the panes are without the zoom, `note` what the host was told of it, `awaited` the places for which a size was asked
+    last, and `rects` the rectangles with which the pane was shown.
+    """
+    asked = [note.size, *note.asked]
+    earlier = [awaited.size(), *asked[:-1]] if awaited else []
+    if places.focus != pane or places.rects.keys() != (before or places).rects.keys():
+        return ENDS
+    if not places.is_covered() or places.size() in earlier:
+        return STAYS
+    if places.size() != asked[-1]:
+        return LOST
+    return ASKS if awaited else STAYS if places.rects == rects else ENDS
 
 
 def left_zoom(note: ZoomNote | None, size: Size, was_unseen: bool, has_others: bool | None, is_late: bool) -> str:

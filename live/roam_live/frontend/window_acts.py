@@ -6,7 +6,7 @@ from collections.abc import Callable
 from roam_live.frontend.bindings import NEWEST
 from roam_live.frontend.modes import ConfirmMode, CopyPasteMode, LineMode, ModeStack, PastingMode, ScrollMode
 from roam_live.frontend.paste import Pastes
-from roam_live.frontend.paste_intake import PasteIntake
+from roam_live.frontend.paste import PasteIntake
 from roam_live.protocol.client_link import TYPES
 from roam_live.protocol.panes import MOVES
 

@@ -1,7 +1,6 @@
 """The windows of a session at one front end: a view of the one that is shown, and of those that were left and go on."""
 from __future__ import annotations
 
-from collections import namedtuple
 from collections.abc import Callable
 
 from roam_live.common.errors import Fault
@@ -31,20 +30,14 @@ LOSS_TOLD = 3.0
 DETACHED = "[detached from elsewhere]"
 
 
-class FrontOptions(namedtuple("FrontOptions", "is_read_only is_whole has_clips")):
-    """Whether a front end only watches, shows a session whole where it has room, and lets programs set the terminal's clipboard."""
-
-    is_read_only: bool
-    is_whole: bool
-    has_clips: bool
-
-
 class ViewMaker:
     """Makes views of windows."""
 
-    def __init__(self, keyboard: Interpreter, settings: FrontSettings, options: FrontOptions, host_link: HostLink,
-                 leave: Callable[[str | None], None]) -> None:
-        self.keyboard, self.settings, self.options, self.host_link, self.leave = keyboard, settings, options, host_link, leave
+    def __init__(self, keyboard: Interpreter, settings: FrontSettings, host_link: HostLink, leave: Callable[[str | None], None],
+                 is_read_only: bool, is_whole: bool, has_clips: bool) -> None:
+        self.keyboard, self.settings, self.host_link, self.leave = keyboard, settings, host_link, leave
+        # Whether the front end only watches, shows a session whole where it has room, and lets programs set the terminal's clipboard.
+        self.is_read_only, self.is_whole, self.has_clips = is_read_only, is_whole, has_clips
         self.display, self.loop, self.here = keyboard.display, keyboard.loop, keyboard.commands
         # In which windows keys were switched to go to all panes, or not, by their numbers.
         self.synchronized: dict[int, bool] = {}
@@ -53,7 +46,7 @@ class ViewMaker:
         """Return what follows the panes of a window."""
         panes = PanesSubscriber(session.folder, self.loop, lambda: self.here().panes_changed(), self.untold)
         panes.rings = lambda pane: self.here().panes.ring(pane)
-        if self.options.has_clips:
+        if self.has_clips:
             panes.follow_clips(lambda text, making: self.here().acts.set_clip(text, making))
         self.loop.later("untold", AWAITED, lambda: self.here().show_known())
         return panes
@@ -65,11 +58,11 @@ class ViewMaker:
 
     def begun(self, session: AnySession, is_new: Callable[[Places | None], bool] = lambda places: False) -> WindowView:
         """Return a view of a window."""
-        options, loop, display = self.options, self.loop, self.display
-        link, panes = ClientLink(session.terminals, options.is_read_only, self.settings.prediction), self.followed(session)
+        loop, display = self.loop, self.display
+        link, panes = ClientLink(session.terminals, self.is_read_only, self.settings.prediction), self.followed(session)
         host = HostClient(self.host_link, session.number, lambda: commands.follower.others_told())
         host.notices = lambda words: display.row.tell(words, LOSS_TOLD)
-        commands = Commands(session, panes, link, display, loop, self.leave, self.keyboard.modes, is_new, options.is_whole, host)
+        commands = Commands(session, panes, link, display, loop, self.leave, self.keyboard.modes, is_new, self.is_whole, host)
         commands.copying.gives_back = self.keyboard.take
         commands.synchronizing.remember(self.synchronized, session.number, lambda: self.settings.prediction)
         return WindowView(session, link, Reconnector(session, link, panes.is_full), panes, host, commands)

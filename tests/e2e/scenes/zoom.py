@@ -15,7 +15,7 @@ from scenes.programs import htop_options
 from tried import SESSION, Outer, check, comes, connected, part_at, scene, shown_above, terminals_of, three_panes, told_cells, tool
 from roam_live.common.errors import Fault
 from roam_live.common.tty import MOST
-from roam_live.frontend.border_drag import NO_PANE
+from roam_live.frontend.resize_keys import NO_PANE
 from roam_live.input.mouse_reports import tracking_of
 from roam_live.protocol.panes import asked_places
 
