@@ -45,6 +45,7 @@ class OuterTerminal:
         self.reports = reports
 
     set_keypad, ring = outer_terminal.OuterTerminal.set_keypad, outer_terminal.OuterTerminal.ring
+    write = outer_terminal.OuterTerminal.write
 
     def set_clip(self, text):
         """Keeps a text for the clipboard."""

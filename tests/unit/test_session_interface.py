@@ -176,6 +176,10 @@ class OuterTerminal:
         """Its rows and columns."""
         return 24, 80
 
+    def write(self, text):
+        """Keeps what is written."""
+        self.waiting += text
+
     def set_title_and_shape(self, title, shape):
         """Nothing stands beside it here."""
 

@@ -111,7 +111,7 @@ class Display:
         """Show nothing of the window that was left any more."""
         self.end_entering()
         if not self.notice:
-            self.outer.waiting += tty.CLEARED
+            self.outer.write(tty.CLEARED)
             self.row.line_put = None
             self.row.put()
 
@@ -160,14 +160,16 @@ class Display:
         was_entering = self.is_entering
         if was_entering:
             self.end_entering()
-        self.outer.waiting += popup.lifted() if popup else b""
-        self.outer.waiting += tty.CLEARED + record.data.removeprefix(tty.RESET) if is_anew else record.data
+        if popup:
+            self.outer.write(popup.lifted())
+        self.outer.write(tty.CLEARED + record.data.removeprefix(tty.RESET) if is_anew else record.data)
         is_over = is_anew or self.is_line_lost or part.asked is None or not part.has_row()
         part.is_stale = self.is_line_lost = False
         if is_over or was_entering:
             # Another painting leaves the last row as it is, and whatever changes its line has it written then.
             self.row.put(is_over)
-        self.outer.waiting += popup.laid(is_anew) if popup else b""
+        if popup:
+            self.outer.write(popup.laid(is_anew))
 
     def shown_at(self, row: int, col: int, is_near: bool = False) -> tuple[int, int] | None:
         """Return the cell position of the session that is shown at a row and a column of the terminal, all from 1; None if none is, as in
@@ -192,7 +194,7 @@ class Display:
     def draw(self) -> None:
         """Go by other lines, or another cursor, of what is drawn."""
         if self.popup and not self.notice and not self.part.is_stale:
-            self.outer.waiting += self.popup.laid()
+            self.outer.write(self.popup.laid())
 
     def lift(self) -> None:
         """Draw nothing any more."""
@@ -212,12 +214,12 @@ class Display:
         self.end_entering()
         self.forget_drawn()
         lines, self.notice_first, self.notice_most = notice_page(text, self.outer.size(), first, foot)
-        self.outer.waiting += tty.CLEARED + tty.unwrapped("\r\n".join(lines))
+        self.outer.write(tty.CLEARED + tty.unwrapped("\r\n".join(lines)))
 
     def uncover(self) -> None:
         """Show the session again."""
         self.notice = ""
-        self.outer.waiting += tty.CLEARED
+        self.outer.write(tty.CLEARED)
         self.choose(is_painted=True)
 
     def forget_drawn(self) -> None:

@@ -128,7 +128,7 @@ class LastRow:
         if is_over or self.line_put != (text, row, width):
             self.line_put = text, row, width
             written = tty.unwrapped(f"\x1b[{row};1H{self.line_text(text, width)}")
-            self.outer.waiting += written + popup.placed() if popup and popup.is_placed else b"\x1b7" + written + b"\x1b8"
+            self.outer.write(written + popup.placed() if popup and popup.is_placed else b"\x1b7" + written + b"\x1b8")
 
     def change(self) -> None:
         """Go by another line; where the session's own status row stands there all is painted anew."""

@@ -37,13 +37,17 @@ class OuterTerminal:
         self.left_by = 0.0
         self.outer_modes, self.clip = OuterModes(), ClipboardWriter()
 
+    def write(self, text: bytes) -> None:
+        """Has a text be written, behind all that waits. Nothing else puts one there."""
+        self.waiting += text
+
     def enter(self) -> None:
         """Takes the terminal."""
         self.modes = tty.make_raw(0)
         if self.modes is None:
             raise Fault("the terminal can't be made raw")
         self.is_taken = True
-        self.waiting += self.outer_modes.keys_asked(is_first=True) + tty.ENTERED
+        self.write(self.outer_modes.keys_asked(is_first=True) + tty.ENTERED)
 
     def size(self) -> tty.Size:
         """Its rows and columns, which are asked for once after each signal that tells of a size; of one that has hung up those that it
@@ -59,23 +63,23 @@ class OuterTerminal:
         tty.make_raw(0)
         self.is_known = False
         self.is_taken = True
-        self.waiting += self.outer_modes.keys_asked() + tty.ENTERED
+        self.write(self.outer_modes.keys_asked() + tty.ENTERED)
         self.is_application = False
         # Whoever had it may have asked it for others.
         self.outer_modes.reports = ""
 
     def set_title_and_shape(self, title: str, shape: int) -> None:
         """Gives it a title and its cursor a shape, until it is left."""
-        self.waiting += self.outer_modes.update(title, shape)
+        self.write(self.outer_modes.update(title, shape))
 
     def ask(self, reports: str) -> None:
         """Asks it for reports of the mouse: for none, `drags`, or all `motion`."""
-        self.waiting += self.outer_modes.asked(reports)
+        self.write(self.outer_modes.asked(reports))
 
     def ask_colours(self) -> None:
         """Asks it for its colours; what it answers comes among what is typed, if it comes."""
         if self.outer_modes.is_able:
-            self.waiting += ASKED
+            self.write(ASKED)
 
     def take_answer(self, text: str) -> None:
         """Takes what it answers of how it tells keys."""
@@ -115,7 +119,7 @@ class OuterTerminal:
             return
         self.left_by = time.monotonic() + LEAVES
         self.waiting[:] = self.clip.taken_back() + self.outer_modes.taken_back() + tty.LEFT
-        self.waiting += f"{printable(line)}\r\n".encode() if line else b""
+        self.write(f"{printable(line)}\r\n".encode() if line else b"")
         self.write_by(0.0)
         if not self.waiting:
             self.end_leave()
@@ -147,9 +151,9 @@ class OuterTerminal:
     def set_keypad(self, is_application: bool) -> None:
         """Has the keypad send the codes of applications, or numbers."""
         if is_application != self.is_application:
-            self.waiting += tty.KEYPAD[is_application]
+            self.write(tty.KEYPAD[is_application])
             self.is_application = is_application
 
     def ring(self) -> None:
         """Rings the terminal's bell."""
-        self.waiting += b"\x07"
+        self.write(b"\x07")
