@@ -18,6 +18,7 @@ from roam_live.frontend.modes import CopyPasteMode
 from roam_live.frontend.window_opening import DROPPED, LATE, LISTS, NOT_AWAITED, NO_ROOM, OPENING, OPENS, SMALL, TAKES_LONG
 from roam_live.frontend.windows import BY_HAND, FAR
 from roam_live.input.keys import acts_of_bytes
+from roam_live.protocol.panes import Places, Rect
 from test_display import PlayedPanes, painting, places
 from test_app import AnySession
 
@@ -554,6 +555,19 @@ class Told(Windows):
         self.said()
         self.type(b"yz")
         self.assertEqual((self.typed[1], self.said()), ("z", ["shut 2"]))
+
+    def test_question_elsewhere(self):
+        """A question about a pane is answered for its own window, also while another is shown."""
+        self.tell_list()
+        self.type(b"\x022")
+        self.windows[2].told = Places({1: Rect(1, 1, 23, 39), 2: Rect(1, 41, 23, 40)}, 1, 1)
+        self.windows[2].runs_busy = {1: "vi"}
+        self.front.views.commands.panes_changed()
+        self.type(b"\x02x")
+        self.assertEqual(self.rows()[1], "close vi in pane 1? y closes it")
+        self.front.windows.go_to(1)
+        self.type(b"yz")
+        self.assertEqual(self.typed, {1: "z", 2: "<close>"})
 
     def test_detached(self):
         """Another has this terminal leave; and it the others."""
