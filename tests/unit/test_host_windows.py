@@ -19,6 +19,8 @@ from roam_live.host.windows import ENDING, ENDS, FULL, OPENS, OVER, THERE, Windo
 from roam_live.protocol.panes import Rect
 from roam_live.protocol.spawn_request import Begins
 from roam_live.protocol.window_lines import MOST_WINDOWS, name_in, name_word
+from roam_live.session import roles
+from roam_live.session.processes import noted_in
 from roam_live.session.window_state import is_spare_server, note_ends, numbers_in
 
 
@@ -39,7 +41,7 @@ class Played(Case):
         self.patch_of(host_pane.spawn, "forked", side_effect=self.forked)
         self.patch_of(host_window, "has_ended", return_value=False)
         self.patch_of(WindowProcesses, "spawn", lambda processes, role, words: self.spawn(processes, role))
-        self.patch_of(window_processes, "program", lambda: "/roam")
+        self.patch_of(roles, "program", lambda: "/roam")
         self.patch_of(window_processes, "is_running", lambda process, moment: process in self.alive)
         self.patch("os.kill", self.kill)
         self.alive, self.servers = set(), {}
@@ -744,7 +746,7 @@ class Noted(Case):
         self.addCleanup(os.kill, process, signal.SIGKILL)
         while not told.exists() or b"}" not in told.read_bytes():
             pass
-        self.assertEqual((processes.state()[SERVER], os.getsid(process)), ([process, begun(process)], process))
+        self.assertEqual(((noted_in(processes.path("state.json")) or {})[SERVER], os.getsid(process)), ([process, begun(process)], process))
         self.assertTrue(processes.runs(SERVER))
         self.assertFalse(is_spare_server(process))
 

@@ -17,10 +17,10 @@ from roam_live.config.user_file import OWN, settings_path
 from roam_live.frontend import app
 from roam_live.protocol.panes import Places, Rect
 from roam_live.relay.frames import greeting
-from roam_live.session import environment as session_environment, folder as session_folder, lookup
-from roam_live.session.folder import FolderSession
-from roam_live.session.remote import NearSession
-from roam_live.session.windowed import WindowedSession
+from roam_live.session import environment as session_environment, local, lookup
+from roam_live.session.local import Session, Window
+from roam_live.session.place import Place
+from roam_live.session.remote import RemoteSession
 
 mux = loaded("mux")
 PAGE = pathlib.Path(__file__).resolve().parents[2] / "docs/man/roam-mux.1"
@@ -32,7 +32,7 @@ class Mux(Case):
     def setUp(self):
         self.base = self.made_folder() / "roam"
         self.base.mkdir(mode=0o700)
-        for module in (session_folder, lookup, ssh):
+        for module in (local, lookup, ssh):
             self.patch_of(module, "base", lambda: self.base)
         self.environment(ROAM_PREFIX=None, ROAM_PREDICT=None, ROAM_MOUSE=None, ROAM_CLIPBOARD=None, ROAM_PANE=None, ROAM_HISTORY=None,
                          SHELL="/bin/sh", TERM="xterm")
@@ -43,21 +43,22 @@ class Mux(Case):
         # What others left is no matter either.
         self.sweeps = self.patch_of(mux, "sweep")
         self.runs, self.done = set(), []
-        for name in ("launch", "spawn_host", "demand_client", "demand_host", "demand_ready", "note_found", "kill", "end_all",
+        self.patch_of(Session, "spawn_host", self.does("spawn_host"))
+        for name in ("launch", "demand_client", "demand_host", "demand_ready", "note_found", "kill", "end_all",
                      "tidy"):
             self.patch_each(name, self.does(name))
         self.patch_each("find", lambda session: session.name in self.runs)
         self.patch_each("runs", lambda session, role=None: session.name in self.runs)
         self.patch_each("busy", lambda session: {1: "vi"})
-        self.patch_of(WindowedSession, "busy_programs", FolderSession.busy_programs)
+        self.patch_of(Session, "busy_programs", Place.busy_programs)
         # Its windows are no matter here: it is as one that has no others.
-        self.patch_of(WindowedSession, "served", "server")
-        self.patch_of(WindowedSession, "window", lambda session, number=None: session)
-        self.patch_of(WindowedSession, "windows", lambda session: [session])
+        self.patch_of(Session, "served", "server")
+        self.patch_of(Session, "window", lambda session, number=None: session)
+        self.patch_of(Session, "windows", lambda session: [session])
 
     def patch_each(self, name, does):
         """Has a session do something else, whether it has windows or not."""
-        for one in (FolderSession, WindowedSession):
+        for one in (Place, Session):
             self.patch_of(one, name, does)
 
     def does(self, name):
@@ -258,7 +259,7 @@ class Starts(Mux):
 
     def test_not_ended(self):
         self.runs.add("main")
-        with mock.patch.object(WindowedSession, "end_all"):
+        with mock.patch.object(Session, "end_all"):
             self.refuses("session main doesn't end", "kill", "-f", "main")
 
     def test_ready(self):
@@ -356,14 +357,14 @@ class Starts(Mux):
             self.assertEqual((self.mux("send", "-a", "main.3", "char 61"), sends.call_args[0][1:]), (3, (["char 61"], 3)))
             self.assertEqual((self.mux("capture", "main.3"), takes.call_args[0][1:]), (4, (False, 3)))
         places = Places({1: Rect(1, 1, 5, 5), 2: Rect(1, 7, 5, 5)}, 1)
-        with mock.patch.object(FolderSession, "places", lambda session: places), mock.patch.object(targets, "close_pane") as closes:
+        with mock.patch.object(Place, "places", lambda session: places), mock.patch.object(targets, "close_pane") as closes:
             self.assertEqual((self.mux("kill", "main.2"), closes.call_args[0][1]), (0, 2))
             self.is_terminal = False
             self.refuses("session main runs vi in pane 1; `mux kill -f main.1` closes it", "kill", "main.1")
             self.refuses("session main has no pane 3", "kill", "main.3")
             self.assertEqual((self.mux("kill", "-f", "main.1"), closes.call_args[0][1]), (0, 1))
             self.is_terminal = True
-            with mock.patch("sys.stdin") as asked, mock.patch.object(WindowedSession, "busy", lambda session: None):
+            with mock.patch("sys.stdin") as asked, mock.patch.object(Session, "busy", lambda session: None):
                 asked.readline.return_value = "n\n"
                 self.assertEqual(self.mux("kill", "main.2"), 1)
             self.assertIn("session main runs a program that isn't known; close it? [y/N] ", self.said.getvalue())
@@ -371,7 +372,7 @@ class Starts(Mux):
 
     def test_started(self):
         """Whether it ran before is told; what is left of one that doesn't run goes."""
-        session = FolderSession.named("main")
+        session = Window(self.base / "main")
         self.assertEqual((mux.launched(session), self.done), (False, [("kill", "main")]))
         self.runs.add("main")
         self.assertTrue(mux.launched(session))
@@ -390,8 +391,8 @@ class Listed(Mux):
                 raise found[session.name]
             return found[session.name]
 
-        with mock.patch.object(FolderSession, "is_listed", is_listed), \
-                mock.patch.object(FolderSession, "line", lambda session, survey, windows: f"{session.name} 24 by 80\x1b[c"):
+        with mock.patch.object(Place, "is_listed", is_listed), \
+                mock.patch.object(Place, "line", lambda session, survey, windows: f"{session.name} 24 by 80\x1b[c"):
             self.assertEqual(self.mux("ls"), 1)
             self.assertEqual(self.text.getvalue(), "a 24 by 80?[c\n")
             self.assertIn("session ssh:there:main: somebody listens\n", self.said.getvalue())
@@ -404,7 +405,7 @@ class Far(Mux):
 
     def test_ssh(self):
         """A relay is started where none runs, and its status is that of one that didn't answer."""
-        clients = self.patch_of(NearSession, "launch_relay", return_value=0)
+        clients = self.patch_of(RemoteSession, "launch_relay", return_value=0)
         self.patch_of(ssh, "host_of", side_effect=lambda asked: f"host of {asked.host}")
         self.assertEqual(self.mux("ssh", "-p", "22", "me@there", "work"), 7)
         clients.assert_called_once_with(["ssh", "-p", "22", "me@there", "roam-mux far work"], "host of me@there")
@@ -486,7 +487,7 @@ class Far(Mux):
         greets = self.patch_of(ssh, "read_greeting", return_value="-")
         self.refuses("standard input is a terminal; `mux ssh` on another machine spawns this end", "far", "main")
         self.is_terminal = False
-        self.patch_of(FolderSession, "process", return_value=17)
+        self.patch_of(Place, "process", return_value=17)
         self.mux("far", "main")
         self.assertEqual(self.done, [("kill", "main"), ("launch", "main")])
         words = [str(ssh.TOOLS / "relay"), "--far", "--greeted", "--server", "17", "--dir", str(self.base / "main"), "-"]

@@ -21,11 +21,13 @@ from roam_live.protocol.datagram_stream import LONGEST, SHORTEST, Carrier
 from roam_live.protocol.panes import Places, Rect
 from roam_live.protocol.server_address import Home
 from roam_live.relay.frames import greeting, read_greeting
-from roam_live.session import folder as session_folder, lookup, names as session_names, port_session, processes, remote
-from roam_live.session.folder import VERSION, FolderSession
+from roam_live.session import local, lookup, names as session_names, port_session, processes, remote, roles
+from roam_live.session.local import Window
+from roam_live.session.place import Place
 from roam_live.session.port_session import PortSession
 from roam_live.session.processes import Processes, is_note
-from roam_live.session.remote import NearSession
+from roam_live.session.remote import RemoteSession
+from roam_live.session.window_state import WINDOWS_VERSION
 
 OWN = [os.getpid(), begun(os.getpid())]
 
@@ -36,7 +38,7 @@ class Based(Case):
     def setUp(self):
         self.base = self.made_folder() / "roam"
         self.base.mkdir(mode=0o700)
-        for module in (session_folder, lookup):
+        for module in (local, lookup):
             self.patch_of(module, "base", lambda: self.base)
         self.folder = self.base / "main"
         self.folder.mkdir()
@@ -44,11 +46,11 @@ class Based(Case):
 
     def note(self, **noted):
         """Notes something."""
-        (self.folder / "state.json").write_text(json.dumps({"version": VERSION, "command": [], **noted}), encoding="utf-8")
+        (self.folder / "state.json").write_text(json.dumps({"version": WINDOWS_VERSION, "command": [], **noted}), encoding="utf-8")
 
     def session(self):
         """The session."""
-        return FolderSession.named("main")
+        return Window(self.base / "main")
 
 
 class Read(Based):
@@ -110,11 +112,11 @@ class Read(Based):
         self.note(server=OWN, host=OWN)
         self.assertEqual(self.session().busy(), {1: "vi"})
         busy.assert_called_once_with(os.getpid())
-        self.assertIsNone(NearSession(self.base / "ssh:a:b").busy())
+        self.assertIsNone(RemoteSession(self.base / "ssh:a:b").busy())
 
     def test_busy_unknown(self):
         """Where nobody is known the pty host it isn't known either."""
-        self.assertIsNone(FolderSession(self.folder, server=os.getpid()).busy())
+        self.assertIsNone(Window(self.folder, server=os.getpid()).busy())
 
     def test_busy_half(self):
         """Of a client that was killed before its shells were begun nothing runs."""
@@ -149,16 +151,14 @@ class Read(Based):
         host.send_signal(signal.SIGSTOP)
         os.waitid(os.P_PID, host.pid, os.WSTOPPED | os.WNOWAIT)
         self.assertTrue(line_of(self.session(), None, None).endswith(" ? terminals, the pty host is stopped"))
-        self.assertEqual(NearSession(self.base / "ssh:a:b").lacking(), "")
+        self.assertEqual(RemoteSession(self.base / "ssh:a:b").lacking(), "")
 
     def test_command_found(self):
-        """One whose note is lost is found by its sockets, and its command by the pty host."""
+        """One whose note is lost is found by its sockets."""
         session = self.session()
-        self.patch_of(FolderSession, "listener", lambda _, name: {"clients": OWN[0], "host": OWN[0]}.get(name))
-        with mock.patch.object(session_folder, "command_of", return_value=["vi"]) as asks:
-            self.assertTrue(session.find())
-        asks.assert_called_once_with(OWN[0], self.folder)
-        self.assertEqual(session.state, {"version": 3, "command": ["vi"], "server": OWN, "host": OWN})
+        self.patch_of(Place, "listener", lambda _, name: {"clients": OWN[0], "host": OWN[0]}.get(name))
+        self.assertTrue(session.find())
+        self.assertEqual(session.state, {"version": WINDOWS_VERSION, "server": OWN, "host": OWN})
         session.note_found()
         self.assertEqual(json.loads((self.folder / "state.json").read_text(encoding="utf-8")), session.state)
 
@@ -171,8 +171,8 @@ class Read(Based):
                 with self.assertRaisesRegex(Fault, "is no name: letters, digits, - and _, 32 at most$"):
                     session_names.check_name(name)
         with self.assertRaisesRegex(Fault, "is too long for a socket's path$"):
-            FolderSession(self.base / ("x" * (108 - len(str(self.base)) - len("//terminals"))))
-        FolderSession(self.base / ("x" * (107 - len(str(self.base)) - len("//terminals"))))
+            Window(self.base / ("x" * (108 - len(str(self.base)) - len("//terminals"))))
+        Window(self.base / ("x" * (107 - len(str(self.base)) - len("//terminals"))))
 
 
 class Bases(Case):
@@ -237,9 +237,9 @@ class Starts(Based):
 
     def setUp(self):
         super().setUp()
-        self.patch_of(session_folder, "program", return_value="/roam")
-        self.patch_of(FolderSession, "spawned", lambda session, role, words, *_, **__: self.spawn(session, role, words))
-        self.patch_of(FolderSession, "wait_for", lambda session, role, before, test: self.waits.append((role, before, test)))
+        self.patch_of(roles, "program", return_value="/roam")
+        self.patch_of(Place, "spawned", lambda session, role, words, *_, **__: self.spawn(session, role, words))
+        self.patch_of(Place, "wait_for", lambda session, role, before, test: self.waits.append((role, before, test)))
         self.words, self.waits = [], []
 
     def spawn(self, session, role, words):
@@ -248,26 +248,24 @@ class Starts(Based):
         session.state[role] = OWN
         return mock.Mock()
 
-    def test_spawned(self):
-        """A server, and then a shell in each pane, or a command in its place."""
-        (self.folder / "log").write_bytes(b"said before\n")
+    def test_by_hand(self):
+        """Neither a server nor a pty host is started for a window whose server was started by hand."""
         session = self.session()
-        session.launch(["vi", "x"])
-        tools = str(session_folder.TOOLS / "pane_shells")
-        self.assertEqual(self.words, [("server", ["/roam", "serve", "--normalize", "--dir", str(self.folder)]),
-                                      ("host", [tools, "--close", "--server", str(OWN[0]), str(self.folder), "vi", "x"])])
-        role, before, test = self.waits[0]
-        self.assertEqual((role, before, test()), ("server", 12, False))
-        (self.folder / "session").touch()
-        self.assertFalse(test())
-        self.listening(self.folder / "clients")
-        self.assertTrue(test())
-        self.assertEqual(session.state, {"version": VERSION, "command": ["vi", "x"], "server": OWN, "host": OWN})
-        with mock.patch.object(FolderSession, "runs", side_effect=[True, False]):
-            session.demand_host()
-            self.assertEqual(len(self.words), 2)
-            session.demand_host()
-        self.assertEqual(self.words[2][1][4:], ["--again", str(self.folder), "vi", "x"])
+        with self.assertRaisesRegex(Fault, "^session main: what keeps its windows opens them$"):
+            session.launch(["vi"])
+        session.demand_host()
+        self.assertEqual((session.revive_host(), self.words), (False, []))
+
+    def test_words(self):
+        """The words of each role's process, and where it listens."""
+        self.assertEqual(roles.server_words("d"), ["/roam", "serve", "--normalize", "--dir", "d"])
+        self.assertEqual(roles.client_words("d"), ["/roam", "attach", "--dir", "d", "--terminals", "d/terminals"])
+        tools = str(roles.TOOLS)
+        self.assertEqual(roles.host_words("d", ["vi"], ["--first"]), [f"{tools}/pane_shells", "--windows", "--first", "d", "vi"])
+        self.assertEqual(roles.relay_words("d", "l", 5, "h", ["ssh"]),
+                         [f"{tools}/relay", "--alone", "5", "--log", "l", "--host=h", "--dir", "d", "-", "ssh"])
+        self.assertEqual({name: role.socket for name, role in roles.ROLES.items()},
+                         {"server": "clients", "client": "terminals", "host": "host", "relay": "clients", "rows": ""})
 
     def test_terminals(self):
         """The client of the terminals is started where none is there, and waited for."""
@@ -286,7 +284,7 @@ class Starts(Based):
 
     def test_full(self):
         """A server that has had its 64 clients hears no other, which is told."""
-        self.patch_of(FolderSession, "places", lambda _, seconds: Places({1: Rect(1, 1, 23, 80)}, 1, 64, 0))
+        self.patch_of(Place, "places", lambda _, seconds: Places({1: Rect(1, 1, 23, 80)}, 1, 64, 0))
         told = ("session main has had the 64 clients of its life, and hears no other; what runs in it goes on, and `mux kill main` "
                 "ends it")
         with self.assertRaises(Fault) as fault:
@@ -303,13 +301,10 @@ class Starts(Based):
         self.assertEqual(self.words, [])
         session.revive()
         self.assertEqual([role for role, _ in self.words], ["client"])
-        self.note(server=OWN)
-        with mock.patch.object(FolderSession, "demand_host", lambda session: session.state.update(host=OWN)):
-            self.assertTrue(session.revive_host())
 
     def test_near(self):
         """How ssh is called isn't known of what stands for another machine's session; its shells are left to that machine."""
-        near = NearSession(self.base / "ssh:a:main", "main")
+        near = RemoteSession(self.base / "ssh:a:main", "main")
         with self.assertRaisesRegex(Fault, "^no relay to main is running; `mux ssh` launches one$"):
             near.launch()
         near.demand_host()
@@ -323,7 +318,7 @@ class Spawned(Based):
     def setUp(self):
         super().setUp()
         self.session_here = self.session()
-        self.session_here.state = {"version": VERSION}
+        self.session_here.state = {"version": WINDOWS_VERSION}
 
     def test_noted(self):
         """A process notes itself, parts from the terminal, and what it says is in the log."""
@@ -455,13 +450,13 @@ class Spawned(Based):
 
     def test_relay(self):
         """A relay that answers stays; its words tell where it logs, and after which time alone it ends."""
-        near = NearSession(self.base / "ssh:there:main", "main")
+        near = RemoteSession(self.base / "ssh:there:main", "main")
         near.folder.mkdir()
         (near.folder / "ended").touch()
-        with mock.patch.object(remote, "take_front") as takes, mock.patch.object(NearSession, "spawned") as spawns:
+        with mock.patch.object(remote, "take_front") as takes, mock.patch.object(RemoteSession, "spawned") as spawns:
             spawns.return_value.stdout.readline.return_value = b"port - session abc\n"
             self.assertEqual(near.launch_relay(["ssh", "there"]), 0)
-        words = [str(remote.TOOLS / "relay"), "--alone", "3600", "--log", str(near.log), "--dir", str(near.folder), "-", "ssh", "there"]
+        words = [str(roles.TOOLS / "relay"), "--alone", "3600", "--log", str(near.log), "--dir", str(near.folder), "-", "ssh", "there"]
         self.assertEqual(spawns.call_args, mock.call("relay", words, remote.in_front, is_heard=True))
         takes.assert_called_once_with(os.getpgrp())
         self.assertFalse((near.folder / "ended").exists())
@@ -572,7 +567,7 @@ class Sends(Based):
     def test_not_done(self):
         """What can't be done is looked at again for a second, since what was asked for before may not be told yet."""
         told = [Places({1: Rect(1, 1, 23, 80)}, 1, 1)]
-        self.patch_of(FolderSession, "places", lambda _: told[0])
+        self.patch_of(Place, "places", lambda _: told[0])
         with self.assertRaisesRegex(Fault, "^'focus 2' can't be done: there is no pane 2. None was typed$"):
             send.send(self.session(), ["focus 2"])
         self.assertTrue(101.0 < self.now <= 101.1)
@@ -591,7 +586,7 @@ class Sends(Based):
             self.link.has_come = self.link.records.begun = True
             self.answers, session = answers, self.session()
             words = f"session main: {told}" if told else "session main takes no more acts; some may have been typed"
-            with mock.patch.object(FolderSession, "runs", return_value=runs):
+            with mock.patch.object(Place, "runs", return_value=runs):
                 if told is None:
                     self.assertEqual(send.send(session, ["char 61"]), 0)
                     continue

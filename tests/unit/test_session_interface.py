@@ -22,10 +22,10 @@ from roam_live.frontend.modes import ModeStack
 from roam_live.protocol.panes import Places, Rect
 from roam_live.protocol.server_address import Home
 from roam_live.protocol.session_interface import AnySession, HostedSession
-from roam_live.session.folder import FolderSession
 from roam_live.session.foreground import busy_panes
+from roam_live.session.local import Window
 from roam_live.session.port_session import PortSession
-from roam_live.session.remote import NearSession
+from roam_live.session.remote import RemoteSession
 from test_display import PlayedPanes
 
 loader = importlib.machinery.SourceFileLoader("mux", str(TOOLS / "mux"))
@@ -50,7 +50,7 @@ class Folder(unittest.TestCase):
         """The session, where some processes are noted."""
         if noted:
             (self.folder / "state.json").write_text(json.dumps({"version": 3, **noted}), encoding="utf-8")
-        return FolderSession(self.folder, server=os.getpid())
+        return Window(self.folder, server=os.getpid())
 
     def keep_host(self):
         """Has this process listen at the socket of a pty host."""
@@ -76,7 +76,7 @@ class Busy(Folder):
 
     def test_nothing_noted(self):
         self.assertIsNone(self.by_hand().busy())
-        self.assertIsNone(FolderSession(self.folder).busy())
+        self.assertIsNone(Window(self.folder).busy())
 
     def test_client_noted(self):
         """The client process alone is noted by a front end that was started by hand, which tells nothing of shells."""
@@ -110,7 +110,7 @@ class Busy(Folder):
 
     def test_elsewhere(self):
         """Of a session of another machine, or at a port, nothing is known of programs."""
-        self.assertIsNone(NearSession(self.folder, "main").busy())
+        self.assertIsNone(RemoteSession(self.folder, "main").busy())
         session = PortSession(Home(port=1, session="1"), None)
         self.addCleanup(session.close)
         self.assertIsNone(session.busy())
@@ -123,7 +123,7 @@ class Known(Folder):
         """One of each kind."""
         at_port = PortSession(Home(port=1, session="1"), str(self.folder))
         self.addCleanup(at_port.close)
-        return FolderSession(self.folder), NearSession(self.folder, "main"), self.by_hand(), at_port
+        return Window(self.folder), RemoteSession(self.folder, "main"), self.by_hand(), at_port
 
     def test_all_there(self):
         """Each has all that a front end needs."""
@@ -143,7 +143,7 @@ class Kill(Folder):
         for busy, told in (({}, ""), ({2: "vi", 1: "less"}, "less in pane 1 and vi in pane 2"), (None, "programs that aren't known")):
             with mock.patch.object(session, "busy", lambda busy=busy: busy):
                 self.assertEqual(mux.lost_with(session), told)
-        self.assertEqual(mux.lost_with(NearSession(self.folder, "main")), "")
+        self.assertEqual(mux.lost_with(RemoteSession(self.folder, "main")), "")
 
 
 class ClientLink:

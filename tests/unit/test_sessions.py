@@ -14,10 +14,11 @@ from unittest import mock
 
 from roam_live.common.errors import Fault
 from roam_live.common.process import begun, note_end
-from roam_live.session import folder as session_folder, lookup, survey
-from roam_live.session.folder import VERSION, FolderSession
+from roam_live.session import local, lookup, survey
 from roam_live.session.front_end_lock import locked_session
-from roam_live.session.remote import NearSession
+from roam_live.session.local import Session, Window
+from roam_live.session.remote import RemoteSession
+from roam_live.session.window_state import WINDOWS_VERSION
 
 # A process that ended: no process has begun at this moment.
 ENDED = [1, 1]
@@ -44,7 +45,7 @@ class Sessions(unittest.TestCase):
         self.addCleanup(made.cleanup)
         self.base = pathlib.Path(made.name, "roam")
         self.base.mkdir(mode=0o700)
-        for module in (session_folder, lookup):
+        for module in (local, lookup):
             patched = mock.patch.object(module, "base", lambda: self.base)
             patched.start()
             self.addCleanup(patched.stop)
@@ -56,7 +57,7 @@ class Sessions(unittest.TestCase):
 
     def note(self, folder=None, **processes):
         """Notes processes."""
-        note = {"version": VERSION, "command": [], **processes}
+        note = {"version": WINDOWS_VERSION, "command": [], **processes}
         ((folder or self.folder) / "state.json").write_text(json.dumps(note), encoding="utf-8")
 
     def listening(self, *names, folder=None):
@@ -86,7 +87,7 @@ class Listed(Sessions):
         for name in ("state.json.77", "ended.8", "front_ends"):
             (self.folder / name).touch()
         (self.folder / "log").write_text("[the server has ended]\n" * 2, encoding="utf-8")
-        self.assertFalse(FolderSession.named("main").is_listed())
+        self.assertFalse(Window(self.base / "main").is_listed())
         self.assertFalse(self.folder.exists())
 
     def test_log_kept(self):
@@ -112,7 +113,8 @@ class Listed(Sessions):
         """So it is while a process holds the folder that nobody finds."""
         held = os.open(self.folder, os.O_RDONLY)
         fcntl.flock(held, fcntl.LOCK_SH)
-        lookup.sweep()
+        with mock.patch.object(local, "holder_of", return_value=None):
+            lookup.sweep()
         self.assertEqual(self.names(), ["lock", "log"])
         os.close(held)
         lookup.sweep()
@@ -120,7 +122,7 @@ class Listed(Sessions):
 
     def test_begun_anew(self):
         """One that is begun anew after its old note was read is told, and nothing of it is removed."""
-        session = FolderSession.named("main")
+        session = Window(self.base / "main")
         own = [os.getpid(), begun(os.getpid())]
         self.note(server=own)
         before = self.names()
@@ -133,7 +135,7 @@ class Listed(Sessions):
         before = self.names()
         with open(self.folder / "lock", "wb") as lock:
             fcntl.flock(lock, fcntl.LOCK_EX)
-            self.assertFalse(FolderSession.named("main").is_listed())
+            self.assertFalse(Window(self.base / "main").is_listed())
         self.assertEqual(self.names(), sorted([*before, "lock"]))
 
     def test_other_machines(self):
@@ -146,7 +148,7 @@ class Listed(Sessions):
         wanted = ["main", "ssh:me@there.example:work:0badcafe", "ssh:there:main"]
         self.assertEqual([session.name for session in found], wanted)
         self.assertEqual([line.split()[0] for line in survey.surveyed([(one, one.windows()) for one in found])], wanted)
-        self.assertIsInstance(lookup.session_named("ssh:there:main"), NearSession)
+        self.assertIsInstance(lookup.session_named("ssh:there:main"), RemoteSession)
         for name in ("ssh:none:main", "ssh:there/../x:main", "../main", "ssh:there:main:1"):
             with self.assertRaises(Fault):
                 lookup.session_named(name)
@@ -162,14 +164,14 @@ class Found(Sessions):
             (self.folder / "state.json").unlink(missing_ok=True)
             if text is not None:
                 (self.folder / "state.json").write_text(text, encoding="latin-1")
-            session = FolderSession.named("main")
+            session = Window(self.base / "main")
             self.assertTrue(session.find(), text)
             found = [session.process(role) for role in ("server", "host", "client")]
             self.assertEqual(found, [server.pid, host.pid, None])
         with session.locked():
             self.assertTrue(session.find())
             session.note_found()
-        self.assertEqual(FolderSession.named("main").process("server"), server.pid)
+        self.assertEqual(Window(self.base / "main").process("server"), server.pid)
 
     def test_command(self):
         """The command of a pty host stands behind the folder in its words."""
@@ -179,9 +181,9 @@ class Found(Sessions):
         self.addCleanup(process.kill)
         self.addCleanup(process.stdout.close)
         process.stdout.readline()
-        self.assertEqual(session_folder.command_of(process.pid, self.folder), ["sh", "-c", "a b"])
-        self.assertEqual(session_folder.command_of(None, self.folder), [])
-        self.assertEqual(session_folder.command_of(process.pid, self.base), [])
+        self.assertEqual(local.command_of(process.pid, self.folder), ["sh", "-c", "a b"])
+        self.assertEqual(local.command_of(None, self.folder), [])
+        self.assertEqual(local.command_of(process.pid, self.base), [])
 
     def test_answers(self):
         """Where somebody answers nothing is removed, whatever is noted."""
@@ -190,7 +192,7 @@ class Found(Sessions):
             if not note:
                 (self.folder / "state.json").unlink()
             before = self.names()
-            session = FolderSession.named("main")
+            session = Window(self.base / "main")
             self.assertTrue(session.is_listed())
             with self.assertRaisesRegex(Fault, "somebody answers at"):
                 session.clean()
@@ -205,7 +207,9 @@ class Found(Sessions):
             listener.listen(0)
             held.enter_context(socket.socket(socket.AF_UNIX, socket.SOCK_STREAM)).connect(str(self.folder / "clients"))
             before = self.names()
-            named = FolderSession.named
+            def named(name):
+                return Window(self.base / name)
+
             for does in (lambda: named("main").is_listed(), lambda: named("main").demand(), named("main").clean):
                 with self.assertRaisesRegex(Fault, "takes no connection|somebody answers at"):
                     does()
@@ -215,7 +219,7 @@ class Found(Sessions):
         """It is ended as any other."""
         server = self.listening("clients")
         (self.folder / "state.json").unlink()
-        session = FolderSession.named("main")
+        session = Window(self.base / "main")
         session.demand()
         session.end_all()
         self.assertEqual(server.wait(10), -15)
@@ -229,12 +233,12 @@ class Starts(Sessions):
 
     def setUp(self):
         super().setUp()
-        self.session = FolderSession(self.base / "new", "new")
+        self.session = Window(self.base / "new")
 
     def test_half_way(self):
         """What was started ends again where the rest can't be, and no folder stays where nothing was logged."""
         with self.session.locked():
-            self.session.state = {"version": VERSION}
+            self.session.state = {"version": WINDOWS_VERSION}
             with self.assertRaisesRegex(Fault, "^session new: the pty host can't be spawned: /no/such: No such file"):
                 with self.session.whole():
                     server = self.session.spawned("server", ["sleep", "60"])
@@ -245,7 +249,7 @@ class Starts(Sessions):
     def test_logged(self):
         """Where something was logged the folder stays with its log alone, and the fault has what was said in one line."""
         with self.session.locked():
-            self.session.state = {"version": VERSION}
+            self.session.state = {"version": WINDOWS_VERSION}
             with self.assertRaisesRegex(Fault, "^session new: the client process didn't come up: one; two$"):
                 with self.session.whole():
                     self.session.spawned("client", ["sh", "-c", "echo one >&2; echo; echo two >&2"])
@@ -255,7 +259,7 @@ class Starts(Sessions):
     def test_unnoted(self):
         """A process that can't be noted isn't started, and the fault tells what and why."""
         with self.session.locked():
-            self.session.state = {"version": VERSION}
+            self.session.state = {"version": WINDOWS_VERSION}
             with mock.patch.object(self.session, "note_own", side_effect=OSError(28, "No space left on device")):
                 with self.assertRaisesRegex(Fault, "^session new: the server can't be spawned: it can't be noted in "):
                     self.session.spawned("server", ["sleep", "60"])
@@ -269,8 +273,8 @@ class Starts(Sessions):
     def test_relay(self):
         """A try to reach another machine that fails leaves no folder; one where something is logged leaves the log."""
         for logged in (False, True):
-            near = NearSession(self.base / "ssh:there:main", "main")
-            with near.locked(), mock.patch("roam_live.session.remote.TOOLS", self.base), mock.patch("roam_live.session.remote.in_front"):
+            near = RemoteSession(self.base / "ssh:there:main", "main")
+            with near.locked(), mock.patch("roam_live.session.roles.TOOLS", self.base), mock.patch("roam_live.session.remote.in_front"):
                 relay = self.base / "relay"
                 relay.write_text(f"#!/bin/sh\n{'echo said >> $4' if logged else ''}\nexit 3\n", encoding="utf-8")
                 relay.chmod(0o700)
@@ -280,19 +284,19 @@ class Starts(Sessions):
     def test_lock(self):
         """A lock whose file was removed, with the folder, isn't taken for the one that others find."""
         with self.session.locked():
-            other = FolderSession(self.session.folder)
+            other = Window(self.session.folder)
             self.session.forget()
             with other.locked(may_wait=False):
                 self.assertTrue((other.folder / "lock").exists())
-                with self.assertRaises(BlockingIOError), FolderSession(other.folder).locked(may_wait=False):
+                with self.assertRaises(BlockingIOError), Window(other.folder).locked(may_wait=False):
                     pass
 
     def test_folder_of_another(self):
         """Nothing is made in a folder of another user."""
         with mock.patch("os.getuid", return_value=os.getuid() + 1):
-            with self.assertRaisesRegex(Fault, "is no folder of yours"), FolderSession.named("main").locked():
+            with self.assertRaisesRegex(Fault, "is no folder of yours"), Window(self.base / "main").locked():
                 pass
-            self.assertEqual(FolderSession.named("main").places(), None)
+            self.assertEqual(Window(self.base / "main").places(), None)
         self.assertNotIn("lock", self.names())
 
 
@@ -305,7 +309,7 @@ class Ends(Sessions):
         self.addCleanup(process.wait)
         moment = begun(process.pid)
         self.note(**{"relay" if near else "server": [process.pid, moment]})
-        session = (NearSession if near else FolderSession)(self.folder)
+        session = (RemoteSession if near else Window)(self.folder)
         self.assertTrue(session.runs())
         return session, process
 
@@ -331,12 +335,12 @@ class Ends(Sessions):
         """So it is with a server that was started by hand."""
         process = subprocess.Popen(["sleep", "60"])
         self.addCleanup(process.wait)
-        session = FolderSession(self.folder, server=process.pid)
+        session = Window(self.folder, server=process.pid)
         self.assertEqual(session.process("server"), process.pid)
         note_end(self.folder, process.pid, begun(process.pid))
         process.kill()
         self.assertEqual(session.ending(), ("[the session has ended]", 0))
-        self.assertEqual(FolderSession(self.folder, server=os.getpid()).ending()[1], 1)
+        self.assertEqual(Window(self.folder, server=os.getpid()).ending()[1], 1)
 
     def test_relay(self):
         """A relay that was ended leaves the session; one that was told of the end tells it; else its log tells why it ended."""

@@ -6,7 +6,7 @@ from unittest import mock
 from aids import Case, StillLoop, loaded, read_now
 from roam_live.common.errors import Fault
 from roam_live.common.event_loop import READ
-from roam_live.session.folder import FolderSession
+from roam_live.session.local import Window
 from roam_live.session.port_session import PortSession
 
 shell, attach = loaded("pane_shell"), loaded("attach")
@@ -137,7 +137,7 @@ class Attach(Case):
         self.listening(self.folder / "clients")
         self.assertEqual(self.attach(str(self.folder)), 5)
         place, is_read_only, prefix, prediction = self.follows.call_args[0]
-        self.assertEqual((type(place), place.folder, place.by_hand), (FolderSession, self.folder, None))
+        self.assertEqual((type(place), place.folder, place.by_hand), (Window, self.folder, None))
         self.assertEqual((is_read_only, prefix, prediction), (False, "C-b", "adaptive"))
         self.assertEqual(self.attach("--watch", "--predict", "never", "--server", "7", str(self.folder)), 5)
         place, is_read_only, _, prediction = self.follows.call_args[0]

@@ -16,12 +16,12 @@ from roam_live.common.errors import Fault
 from roam_live.common.process import begun, end_words, is_running
 from roam_live.common.unix_socket import is_listened
 from roam_live.protocol.panes import Places, Rect
-from roam_live.session import folder as session_folder, foreground, lookup, remote, windowed
+from roam_live.session import foreground, local, lookup, place as session_place, remote, roles
 from roam_live.session.front_end_lock import has_front_ends
-from roam_live.session.folder import FolderSession
+from roam_live.session.local import Session, Window
 from roam_live.session.lookup import session_named, window_in
+from roam_live.session.place import Place
 from roam_live.session.window_state import WINDOWS_VERSION, is_spare_server, numbers_in
-from roam_live.session.windowed import Window, WindowedSession
 
 PLACES = Places({1: Rect(1, 1, 23, 80)}, 1, 1)
 
@@ -32,7 +32,7 @@ class Sessions(Case):
     def setUp(self):
         self.base = self.made_folder() / "roam"
         self.base.mkdir(mode=0o700)
-        for module in (session_folder, lookup):
+        for module in (local, lookup):
             self.patch_of(module, "base", lambda: self.base)
         self.environment(ROAM_PANE=None)
         self.said, self.text = self.heard(), self.printed()
@@ -57,14 +57,20 @@ class Found(Sessions):
     """How they are found."""
 
     def test_kinds(self):
-        """One that isn't there has windows; one whose server answers in its folder is of one window."""
-        self.assertIsInstance(session_named("new"), WindowedSession)
+        """A name is that of a session, and a folder that of a window: of a session's, or of one whose server was started by hand, which
+        is no session's."""
+        self.assertIsInstance(session_named("new"), Session)
         self.noted("main", host=self.own)
-        self.assertIsInstance(session_named("main"), WindowedSession)
         (self.base / "main/clients").touch()
-        self.assertEqual(type(session_named("main")), FolderSession)
-        for path, kind in (("main/w/3", Window), ("main/w/0", FolderSession), ("main/w/100", FolderSession), ("main", FolderSession)):
-            self.assertEqual(type(window_in(self.base / path)), kind, path)
+        self.assertIsInstance(session_named("main"), Session)
+        for path, number in (("main/w/3", 3), ("main/w/0", 0), ("main/w/100", 0), ("main", 0)):
+            window = window_in(self.base / path)
+            self.assertEqual((type(window), window.number, window.session is not None), (Window, number, number > 0), path)
+        (self.base / "main/clients").unlink()
+        self.listening(self.base / "main/clients")
+        with self.assertRaisesRegex(Fault, "^/.*/main has a server that was started by hand, and is no session of mux; "):
+            session_named("main")
+        self.assertEqual(lookup.sessions_here(), [])
         with self.assertRaisesRegex(Fault, "is no name"):
             session_named("a b")
 
@@ -82,7 +88,7 @@ class Found(Sessions):
         one = session.window(2)
         self.assertEqual((one.window(), one.window(7).number, one.whole_session(), one.common), (one, 7, session, self.base / "main"))
         with self.assertRaisesRegex(Fault, "^session old has one window, as one that was begun by hand, and no window 2$"):
-            FolderSession(self.base / "old").window(2)
+            Window(self.base / "old").window(2)
 
     def test_spare(self):
         """A server that only stands ready is no window, and can't be named: by its mark, or where that is lost by its environment, while
@@ -117,7 +123,7 @@ class Found(Sessions):
         self.assertTrue(session.is_listed())
         with self.assertRaisesRegex(Fault, "^session main runs, and nothing is left by which its windows are found"):
             session.window()
-        near = remote.NearSession(folder)
+        near = remote.RemoteSession(folder)
         self.assertTrue(near.find())
         self.assertEqual(near.process("relay"), os.getpid())
 
@@ -127,7 +133,7 @@ class Found(Sessions):
         window = session.window(2)
         self.noted("main", 2, server=self.own, client=self.own)
         window.read()
-        age = self.patch_of(session_folder, "age_of", return_value=9.9)
+        age = self.patch_of(session_place, "age_of", return_value=9.9)
         self.assertTrue(window.has_client())
         age.return_value = 10.1
         self.assertFalse(window.has_client())
@@ -203,7 +209,7 @@ class Unknown(Sessions):
         """A session whose processes are noted runs, though none of them can be looked at."""
         session = self.session()
         again = self.full()
-        found = session.find(), session.runs("host"), FolderSession.runs(session, "host"), is_running(1 << 22, 1)
+        found = session.find(), session.runs("host"), Place.runs(session, "host"), is_running(1 << 22, 1)
         again()
         self.assertEqual(found, (True, True, True, False))
 
@@ -215,8 +221,8 @@ class Unknown(Sessions):
         before = sorted(path.name for path in self.base.rglob("*"))
         again = self.full()
         told = []
-        session = WindowedSession(self.base / "main")
-        window = Window(session, 2)
+        session = Session(self.base / "main")
+        window = session.window_of(2)
         for does in (session.find, window.find, lambda: window.listener("clients"), lambda: numbers_in(str(self.base / "main/w")),
                      window.clean, session.tidy):
             with self.assertRaises(Fault) as fault:
@@ -245,11 +251,11 @@ class Launched(Sessions):
     def setUp(self):
         super().setUp()
         self.spawned, self.waits, self.ended, self.refused = [], [], [], ""
-        for module in (session_folder, windowed):
+        for module in (roles,):
             self.patch_of(module, "program", return_value="/roam")
-        self.patch_of(FolderSession, "spawned", lambda session, role, words: self.spawn(session, role, words))
-        self.patch_of(FolderSession, "wait_for", lambda session, role, before, test: self.waits.append((role, test)))
-        self.patch_of(FolderSession, "end", lambda session, role: self.ended.append((session.name, role)))
+        self.patch_of(Place, "spawned", lambda session, role, words: self.spawn(session, role, words))
+        self.patch_of(Place, "wait_for", lambda session, role, before, test: self.waits.append((role, test)))
+        self.patch_of(Place, "end", lambda session, role: self.ended.append((session.name, role)))
         (self.base / "new").mkdir(mode=0o700)
         self.new = session_named("new")
 
@@ -265,7 +271,7 @@ class Launched(Sessions):
         self.new.launch(["vi", "x"])
         folder = self.base / "new/w/1"
         self.assertEqual(self.spawned, [
-            ("host", [str(windowed.TOOLS / "pane_shells"), "--windows", "--first", str(self.base / "new"), "vi", "x"]),
+            ("host", [str(roles.TOOLS / "pane_shells"), "--windows", "--first", str(self.base / "new"), "vi", "x"]),
             ("server", ["/roam", "serve", "--normalize", "--dir", str(folder)])])
         self.assertEqual((self.new.state, folder.stat().st_mode & 0o777, folder.parent.stat().st_mode & 0o777),
                          ({"version": WINDOWS_VERSION, "command": ["vi", "x"], "host": self.own}, 0o700, 0o700))
@@ -291,7 +297,7 @@ class Launched(Sessions):
         self.assertEqual(self.spawned, [])
         self.noted("main", host=[1, 1], command=["vi"])
         session.read()
-        words = [str(windowed.TOOLS / "pane_shells"), "--windows", str(self.base / "main"), "vi"]
+        words = [str(roles.TOOLS / "pane_shells"), "--windows", str(self.base / "main"), "vi"]
         for demands in (session.demand_host, session.window(2).demand_host, session.revive_host, session.window(7).revive_host):
             demands()
             self.assertEqual(self.spawned.pop(), ("host", words))
@@ -323,7 +329,7 @@ class Launched(Sessions):
         session = self.session()
         self.noted("main")
         session.read()
-        self.patch_of(windowed, "command_of", return_value=["vi"])
+        self.patch_of(local, "command_of", return_value=["vi"])
         self.listening(self.base / "main/host")
         self.assertTrue(session.find() and session.is_found)
         self.assertEqual(session.state, {"version": WINDOWS_VERSION, "command": ["vi"], "host": self.own})
@@ -456,18 +462,18 @@ class Asked(Sessions):
                                            (7, wide, {}, " 7 -                24 by 80     2 panes"),
                                            (7, None, None, " 7 -                -            ? panes")):
             self.answers, self.host = [b"window %d %s\nwindows 1\n" % (number, b"61e282ac62" if number == 2 else b"-")], None
-            self.patch_of(FolderSession, "places", lambda session: places)
+            self.patch_of(Place, "places", lambda session: places)
             self.patch_of(Window, "busy", lambda session: busy)
             list_windows(self.window)
             self.assertEqual(self.text.getvalue().splitlines()[-1], line.replace("a?b", "a\u20acb"))
 
     def test_opened(self):
         """A window is opened of the size of that at which it is asked for, and has a name where one is given."""
-        self.patch_of(FolderSession, "places", lambda session: Places({1: Rect(1, 1, 29, 100)}, 1))
+        self.patch_of(Place, "places", lambda session: Places({1: Rect(1, 1, 29, 100)}, 1))
         self.answers = [b"opened 4\n"]
         self.assertEqual(new_window(self.window, ""), 0)
         self.assertEqual((read_now(self.host), self.text.getvalue()), (b"open 30 100\n", "main:4\n"))
-        self.patch_of(FolderSession, "places", lambda session: None)
+        self.patch_of(Place, "places", lambda session: None)
         self.answers, self.host = [b"opened 5\n", b"windows 0\n", b"window 5 6162\n"], None
         self.assertEqual(new_window(self.window, "ab"), 0)
         self.assertEqual((read_now(self.host), self.text.getvalue()), (b"open 24 80\nwindows\nname 5 6162\n", "main:4\nmain:5\n"))

@@ -13,9 +13,9 @@ from roam_live.common.process import TOOLS
 from roam_live.config.environment import wants_udp
 from roam_live.relay.frames import greeting, read_greeting
 from roam_live.session.environment import send_environment
-from roam_live.session.folder import FolderSession
+from roam_live.session.place import Place
 from roam_live.session.names import base, check_name
-from roam_live.session.remote import NearSession
+from roam_live.session.remote import RemoteSession
 
 TYPE_CHECKING = False
 if TYPE_CHECKING:
@@ -72,13 +72,13 @@ def host_of(asked: Asked) -> str:
     return str(asked.host).rpartition("@")[2]
 
 
-def near_session(asked: Asked, command: list[str]) -> NearSession:
+def near_session(asked: Asked, command: list[str]) -> RemoteSession:
     """What stands here for a session of another machine: one a host, a session, and a way to get there."""
     place = f"ssh:{re.sub('[^A-Za-z0-9_.@-]', '_', asked.host)}:{asked.name}"
     plain = ["ssh", asked.host, f"roam-mux far {asked.name}"]
     if command != plain:
         place += f":{zlib.crc32(os.fsencode(chr(0).join(command))):08x}"
-    return NearSession(base() / place, asked.name)
+    return RemoteSession(base() / place, asked.name)
 
 
 def is_first_client(places: Places | None) -> bool:
@@ -86,7 +86,7 @@ def is_first_client(places: Places | None) -> bool:
     return places is not None and places.clients <= 1
 
 
-def carry(name: str, launched: Callable[[FolderSession], bool]) -> int:
+def carry(name: str, launched: Callable[[Place], bool]) -> int:
     """Carries a session's datagrams over standard input and output. One that the other end knew and that has ended isn't launched anew;
     whether another runs, or was begun halfway, a call tells under its lock. What sshd set here is brought to the session."""
     wanted, target = read_greeting(0), target_of(name)

@@ -13,12 +13,13 @@ from roam_live.common.files import replace_text
 from roam_live.common.process import begun
 from roam_live.host.window import MENDED, UNMENDED
 from roam_live.session.environment import begin_agent
+from roam_live.session.roles import ROLES
 from roam_live.session.window_state import WINDOWS_VERSION, window_folder, windows_folder
 
 TYPE_CHECKING = False
 if TYPE_CHECKING:
     from roam_live.host.windows import HostedWindow, Windows
-    from roam_live.session.windowed import WindowedSession
+    from roam_live.session.local import Session
 
 # Suffixes of a session whose name was taken run from 2 to LAST_NUMBER. LONGEST_NAME is the limit of a session's name.
 LAST_NUMBER = 999
@@ -58,9 +59,9 @@ class Mending:
         """Restore what is missing, unless somebody holds the session's lock, as one who launches something there."""
         if self.windows.common.socket.is_found():
             return
-        from roam_live.session.windowed import WindowedSession
+        from roam_live.session.local import Session
 
-        session = WindowedSession(self.windows.asked.common)
+        session = Session(self.windows.asked.common)
         try:
             with session.locked(may_wait=False):
                 self.mend(session)
@@ -77,7 +78,7 @@ class Mending:
             self.said = words
             self.windows.common.tell(words)
 
-    def mend(self, session: WindowedSession) -> None:
+    def mend(self, session: Session) -> None:
         """Restore everything, under a new name if another session has this one. The caller holds the session's lock."""
         common, told = self.windows.asked.common, MENDED
         if self.is_taken(session):
@@ -96,9 +97,9 @@ class Mending:
         self.windows.common.tell(told)
 
     @staticmethod
-    def is_taken(session: WindowedSession) -> bool:
+    def is_taken(session: Session) -> bool:
         """Return True if another session has the name by now."""
-        found = (session.process(session.served), session.listener(session.sockets[session.served]))
+        found = (session.process(session.served), session.listener(ROLES[session.served].socket))
         return any(process not in (None, os.getpid()) for process in found)
 
     def move(self) -> str:

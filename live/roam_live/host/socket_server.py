@@ -8,7 +8,6 @@ from __future__ import annotations
 import os
 import re
 import socket
-from collections.abc import Callable
 
 from roam_live.common.errors import Fault, reason, say
 from roam_live.common.event_loop import Loop

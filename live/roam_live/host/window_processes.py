@@ -7,12 +7,13 @@ import os
 
 from roam_live.common.errors import reason, say
 from roam_live.common.files import replace_text
-from roam_live.common.process import begun, end_words, is_running, program
+from roam_live.common.process import begun, end_words, is_running
 from roam_live.common.spawn import forked_apart
 from roam_live.common.unix_socket import SocketPeer, connected_now
 from roam_live.protocol.window_lines import NO_NAME, name_in, name_word
 from roam_live.session.foreground import PANE
-from roam_live.session.processes import is_note
+from roam_live.session.processes import noted_in
+from roam_live.session.roles import ROLES, client_words, server_words
 from roam_live.session.window_state import JOINED, SPARE, SPARE_VARIABLE, WINDOWS_VERSION, window_folder, windows_folder
 
 TYPE_CHECKING = False
@@ -21,12 +22,11 @@ if TYPE_CHECKING:
 
     from roam_live.session.processes import State
 
-# The roles of a window's processes, and the sockets at which they listen.
+# The roles of a window's processes.
 SERVER, CLIENT = "server", "client"
-SOCKETS = {SERVER: "clients", CLIENT: "terminals"}
 
-# No note has so many bytes.
-MOST_NOTE = 1 << 16
+# No name's note has so many characters.
+MOST_NAME = 512
 
 
 def remove_folder(folder: str) -> None:
@@ -57,29 +57,21 @@ class WindowProcesses:
 
     # ---- what is known
 
-    def state(self) -> State:
-        """What is noted, where that is whole."""
-        try:
-            with open(self.path("state.json"), encoding="utf-8") as file:
-                state = json.loads(file.read(MOST_NOTE))
-        except (OSError, ValueError, RecursionError):
-            return {}
-        return dict(state) if is_note(state) else {}
-
     def find(self) -> None:
         """Reads what is noted; where that is lost it is known who listens at the sockets."""
         self.read()
-        for role, name in SOCKETS.items():
+        for role in (SERVER, CLIENT):
             if not self.is_known(role):
-                with contextlib.suppress(OSError), connected_now(self.path(name)) as peer:
+                with contextlib.suppress(OSError), connected_now(self.path(ROLES[role].socket)) as peer:
                     process = SocketPeer.of(peer).process
                     self.noted[role] = process, begun(process)
 
     def read(self) -> None:
         """Reads what is noted."""
-        state = self.state()
-        for role in [role for role in SOCKETS if role in state]:
-            self.noted[role] = state[role][0], state[role][1]
+        with contextlib.suppress(OSError):
+            state = noted_in(self.path("state.json")) or {}
+            for role in [role for role in (SERVER, CLIENT) if role in state]:
+                self.noted[role] = state[role][0], state[role][1]
 
     def is_known(self, role: str) -> bool:
         """Whether a process of a role is known to run."""
@@ -115,7 +107,7 @@ class WindowProcesses:
         """What the window is called, as was noted."""
         try:
             with open(self.path("name"), encoding="utf-8") as file:
-                return name_in(file.read(MOST_NOTE).strip() or NO_NAME) or ""
+                return name_in(file.read(MOST_NAME).strip() or NO_NAME) or ""
         except (OSError, ValueError):
             return ""
 
@@ -136,13 +128,13 @@ class WindowProcesses:
 
     def spawn_server(self) -> int:
         """Spawns the window's server."""
-        return self.spawn(SERVER, [program(), "serve", "--normalize", "--dir", self.folder])
+        return self.spawn(SERVER, server_words(self.folder))
 
     def spawn_client(self) -> int:
         """Spawns the client process of this machine's terminals."""
         with contextlib.suppress(FileNotFoundError):
-            os.unlink(self.path("terminals"))
-        return self.spawn(CLIENT, [program(), "attach", "--dir", self.folder, "--terminals", self.path("terminals")])
+            os.unlink(self.path(ROLES[CLIENT].socket))
+        return self.spawn(CLIENT, client_words(self.folder))
 
     def become(self, role: str, words: list[str]) -> NoReturn:
         """Becomes the process of a role; what it says goes where this process says something."""

@@ -311,7 +311,7 @@ class HostLink(Subscription):
 
 
 class HostClient:
-    """What a front end knows by its connection of one window, and says of itself there. A call is for when it is known who else is there."""
+    """What a front end knows of one window by its connection, and says there. A call is for when it is known who else is there."""
 
     def __init__(self, link: HostLink, number: int, knows: Callable[[], object]) -> None:
         self.link, self.number, self.knows = link, number, knows

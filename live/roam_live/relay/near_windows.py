@@ -10,7 +10,6 @@ from roam_live.common.errors import Fault, reason, say
 from roam_live.common.event_loop import Loop
 from roam_live.common.files import replace_text
 from roam_live.common.listener import Listener
-from roam_live.protocol.datagram_stream import Carrier
 from roam_live.relay.far_windows import leads_of
 from roam_live.relay.near_sockets import NearSockets
 from roam_live.session.window_state import numbers_in, window_folder, windows_folder

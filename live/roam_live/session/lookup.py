@@ -6,51 +6,59 @@ import os
 import pathlib
 
 from roam_live.common.errors import Fault
-from roam_live.session.folder import FolderSession
-from roam_live.session.names import LONGEST_PATH, NAME, NEAR_NAME, base, check_name
-from roam_live.session.remote import NearSession
+from roam_live.common.unix_socket import is_listened
+from roam_live.session.local import Session, Window
+from roam_live.session.names import LONGEST_PATH, NAME, NEAR_NAME, base
+from roam_live.session.remote import RemoteSession
+from roam_live.session.roles import ROLES
 from roam_live.session.window_state import NUMBER, WINDOWS
-from roam_live.session.windowed import Window, WindowedSession
+
+TYPE_CHECKING = False
+if TYPE_CHECKING:
+    from roam_live.session.place import Place
 
 
-def session_named(name: str) -> FolderSession:
+def session_named(name: str) -> Place:
     """The session of a name: one of this machine, or what stands here for one of another."""
     if not NEAR_NAME.fullmatch(name):
-        check_name(name)
-        return session_in(base() / name)
-    session = NearSession(base() / name, name)
-    if not session.folder.is_dir():
+        session = Session.named(name)
+        if is_by_hand(session.folder):
+            raise Fault(f"{session.folder} has a server that was started by hand, and is no session of mux; `live/attach` of it attaches")
+        return session
+    near = RemoteSession(base() / name, name)
+    if not near.folder.is_dir():
         raise Fault(f"no session {name} is here")
-    return session
+    return near
 
 
-def sessions_here() -> list[FolderSession]:
+def is_by_hand(folder: pathlib.Path) -> bool:
+    """Return True if a server was started by hand in a folder: its sockets are in the folder itself."""
+    path = folder / ROLES["server"].socket
+    return os.path.lexists(path) and is_listened(path)
+
+
+def sessions_here() -> list[Place]:
     """The sessions of which there are folders, by name: those of other machines behind those of this one."""
     folders = sorted(path for path in base().iterdir() if path.is_dir() and len(str(path / "terminals")) <= LONGEST_PATH)
-    own: list[FolderSession] = []
+    own: list[Place] = []
     for path in folders:
         # One whose path is too long for its windows' sockets can't be one.
         with contextlib.suppress(Fault):
-            own += [session_in(path)] if NAME.fullmatch(path.name) else []
-    return own + [NearSession(path) for path in folders if NEAR_NAME.fullmatch(path.name)]
+            own += [Session(path)] if NAME.fullmatch(path.name) and not is_by_hand(path) else []
+    return own + [RemoteSession(path) for path in folders if NEAR_NAME.fullmatch(path.name)]
 
 
 def sweep() -> None:
     """Cleans up after the sessions of this machine that ended while nobody was there who did."""
     for session in sessions_here():
         with contextlib.suppress(Fault):
-            if session.served != NearSession.served and not session.find():
+            if session.served != RemoteSession.served and not session.find():
                 session.drop_ended()
 
 
-def session_in(folder: pathlib.Path) -> FolderSession:
-    """The session of a folder: one with windows, but where a server has its sockets in the folder itself, as one that was begun by hand."""
-    return FolderSession(folder) if os.path.lexists(folder / "clients") else WindowedSession(folder)
-
-
-def window_in(folder: str | os.PathLike[str], server: int | None = None) -> FolderSession:
-    """What is served in a folder: a window of a session, where it is that of one, or a session of one window."""
+def window_in(folder: str | os.PathLike[str], server: int | None = None) -> Window:
+    """What is served in a folder: a window of a session, where it is that of one, or one that was started by hand."""
     path = pathlib.Path(folder).absolute()
     if path.parent.name == WINDOWS and NUMBER.fullmatch(path.name) and NAME.fullmatch(path.parent.parent.name):
-        return Window(WindowedSession(path.parent.parent), int(path.name), server)
-    return FolderSession(folder, server=server)
+        return Session(path.parent.parent).window_of(int(path.name), server)
+    return Window(folder, server)

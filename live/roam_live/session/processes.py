@@ -15,6 +15,7 @@ from roam_live.common.files import is_own_folder, make_room, replace_text
 from roam_live.common.process import begun, is_running
 from roam_live.common.unix_socket import SAID_AFTER, SocketPeer, connected_in
 from roam_live.session.front_end_lock import FRONT_ENDS
+from roam_live.session.roles import NOTED, ROLES
 
 TYPE_CHECKING = False
 if TYPE_CHECKING:
@@ -35,9 +36,6 @@ LEFT_WAIT = 0.5
 # So many seconds who listens at a socket of the folder has for taking a connection, by which it is known.
 ASK_WAIT = 0.5
 
-# The roles of processes, in words.
-ROLES = {"server": "the server", "relay": "the relay", "host": "the pty host", "client": "the client process"}
-
 # No note has so many characters: one has the command of the panes, which the system bounds.
 MOST_NOTE = 1 << 24
 
@@ -52,8 +50,18 @@ def is_note(state: object) -> bool:
     """Whether this may be a note: words, with each process and the moment at which it began."""
     if not isinstance(state, dict):
         return False
-    noted = [state[role] for role in ROLES if role in state]
+    noted = [state[role] for role in NOTED if role in state]
     return all(isinstance(one, list) and len(one) == 2 and type(one[0]) is int and type(one[1]) in (int, type(None)) for one in noted)
+
+
+def noted_in(path: str | os.PathLike[str]) -> State | None:
+    """Return what a file notes of processes; None if that isn't whole. OSError if it can't be read."""
+    try:
+        with open(path, encoding="utf-8") as note:
+            state = json.loads(note.read(MOST_NOTE))
+    except (ValueError, RecursionError):
+        return None
+    return dict(state) if is_note(state) else None
 
 
 def signal_now(process: int, number: int) -> None:
@@ -110,22 +118,18 @@ class Processes:
         self.own: dict[str, subprocess.Popen[bytes]] = {}
         # The process that serves, and when it began, as it ran when it was last looked at.
         self.met: tuple[int, int | None] | None = (server, begun(server)) if server else None
-        # Why the note couldn't be read, where one may be there.
+        # What is noted; and why the note couldn't be read, where one may be there.
+        self.state: State | None = None
         self.unread = ""
         self.read()
 
     def read(self) -> None:
         """Reads what was noted of it: nothing where the note isn't whole."""
-        self.unread = ""
-        state = None
+        self.unread, self.state = "", None
         try:
-            with open(self.note, encoding="utf-8") as note:
-                state = json.loads(note.read(MOST_NOTE))
+            self.state = noted_in(self.note)
         except OSError as fault:
             self.unread = "" if is_absent(fault) else reason(fault)
-        except (ValueError, RecursionError):
-            pass
-        self.state: State | None = state if is_note(state) else None
 
     def demand_read(self) -> None:
         """Refuses where the note couldn't be read: what isn't known may be there."""
@@ -240,6 +244,7 @@ class Processes:
             parts()
             self.note_own(role)
 
+        refused = f"session {self.name}: {ROLES[role].said} can't be spawned"
         try:
             replace_text(self.note, json.dumps(self.state))
             make_room(self.log)
@@ -249,9 +254,9 @@ class Processes:
                 process = subprocess.Popen(words, stdin=subprocess.DEVNULL, stdout=output, stderr=errors, preexec_fn=begin)
         except OSError as fault:
             where = f"{fault.filename}: " if fault.filename else ""
-            raise Fault(f"session {self.name}: {ROLES[role]} can't be spawned: {where}{reason(fault)}") from fault
+            raise Fault(f"{refused}: {where}{reason(fault)}") from fault
         except subprocess.SubprocessError as fault:
-            raise Fault(f"session {self.name}: {ROLES[role]} can't be spawned: it can't be noted in {self.note}{self.unnoted()}") from fault
+            raise Fault(f"{refused}: it can't be noted in {self.note}{self.unnoted()}") from fault
         self.state = {**(self.state or {}), role: [process.pid, begun(process.pid)]}
         self.own[role] = process
         return process
@@ -301,7 +306,7 @@ class Processes:
             time.sleep(0.005)
         process.kill()
         process.wait()
-        raise Fault(f"session {self.name}: {ROLES[role]} didn't come up: {self.said(before) or f'nothing is said; see {self.log}'}")
+        raise Fault(f"session {self.name}: {ROLES[role].said} didn't come up: {self.said(before) or f'nothing is said; see {self.log}'}")
 
     # ---- ends
 

@@ -7,9 +7,10 @@ import signal
 import time
 
 from roam_live.common.errors import Fault
-from roam_live.common.process import TOOLS, end_words, holder_of
-from roam_live.session.folder import VERSION, FolderSession
-from roam_live.session.window_state import WINDOWS, numbers_in
+from roam_live.common.process import end_words, holder_of
+from roam_live.session.place import Place
+from roam_live.session.roles import relay_words
+from roam_live.session.window_state import WINDOWS, WINDOWS_VERSION, numbers_in
 
 TYPE_CHECKING = False
 if TYPE_CHECKING:
@@ -19,11 +20,25 @@ if TYPE_CHECKING:
 ALONE = 3600
 
 
-class NearSession(FolderSession):
-    """A session of another machine: a relay stands here for its server."""
+class RemoteSession(Place):
+    """A session of another machine, or a window of it: a relay stands here for its server.
+
+    Each window has its sockets in a folder of its own; the lock, the log and the relay are the session's.
+    """
 
     served = "relay"
-    sockets = {"relay": "clients", "client": "terminals"}
+    roles = ("relay", "client")
+
+    def __init__(self, folder: str | os.PathLike[str], name: str | None = None, session: RemoteSession | None = None,
+                 number: int = 0) -> None:
+        super().__init__(folder, name)
+        self.session, self.number = session, number
+        if session:
+            self.common, self.log = session.folder, session.log
+
+    def whole_session(self) -> RemoteSession:
+        """The session of which this is a window, or itself."""
+        return self.session or self
 
     def holder(self) -> int | None:
         """The relay, by the folder that it holds."""
@@ -31,21 +46,27 @@ class NearSession(FolderSession):
 
     # ---- its windows
 
-    def windows(self) -> list[FolderSession]:
+    def windows(self) -> list[Place]:
         """The windows that are told here, in order; itself where none is, as of a session there that was begun by hand."""
-        folder = self.folder / WINDOWS
+        whole, folder = self.whole_session(), self.common / WINDOWS
         numbers = [number for number in numbers_in(str(folder)) if (folder / str(number) / "session").exists()]
-        return [NearWindow(self, number) for number in numbers] or [self]
+        return [RemoteSession(folder / str(number), f"{whole.name}:{number}", whole, number) for number in numbers] or [whole]
 
-    def window(self, number: int | None = None) -> FolderSession:
-        """A window by its number; else that of its own session's id, which the relay's own window has, or the first."""
+    def window(self, number: int | None = None) -> Place:
+        """A window by its number; else this one, or that of its own session's id, which the relay's own window has, or the first."""
+        if self.session and number in (None, self.number):
+            return self
         there = self.windows()
-        named = [window for window in there if window.number == number or number is None and window.id() == self.id()]
+        named = [window for window in there if window.number == number or number is None and self.is_own(window)]
         if not named and number is not None:
             one = "has one window here, as one that was begun by hand there, and no window"
             why = f"has no window {number}" if there[0].number else f"{one} {number}"
-            raise Fault(f"session {self.name} {why}")
+            raise Fault(f"session {self.whole_session().name} {why}")
         return (named or there)[0]
+
+    def is_own(self, window: Place) -> bool:
+        """Return True if a window is the relay's own."""
+        return window.id() == self.id()
 
     def await_windows(self, number: int | None, seconds: float) -> None:
         """Waits until the other machine tells its windows, that of a number too where one is named, or for so long: one that was begun by
@@ -57,38 +78,40 @@ class NearSession(FolderSession):
                 return
             time.sleep(0.01)
 
-    def shown_window(self, windows: list[FolderSession]) -> FolderSession:
+    def shown_window(self, windows: list[Place]) -> Place:
         """Return the window that is the relay's own."""
-        return next((window for window in windows if window.id() == self.id()), windows[0])
+        return next((window for window in windows if self.is_own(window)), windows[0])
 
-    def end_all(self) -> None:
-        """Ends the relay, and the client processes of all windows."""
-        windows = [window for window in self.windows() if window is not self]
-        super().end_all()
-        for window in windows:
-            window.end("client")
+    # ---- what is known of it, and belongs to it
 
-    def launch(self, command: Iterable[str] = ()) -> None:
-        """Refuses: how ssh is called isn't known."""
-        raise Fault(f"no relay to {self.name} is running; `mux ssh` launches one")
+    def process(self, role: str) -> int | None:
+        """The process of a role: the relay is the session's."""
+        return self.session.process(role) if self.session and role == self.served else super().process(role)
 
-    def demand_host(self) -> None:
-        """Leaves the shells to the other machine."""
+    def find(self) -> bool:
+        """Whether it is there."""
+        return self.session.find() and (self.folder / "session").exists() if self.session else super().find()
+
+    def taken_lock(self, may_wait: bool) -> int:
+        """The session's lock, once this process has it."""
+        return self.session.taken_lock(may_wait) if self.session else super().taken_lock(may_wait)
 
     def lacking(self) -> str:
         """Says nothing of the shells, which the other machine keeps."""
         return ""
+
+    def launch(self, command: Iterable[str] = ()) -> None:
+        """Refuses: how ssh is called isn't known."""
+        raise Fault(f"no relay to {self.whole_session().name} is running; `mux ssh` launches one")
 
     def launch_relay(self, command: list[str], host: str = "") -> int:
         """Starts a relay over a command, which may ask at this terminal until it has answered, and by UDP to a host, where one is named;
         tells the status of one that didn't answer, and leaves no folder then."""
         self.clean()
         (self.folder / "ended").unlink(missing_ok=True)
-        self.state = {"version": VERSION}
-        words = [str(TOOLS / "relay"), "--alone", str(ALONE), "--log", str(self.log), *([f"--host={host}"] if host else [])]
-        words += ["--dir", str(self.folder), "-", *command]
+        self.state = {"version": WINDOWS_VERSION}
         with self.whole():
-            relay = self.spawned("relay", words, in_front, is_heard=True)
+            relay = self.spawned("relay", relay_words(self.folder, self.log, ALONE, host, command), in_front, is_heard=True)
             try:
                 has_answered = bool(relay.stdout and relay.stdout.readline())
             finally:
@@ -99,13 +122,13 @@ class NearSession(FolderSession):
             self.forget()
         return status
 
-    def busy(self) -> dict[int, str] | None:
-        """What runs in its panes isn't known here."""
-        return None
+    # ---- its end
 
     def ending(self) -> tuple[str, int]:
         """What is said where the relay has ended, and the status."""
-        if self.met and self.ended() == end_words(*self.met):
+        if self.session:
+            return self.session.ending()
+        if self.met and end_words(*self.met) in self.ended().splitlines():
             return "[the relay was ended; the session goes on at the other machine]", 0
         if self.ended() == "killed":
             return "[the server was killed, or has failed, and its session is gone]", 1
@@ -113,56 +136,19 @@ class NearSession(FolderSession):
             return "[the session has ended]", 0
         return f"[the relay has ended; {self.log} tells why]", 1
 
+    def end_all(self) -> None:
+        """Ends the relay, and the client processes of all windows."""
+        windows = [window for window in self.windows() if window is not self]
+        super().end_all()
+        for window in windows:
+            window.end("client")
 
-class NearWindow(FolderSession):
-    """A window of another machine's session: the relay of that stands for its server, and has its sockets in a folder of their own."""
+    def clean(self) -> None:
+        """Removes what a relay that doesn't run any more left, with its windows."""
+        import shutil
 
-    served = "relay"
-    sockets = {"relay": "clients", "client": "terminals"}
-
-    def __init__(self, session: NearSession, number: int) -> None:
-        super().__init__(session.folder / WINDOWS / str(number), f"{session.name}:{number}")
-        self.session, self.number = session, number
-        self.common, self.log = session.folder, session.log
-
-    def whole_session(self) -> FolderSession:
-        """The session of which this is a window."""
-        return self.session
-
-    def windows(self) -> list[FolderSession]:
-        """The windows of its session."""
-        return self.session.windows()
-
-    def window(self, number: int | None = None) -> FolderSession:
-        """A window of its session by its number, else this one."""
-        return self if number in (None, self.number) else self.session.window(number)
-
-    def process(self, role: str) -> int | None:
-        """The process of a role: the relay is the session's."""
-        return self.session.process(role) if role == self.served else super().process(role)
-
-    def find(self) -> bool:
-        """Whether it is there."""
-        return self.session.find() and (self.folder / "session").exists()
-
-    def taken_lock(self, may_wait: bool) -> int:
-        """The session's lock, once this process has it."""
-        return self.session.taken_lock(may_wait)
-
-    def busy(self) -> dict[int, str] | None:
-        """What runs in its panes isn't known here."""
-        return None
-
-    def ending(self) -> tuple[str, int]:
-        """What is said where the relay has ended, and the status."""
-        return self.session.ending()
-
-    def demand_host(self) -> None:
-        """Leaves the shells to the other machine."""
-
-    def launch(self, command: Iterable[str] = ()) -> None:
-        """Refuses: windows are opened at the other machine."""
-        self.session.launch(command)
+        super().clean()
+        shutil.rmtree(self.folder / WINDOWS, ignore_errors=True)
 
 
 def in_front() -> None:

@@ -10,7 +10,8 @@ from roam_live.cli.scrollback import RowsAsked
 from roam_live.cli.targets import making_of
 from roam_live.common.errors import Fault
 from roam_live.common.process import TOOLS
-from roam_live.session.folder import FolderSession
+from roam_live.session.local import Window
+from roam_live.session.lookup import window_in
 
 KEPT = 10_000
 
@@ -41,14 +42,14 @@ def grown(process):
 
 def count_of(name=SESSION, pane=1):
     """The numbers of the first row that is kept and of that behind the last."""
-    asked = RowsAsked(FolderSession(window_of(name)))
+    asked = RowsAsked(window_in(window_of(name)))
     number, generation = making_of(asked.session, pane)
     return asked.answer(lambda told: asked.link.count(number, generation, told)) or (0, 0)
 
 
 def kept(name=SESSION, pane=1):
     """All scrollback rows of a pane, without what leads them; none while the scrollback process has too much to read to lend any."""
-    asked = RowsAsked(FolderSession(window_of(name)))
+    asked = RowsAsked(window_in(window_of(name)))
     try:
         snapshot, found = asked.snapshot(pane), []
     except Fault:
@@ -114,7 +115,7 @@ def kept_rows(folder):
 
 def sought(text, numbers):
     """The seconds that a search backward over all rows takes, the best of five."""
-    asked = RowsAsked(FolderSession(window_of(SESSION)))
+    asked = RowsAsked(window_in(window_of(SESSION)))
     snapshot, best = asked.snapshot(1), 60.0
     for _ in range(5):
         begin = time.monotonic()
@@ -219,7 +220,7 @@ def small_rows(folder):
     """A pane of two rows and four columns."""
     subprocess.run([*tool("mux", "new", "-d", SESSION), "sh"], check=True)
     subprocess.run(tool("mux", "send", "-a", SESSION, "size 6 9", "split right", "split down"), check=True)
-    places = FolderSession(window_of(SESSION)).places()
+    places = window_in(window_of(SESSION)).places()
     sizes = {pane: (rect.rows, rect.cols) for pane, rect in places.rects.items()}
     pane = min(sizes, key=lambda number: sizes[number])
     check(f"a pane has {sizes[pane][0]} rows and {sizes[pane][1]} columns", sizes[pane] <= (2, 4), sizes)
@@ -251,7 +252,7 @@ def buffers(folder):
     (folder / "near").mkdir(mode=0o700)
     relay = subprocess.Popen(words, stdout=subprocess.DEVNULL)
     run(outer, "clear; seq 1 5000", "counted")
-    check_far(FolderSession(folder / "near"), long)
+    check_far(Window(folder / "near"), long)
     relay.terminate()
     relay.wait()
 

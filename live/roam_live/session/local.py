@@ -1,17 +1,19 @@
-"""Sessions with windows, and their windows."""
+"""Sessions of this machine and their windows, also a window whose server was started by hand and that belongs to no session."""
 from __future__ import annotations
 
 import contextlib
 import os
+import pathlib
 import time
 
 from roam_live.common.errors import Fault
-from roam_live.common.process import TOOLS, begun, end_words, holder_of, program
+from roam_live.common.process import begun, end_words, holder_of
 from roam_live.common.unix_socket import is_listened
 from roam_live.protocol.window_lines import MOST_WINDOWS, name_in
-from roam_live.session.folder import FolderSession, command_of
-from roam_live.session.names import LONGEST_PATH
+from roam_live.session.names import LONGEST_PATH, base, check_name
+from roam_live.session.place import Place
 from roam_live.session.processes import end_left
+from roam_live.session.roles import ROLES, host_words, server_words
 from roam_live.session.window_state import JOINED, SPARE, WINDOWS, WINDOWS_VERSION, is_spare_server, note_ends, numbers_in
 
 TYPE_CHECKING = False
@@ -25,12 +27,11 @@ FIRST = 1
 END_SOON = 1.0
 
 
-class WindowedSession(FolderSession):
-    """A session with windows: its note has the pty host, which has the rest."""
+class Session(Place):
+    """A session: its note has the pty host, which has the rest."""
 
     served = "host"
-    sockets = {"host": "host"}
-    version = WINDOWS_VERSION
+    roles = ("host",)
 
     def __init__(self, folder: str | os.PathLike[str]) -> None:
         super().__init__(folder)
@@ -38,20 +39,30 @@ class WindowedSession(FolderSession):
         if len(str(self.folder_of_windows / str(MOST_WINDOWS) / "terminals")) > LONGEST_PATH:
             raise Fault(f"{self.folder} is too long for a socket's path")
 
+    @classmethod
+    def named(cls, name: str) -> Session:
+        """That of a name."""
+        check_name(name)
+        return cls(base() / name)
+
     # ---- its windows
 
     def all_windows(self) -> list[Window]:
         """The windows of which there are folders, in order, whether they run or not."""
-        return [Window(self, number) for number in numbers_in(str(self.folder_of_windows))]
+        return [self.window_of(number) for number in numbers_in(str(self.folder_of_windows))]
 
-    def windows(self) -> list[FolderSession]:
+    def window_of(self, number: int, server: int | None = None) -> Window:
+        """Return the window of a number, whether it is there or not."""
+        return Window(self.folder_of_windows / str(number), server, self, number)
+
+    def windows(self) -> list[Place]:
         """The windows that run, in order."""
         return [window for window in self.all_windows() if window.find() and not window.is_spare()]
 
-    def window(self, number: int | None = None) -> FolderSession:
+    def window(self, number: int | None = None) -> Place:
         """A window by its number, else the one where somebody was last; Fault where it isn't there."""
         if number is not None:
-            named = Window(self, number) if number in numbers_in(str(self.folder_of_windows)) else None
+            named = self.window_of(number) if number in numbers_in(str(self.folder_of_windows)) else None
             if not named or not named.find() or named.is_spare():
                 raise Fault(f"session {self.name} has no window {number}")
             return named
@@ -82,11 +93,11 @@ class WindowedSession(FolderSession):
             return True
         self.demand_read()
         with contextlib.suppress(Fault):
-            host = self.listener(self.sockets[self.served])
+            host = self.listener(ROLES[self.served].socket)
             host = self.holder() if host is None else host
             if host is not None:
                 command = command_of(host, self.folder)
-                self.state = {"version": self.version, "command": command, self.served: [host, begun(host)]}
+                self.state = {"version": WINDOWS_VERSION, "command": command, self.served: [host, begun(host)]}
                 self.is_found = True
                 return True
         return bool(self.windows())
@@ -104,8 +115,8 @@ class WindowedSession(FolderSession):
     def launch(self, command: Iterable[str] = ()) -> None:
         """Launches the pty host, and the server of the first, with a command in place of each shell; all or nothing."""
         self.clean()
-        self.state = {"version": self.version, "command": list(command)}
-        window = Window(self, FIRST)
+        self.state = {"version": WINDOWS_VERSION, "command": list(command)}
+        window = self.window_of(FIRST)
         window.name = self.name
         with self.whole():
             # It takes longest, and waits for the server of the first window, which is spawned meanwhile.
@@ -119,9 +130,8 @@ class WindowedSession(FolderSession):
 
     def spawn_host(self, more: Iterable[str] = ()) -> None:
         """Spawns the pty host."""
-        self.state = self.state or {"version": self.version, "command": []}
-        words = [str(TOOLS / "pane_shells"), "--windows", *more, str(self.folder), *self.state.get("command", ())]
-        self.spawned("host", words)
+        self.state = self.state or {"version": WINDOWS_VERSION, "command": []}
+        self.spawned("host", host_words(self.folder, self.state.get("command", ()), more))
 
     def demand_host(self) -> None:
         """Sees that the pty host runs, and one of them is there."""
@@ -197,44 +207,51 @@ class WindowedSession(FolderSession):
 
     # ---- what `mux ls` says
 
-    def shown_window(self, windows: list[FolderSession]) -> FolderSession:
+    def shown_window(self, windows: list[Place]) -> Place:
         """Return the window where somebody was last."""
         last = self.last()
         return next((window for window in windows if window.number == last), windows[0])
 
 
-class Window(FolderSession):
-    """A window of a session: its server and its client, as they are noted in its folder. Its lock, its log, and the pty host are
-    the session's."""
+class Window(Place):
+    """A window: its server and its client, as they are noted in its folder.
 
-    version = WINDOWS_VERSION
-    sockets = {"server": "clients", "client": "terminals"}
+    One of a session has the session's lock, log and pty host. One whose server was started by hand has no session and the number 0; its pty
+    host listens in its own folder and is never spawned here.
+    """
 
-    def __init__(self, session: WindowedSession, number: int, server: int | None = None) -> None:
-        super().__init__(session.folder_of_windows / str(number), f"{session.name}:{number}", server)
+    def __init__(self, folder: str | os.PathLike[str], server: int | None = None, session: Session | None = None, number: int = 0) -> None:
+        super().__init__(folder, f"{session.name}:{number}" if session else None, server)
         self.session, self.number = session, number
-        self.common, self.log = session.folder, session.log
+        if session:
+            self.common, self.log = session.folder, session.log
+        else:
+            self.roles = ("server", "host", "client")
 
-    def whole_session(self) -> FolderSession:
-        """The session of which this is a window."""
-        return self.session
+    def whole_session(self) -> Place:
+        """The session of which this is a window, or itself."""
+        return self.session or self
 
-    def windows(self) -> list[FolderSession]:
+    def windows(self) -> list[Place]:
         """The windows of its session that run."""
-        return self.session.windows()
+        return self.session.windows() if self.session else [self]
 
-    def window(self, number: int | None = None) -> FolderSession:
+    def window(self, number: int | None = None) -> Place:
         """A window of its session by its number, else this one."""
-        return self if number in (None, self.number) else self.session.window(number)
+        if number in (None, self.number or 1):
+            return self
+        if not self.session:
+            raise Fault(f"session {self.name} has one window, as one that was begun by hand, and no window {number}")
+        return self.session.window(number)
 
     def spawn_server(self) -> None:
         """Spawns the server, in the window's folder, which is made."""
         for folder in (self.folder.parent, self.folder):
             folder.mkdir(mode=0o700, exist_ok=True)
-        self.state = {"version": self.version}
+        self.state = {"version": WINDOWS_VERSION}
         before = self.logged()
         try:
-            self.spawned("server", [program(), "serve", "--normalize", "--dir", str(self.folder)])
+            self.spawned("server", server_words(self.folder))
             self.wait_for("server", before, lambda: (self.folder / "session").exists() and self.is_served())
         except BaseException:
             self.end_all()
@@ -258,38 +275,34 @@ class Window(FolderSession):
 
     def process(self, role: str) -> int | None:
         """The process of a role; None where none runs."""
-        if role == "host":
+        if role == "host" and self.session:
             self.session.read()
             return self.session.process(role)
         return super().process(role)
 
     def busy(self) -> dict[int, str] | None:
-        """The panes in which another program than a shell runs, and its name."""
+        """Return the panes in which something else than a shell runs, with its name; None if nothing tells which pty host it has."""
         from roam_live.session.foreground import busy_panes
 
         host = self.process("host")
-        return busy_panes(host, str(self.folder)) if host else {}
-
-    def ending(self) -> tuple[str, int]:
-        """What is said where its server has ended, and the status."""
-        if self.met and end_words(*self.met) in self.session.ended().splitlines():
-            return "[the session has ended]", 0
-        return f"[the server was killed, or has failed, and its session is gone; {self.log} may tell why]", 1
-
-    def note_end(self) -> None:
-        """Notes that its server is about to be ended on purpose."""
-        if self.runs() and self.met:
-            note_ends(str(self.common), [end_words(*self.met)])
+        if self.session:
+            return busy_panes(host, str(self.folder)) if host else {}
+        if host is None and not self.is_found and (self.served in (self.state or {}) or "host" in (self.state or {})):
+            # What kept its shells has ended.
+            return {}
+        with contextlib.suppress(Fault):
+            host = self.listener(ROLES["host"].socket) if host is None else host
+        return None if host is None else busy_panes(host)
 
     # ---- what belongs to it
 
     def taken_lock(self, may_wait: bool) -> int:
         """The session's lock, once this process has it."""
-        return self.session.taken_lock(may_wait)
+        return self.session.taken_lock(may_wait) if self.session else super().taken_lock(may_wait)
 
     def launch(self, command: Iterable[str] = ()) -> None:
         """Refuses: the pty host opens them."""
-        raise Fault(f"session {self.session.name}: what keeps its windows opens them")
+        raise Fault(f"session {self.whole_session().name}: what keeps its windows opens them")
 
     def demand_client(self) -> None:
         """Sees that the client of this machine's terminals runs, and is ready; what was found by its sockets is noted again."""
@@ -298,16 +311,19 @@ class Window(FolderSession):
 
     def demand_host(self) -> None:
         """Sees that the pty host runs."""
-        self.session.read()
-        self.session.demand_host()
+        if self.session:
+            self.session.read()
+            self.session.demand_host()
 
     def revive_host(self) -> bool:
         """Spawns the pty host anew, where it has ended; tells whether it runs."""
-        return self.session.revive_host()
+        return self.session is not None and self.session.revive_host()
 
     def end_all(self) -> None:
         """Ends its processes."""
-        for role in ("server", "client"):
+        if not self.session:
+            self.note_end()
+        for role in self.roles:
             self.end(role)
 
     def clean(self) -> None:
@@ -318,3 +334,12 @@ class Window(FolderSession):
         for folder in (self.folder / "relays", self.folder):
             with contextlib.suppress(OSError):
                 folder.rmdir()
+
+
+def command_of(host: int | None, folder: pathlib.Path) -> list[str]:
+    """The command that a process keeps in each pane of a folder's session; none where it is the shell, or isn't known."""
+    try:
+        words = pathlib.Path(f"/proc/{host}/cmdline").read_bytes().split(b"\0")[:-1]
+        return [os.fsdecode(word) for word in words[words.index(os.fsencode(folder)) + 1 :]]
+    except (OSError, ValueError):
+        return []

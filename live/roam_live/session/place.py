@@ -1,22 +1,22 @@
-"""A session by its folder: a server, or a relay to one, the process of its shells, and the client of this machine's terminals."""
+"""A folder of a session, or of one of its windows: how the processes there are found, cleaned up after and listed."""
 from __future__ import annotations
 
 import contextlib
 import json
 import os
-import pathlib
 import time
 
 from roam_live.common.errors import Fault
 from roam_live.common.files import is_locked, is_own_folder, replace_text
-from roam_live.common.process import TOOLS, age_of, begun, end_words, is_stopped, note_end, program
+from roam_live.common.process import age_of, begun, end_words, is_stopped
 from roam_live.common.unix_socket import is_listened
 from roam_live.protocol.panes import ASKED, MOST_CLIENTS, asked_places
 from roam_live.session.environment import LINK
 from roam_live.session.front_end_lock import FRONT_ENDS, has_front_ends
-from roam_live.session.names import LONGEST_PATH, base, check_name
-from roam_live.session.processes import START_WAIT, Processes, end_left
-from roam_live.session.window_state import REMOTE_CLIENTS, WINDOWS
+from roam_live.session.names import LONGEST_PATH
+from roam_live.session.processes import START_WAIT, Processes
+from roam_live.session.roles import ROLES, client_words
+from roam_live.session.window_state import REMOTE_CLIENTS, WINDOWS_VERSION, note_ends
 
 TYPE_CHECKING = False
 if TYPE_CHECKING:
@@ -24,9 +24,6 @@ if TYPE_CHECKING:
 
     from roam_live.protocol.panes import Places
     from roam_live.session.survey import Survey
-
-# What the note of a session of one window is like.
-VERSION = 3
 
 # So many seconds it is waited for being told whether there is room for a client, before it is spawned: a person waits for that.
 ROOM_ASKED = 0.25
@@ -45,57 +42,44 @@ NO_ANSWER = ", its pty host does not answer"
 SOCKETS = ("clients", "panes", "terminals", "host", *(f"p{pane}" for pane in range(1, 10)))
 
 
-class FolderSession(Processes):
-    """A session: its folder, and what was noted of it.
+class Place(Processes):
+    """A folder in which processes listen: of a session, or of a window. What a session is and has its kinds tell."""
 
-    One that was noted by `mux` has a process whose end is the session's; of one whose server was spawned by hand the folder is all that is
-    known.
-    """
-
-    # What its note is like, and the socket at which the process of each role listens.
-    version = VERSION
-    sockets = {"server": "clients", "host": "host", "client": "terminals"}
+    # The roles of the processes that listen in the folder.
+    roles: tuple[str, ...] = ("server", "client")
 
     def __init__(self, folder: str | os.PathLike[str], name: str | None = None, server: int | None = None) -> None:
         super().__init__(folder, server)
         self.name = name or self.folder.name
         # Whether its processes were found by its sockets.
         self.is_found = False
-        # Where front ends are noted, and what is one for all windows; and the number of the window, where it is one of several.
+        # The folder of the session, and the number of the window, 0 if it has none.
         self.common = self.folder
         self.number = 0
-        self.terminals = self.folder / "terminals"
+        self.terminals = self.folder / ROLES["client"].socket
         if len(str(self.terminals)) > LONGEST_PATH:
             raise Fault(f"{self.folder} is too long for a socket's path")
-
-    @classmethod
-    def named(cls, name: str) -> FolderSession:
-        """That of a name."""
-        check_name(name)
-        return cls(base() / name)
 
     def __str__(self) -> str:
         return f"in {self.folder}"
 
     # ---- its windows
 
-    def windows(self) -> list[FolderSession]:
-        """Its windows, in order: itself, where it has no others."""
-        return [self]
+    def windows(self) -> list[Place]:
+        """Return the windows of the session, in order."""
+        raise NotImplementedError
+
+    def window(self, number: int | None = None) -> Place:
+        """Return a window by its number, else the one where somebody was last; Fault if it isn't there."""
+        raise NotImplementedError
+
+    def whole_session(self) -> Place:
+        """Return the session of which this is a window, or itself."""
+        return self
 
     def title(self) -> str:
         """What it is called as a window; nothing where it has no name."""
         return ""
-
-    def window(self, number: int | None = None) -> FolderSession:
-        """A window by its number, else the one where somebody was last; Fault where it isn't there."""
-        if number not in (None, 1):
-            raise Fault(f"session {self.name} has one window, as one that was begun by hand, and no window {number}")
-        return self
-
-    def whole_session(self) -> FolderSession:
-        """The session of which this is a window, or itself."""
-        return self
 
     # ---- what is known of it
 
@@ -116,22 +100,8 @@ class FolderSession(Processes):
         return is_listened(self.folder / "clients")
 
     def busy(self) -> dict[int, str] | None:
-        """The panes in which another program than a shell runs, and its name: in none where what is noted to have kept the shells has
-        ended, or was never begun, as where a client was killed half-way. None where that isn't known: shells that were spawned by hand are
-        noted nowhere, and found by their socket alone."""
-        from roam_live.session.foreground import busy_panes
-
-        if self.state is None:
-            with contextlib.suppress(Fault):
-                self.find()
-        host = self.process("host")
-        noted = self.state if self.state and not self.is_found else {}
-        if host is None and (self.served in noted or "host" in noted):
-            return {}
-        if host is None:
-            with contextlib.suppress(Fault):
-                host = self.listener(self.sockets["host"])
-        return None if host is None else busy_panes(host)
+        """Return the panes in which something else than a shell runs, with its name; None if that is unknown."""
+        return None
 
     def busy_programs(self) -> dict[tuple[int, int], str] | None:
         """The same by windows and panes; 0 is the one of a session that has no others."""
@@ -140,7 +110,7 @@ class FolderSession(Processes):
 
     def ending(self) -> tuple[str, int]:
         """What is said where the process that serves it has ended, and the status: who ends it on purpose notes so before."""
-        if self.met and self.ended() == end_words(*self.met):
+        if self.met and end_words(*self.met) in self.whole_session().ended().splitlines():
             return "[the session has ended]", 0
         return f"[the server was killed, or has failed, and its session is gone; {self.log} may tell why]", 1
 
@@ -154,7 +124,7 @@ class FolderSession(Processes):
     def note_end(self) -> None:
         """Notes that the process that serves it is about to be ended on purpose, so that who follows it tells no fault."""
         if self.runs() and self.met:
-            note_end(self.folder, *self.met)
+            note_ends(str(self.common), [end_words(*self.met)])
 
     # ---- whether it is there
 
@@ -164,17 +134,16 @@ class FolderSession(Processes):
         if self.runs():
             return True
         self.demand_read()
-        process = self.listener(self.sockets[self.served])
+        process = self.listener(ROLES[self.served].socket)
         process = self.holder() if process is None else process
         if process is None:
             return False
         found: dict[str, int | None] = {self.served: process}
-        for role in self.sockets:
+        for role in self.roles:
             if role != self.served:
                 with contextlib.suppress(Fault):
-                    found[role] = self.listener(self.sockets[role])
-        command = command_of(found.get("host"), self.folder)
-        self.state = {"version": self.version, "command": command, **{role: [one, begun(one)] for role, one in found.items() if one}}
+                    found[role] = self.listener(ROLES[role].socket)
+        self.state = {"version": WINDOWS_VERSION, **{role: [one, begun(one)] for role, one in found.items() if one}}
         self.is_found = True
         return self.runs()
 
@@ -195,34 +164,20 @@ class FolderSession(Processes):
     # ---- what belongs to it
 
     def launch(self, command: Iterable[str] = ()) -> None:
-        """Launches the server and its shells, or a command in place of each shell; all or nothing."""
-        self.clean()
-        self.state = {"version": VERSION, "command": list(command)}
-        before = self.logged()
-        with self.whole():
-            self.spawned("server", [program(), "serve", "--normalize", "--dir", str(self.folder)])
-            self.wait_for("server", before, lambda: (self.folder / "session").exists() and self.is_served())
-            self.spawn_host()
+        """Launches what serves the session, and the pty host, with a command in place of each shell; all or nothing."""
+        raise NotImplementedError
 
     def demand_ready(self) -> None:
         """Sees that the pty host is there, where it was spawned just now."""
 
-    def spawn_host(self, more: Iterable[str] = ()) -> None:
-        """Spawns what keeps a shell in each pane."""
-        state = self.state or {}
-        words = [str(TOOLS / "pane_shells"), "--close", "--server", str(state["server"][0]), *more]
-        self.spawned("host", [*words, str(self.folder), *state.get("command", ())])
-
     def demand_host(self) -> None:
-        """Sees that the pty host runs."""
-        if not self.runs("host"):
-            self.spawn_host(["--again"])
+        """Sees that the pty host runs, where it is here."""
 
     def spawn_client(self) -> None:
         """Spawns the client process of this machine's terminals."""
         self.terminals.unlink(missing_ok=True)
-        self.state = self.state or {"version": self.version}
-        self.spawned("client", [program(), "attach", "--dir", str(self.folder), "--terminals", str(self.terminals)])
+        self.state = self.state or {"version": WINDOWS_VERSION}
+        self.spawned("client", client_words(self.folder))
 
     def demand_room(self) -> None:
         """Refuses where the server knows as many clients as it ever does."""
@@ -254,11 +209,8 @@ class FolderSession(Processes):
                 self.spawn_client()
 
     def revive_host(self) -> bool:
-        """Spawns the shells anew where what kept them has ended; tells whether they run."""
-        with contextlib.suppress(BlockingIOError), self.locked(may_wait=False):
-            if self.find():
-                self.demand_host()
-        return self.runs("host")
+        """Spawns the pty host anew where it has ended, and is here; tells whether it runs."""
+        return False
 
     # ---- its end
 
@@ -271,18 +223,12 @@ class FolderSession(Processes):
         notes = [self.folder / name for name in (*SOCKETS, LINK, REMOTE_CLIENTS, "session", "session.new", "state.json")]
         for path in [*(relays.iterdir() if relays.is_dir() else ()), *notes]:
             path.unlink(missing_ok=True)
-        if self.served == "relay":
-            import shutil
-
-            shutil.rmtree(self.folder / WINDOWS, ignore_errors=True)
 
     def end_all(self) -> None:
-        """Ends the session's processes; the shells hang up their programs once the server is gone."""
+        """Ends its processes."""
         self.note_end()
-        scrollback_processes = self.scrollback_processes()
-        for role in (self.served, "host", "client"):
+        for role in (self.served, *self.roles):
             self.end(role)
-        end_left(scrollback_processes)
 
     def kill(self) -> None:
         """Ends what is left of the session, and removes it; its lock is held."""
@@ -334,11 +280,11 @@ class FolderSession(Processes):
             self.drop_ended()
         return self.runs()
 
-    def shown_window(self, windows: list[FolderSession]) -> FolderSession:
+    def shown_window(self, windows: list[Place]) -> Place:
         """Return the window whose size `mux ls` prints."""
         return windows[0]
 
-    def line(self, survey: Survey, windows: list[FolderSession]) -> str:
+    def line(self, survey: Survey, windows: list[Place]) -> str:
         """Return the line of `mux ls`, by what the sockets of its windows answered."""
         places = [survey.places(window.folder) for window in windows]
         shown = survey.places(self.shown_window(windows).folder) if windows else None
@@ -371,12 +317,3 @@ def many_clients(found: Iterable[Places | None]) -> str:
         return ""
     warning = ", new ones of this machine alone are taken" if places.warning() else ""
     return f", {places.clients} of {MOST_CLIENTS} clients{', no other is taken' if places.is_full() else warning}"
-
-
-def command_of(host: int | None, folder: pathlib.Path) -> list[str]:
-    """The command that a process keeps in each pane of a folder's session; none where it is the shell, or isn't known."""
-    try:
-        words = pathlib.Path(f"/proc/{host}/cmdline").read_bytes().split(b"\0")[:-1]
-        return [os.fsdecode(word) for word in words[words.index(os.fsencode(folder)) + 1 :]]
-    except (OSError, ValueError):
-        return []

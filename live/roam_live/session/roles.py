@@ -1,0 +1,56 @@
+"""The processes of a session by roles: what each is called, where it listens, who starts it, when it ends, and the words that run it."""
+from __future__ import annotations
+
+import os
+from collections import namedtuple
+
+from roam_live.common.process import TOOLS, program
+
+TYPE_CHECKING = False
+if TYPE_CHECKING:
+    from collections.abc import Iterable
+
+    Folder = str | os.PathLike[str]
+
+
+class Role(namedtuple("Role", "name said socket starter ends")):
+    """A role: its word in notes, its name in messages, its socket, and in words who starts it and when it ends."""
+
+    name: str
+    said: str
+    socket: str
+    starter: str
+    ends: str
+
+
+ROLES = {role.name: role for role in (
+    Role("server", "the server", "clients", "mux, for the first window; the pty host", "with its window"),
+    Role("client", "the client process", "terminals", "mux, a front end or the pty host", "with its server"),
+    Role("host", "the pty host", "host", "mux, a front end or the far relay", "with the last window"),
+    Role("relay", "the relay", "clients", "mux ssh", "an hour after the last terminal, or with the session"),
+    Role("rows", "the scrollback process", "", "the pty host", "with the pty host"),
+)}
+
+# The roles of which a note may tell.
+NOTED = ("server", "relay", "host", "client")
+
+
+def server_words(folder: Folder) -> list[str]:
+    """Return the words that run the server of a window."""
+    return [program(), "serve", "--normalize", "--dir", str(folder)]
+
+
+def client_words(folder: Folder) -> list[str]:
+    """Return the words that run the client process of a window."""
+    return [program(), "attach", "--dir", str(folder), "--terminals", os.path.join(folder, ROLES["client"].socket)]
+
+
+def host_words(folder: Folder, command: Iterable[str], more: Iterable[str] = ()) -> list[str]:
+    """Return the words that run the pty host of a session, with a command in place of each shell."""
+    return [str(TOOLS / "pane_shells"), "--windows", *more, str(folder), *command]
+
+
+def relay_words(folder: Folder, log: Folder, alone: int, host: str, command: Iterable[str]) -> list[str]:
+    """Return the words that run the near relay of a session, which ends so many seconds after the last terminal."""
+    words = [str(TOOLS / "relay"), "--alone", str(alone), "--log", str(log), *([f"--host={host}"] if host else [])]
+    return [*words, "--dir", str(folder), "-", *command]
