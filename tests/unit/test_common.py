@@ -171,6 +171,41 @@ class Begun(Case):
         common_process.note_end(folder / "none", 17, 99)
 
 
+class Buffers(Case):
+    """Lines and bytes of a stream, and what waits for a connection."""
+
+    def test_records(self):
+        """A line is had once it is whole, and so are bytes; one that is longer than any is none, wherever it is cut."""
+        buffer = io.RecordBuffer(8)
+        for byte in b"ab\n\xff\n12":
+            buffer.kept.append(byte)
+        self.assertEqual([buffer.line(), buffer.line(), buffer.line(), buffer.data(3)], [b"ab", b"\xff", None, None])
+        buffer.kept += b"34567"
+        self.assertEqual((buffer.data(3), bytes(buffer.kept)), (b"123", b"4567"))
+        buffer.kept += b"89a"
+        self.assertIsNone(buffer.line())
+        buffer.kept += b"b"
+        self.assertRaises(io.LongLine, buffer.line)
+        buffer.kept[7:] = b"\n"
+        self.assertEqual((buffer.line(), buffer.kept), (b"456789a", b""))
+        buffer.kept += b"12345678\n"
+        self.assertRaises(io.LongLine, buffer.line)
+
+    def test_peer(self):
+        """Lines that weren't asked for are bounded beside answers, until it has read all."""
+        ours, theirs = self.pair()
+        peer = io.LinePeer(ours)
+        peer.most = 10
+        self.assertEqual((peer.put(["abc", "\ud800"]), peer.put(["abc"])), (True, True))
+        peer.put_answer(b"12345")
+        self.assertEqual((peer.put([]), peer.put([""])), (True, False))
+        self.assertTrue(peer.write())
+        self.assertEqual((theirs.recv(99), peer.answers), (b"abc\n?\nabc\n12345\n", 0))
+        theirs.close()
+        peer.put(["a"])
+        self.assertEqual((peer.write(), bytes(peer.waiting)), (False, b""))
+
+
 class Notes(Case):
     """The lock by which front ends keep a session's folder."""
 

@@ -34,7 +34,7 @@ class TestRecords(unittest.TestCase):
         records = Records()
         for _ in range(100):
             self.assertEqual(records.came(b"full\n" * 1000), [])
-            self.assertLess(len(records.kept), 64)
+            self.assertLess(len(records.kept.kept), 64)
         self.assertEqual(records.came(display_records.BEGIN), [DisplayRecord("events")])
 
     def test_none(self) -> None:

@@ -6,7 +6,7 @@ import unittest
 from aids import Case, StillLoop, read_now
 from roam_live.relay import near_sockets
 from roam_live.relay.forwarding import PipeStreams
-from roam_live.relay.near_sockets import MOST_SUBSCRIBERS, MOST_WAITING, NearSockets
+from roam_live.relay.near_sockets import MOST_SUBSCRIBERS, NearSockets, PanesPeer
 
 LINES = b"1 1 1 23 39 1\n2 1 41 23 39 1\nfocus 1\nclients 1 of 64\nwatchers 0 of 16\n"
 
@@ -262,7 +262,7 @@ class Panes(Sockets):
                 got += read_now(other)
         self.turn(4)
         self.assertEqual(len(self.sockets.panes.peers), 1)
-        self.assertLessEqual(max(len(peer.waiting) for peer in self.sockets.panes.peers), MOST_WAITING)
+        self.assertLessEqual(max(len(peer.waiting) for peer in self.sockets.panes.peers), PanesPeer.most)
         self.assertGreater(len(got + read_now(other)), 60000 * 7)
         self.assertTrue(slow)
 

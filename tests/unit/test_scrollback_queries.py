@@ -8,7 +8,8 @@ from roam_live.host import scrollback, socket_server
 from roam_live.host.paste_buffers import (EMPTY, MOST_BUFFER, MOST_BUFFERS, MOST_COMING, READ_ONLY, TOO_LONG, TOO_MUCH, UNKNOWN, Buffers,
                                           sample)
 from roam_live.host.scrollback import SCREEN_WAIT, Scrollback
-from roam_live.host.socket_server import MOST_WAITING, UNREAD
+from roam_live.host.socket_peer import HostPeer
+from roam_live.host.socket_server import UNREAD
 from test_socket_server import Sockets
 
 NAME = "00112233445566aa"
@@ -204,7 +205,7 @@ class Asked(Rows):
         for _ in range(300):
             self.prints(b"rows 0 100 600\n" + rows)
         self.assertTrue(self.scrollback.reads())
-        self.assertLess(len(self.socket.peers[0].waiting), MOST_WAITING + 2000)
+        self.assertLess(len(self.socket.peers[0].waiting), HostPeer.most + 2000)
         self.now += UNREAD + 1
         self.loop.turns(2)
         self.assertEqual(len(self.socket.peers), 1)
@@ -232,8 +233,8 @@ class Taken(Rows):
             one.send(b"rows 1 5 0 2000\n")
         self.loop.turns(200)
         peer = self.socket.peers[0]
-        self.assertGreater(len(peer.waiting), MOST_WAITING)
-        self.assertLess(len(peer.waiting), MOST_WAITING + (1 << 19))
+        self.assertGreater(len(peer.waiting), HostPeer.most)
+        self.assertLess(len(peer.waiting), HostPeer.most + (1 << 19))
         found = b""
         for _ in range(3000):
             found += read_now(one)

@@ -7,7 +7,8 @@ from unittest import mock
 
 from aids import Case, LinkedClient, StillLoop, read_now, without_numbers
 from roam_live.host import foreground_watch
-from roam_live.host.socket_server import LONGEST_LINE, MOST_PEERS, MOST_WAITING, RECONNECTS, HostSocket
+from roam_live.host.socket_peer import LONGEST_LINE, HostPeer
+from roam_live.host.socket_server import MOST_PEERS, RECONNECTS, HostSocket
 from roam_live.host.window_channel import WindowChannel
 from roam_live.protocol import presence
 from roam_live.protocol.host_client import KNOWS
@@ -224,7 +225,7 @@ class Bounds(Sockets):
 
     def test_numbers(self):
         """As docs/LIVE.md has them."""
-        self.assertEqual((MOST_PEERS, LONGEST_LINE, MOST_WAITING), (256, 256, 65536))
+        self.assertEqual((MOST_PEERS, LONGEST_LINE, HostPeer.most), (256, 256, 65536))
 
     def test_most(self):
         """256 are connected; one more waits, which costs nobody anything, until another has left."""
@@ -248,7 +249,7 @@ class Bounds(Sockets):
             if len(self.socket.peers) == 2:
                 break
         self.assertEqual([peer.number for peer in self.socket.peers], [2, 3])
-        self.assertLessEqual(most, MOST_WAITING)
+        self.assertLessEqual(most, HostPeer.most)
         self.assertTrue(got.endswith(f"there 3 {A.replace('24', str(count % 90 + 1))}\nothers 1\n".encode()))
         self.assertTrue(slow)
 

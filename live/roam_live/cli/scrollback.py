@@ -81,10 +81,10 @@ class RowsAsked:
         ask(told.append)
         end = time.monotonic() + ANSWERS
         while not told:
-            before = len(self.reader.came)
+            before = len(self.reader.came.kept)
             if self.heard(max(0.0, end - time.monotonic())) is None:
                 raise Fault(f"session {self.session.name}: the pty host has ended")
-            if len(self.reader.came) != before or self.waiting:
+            if len(self.reader.came.kept) != before or self.waiting:
                 end = max(end, time.monotonic() + ANSWERS)
             elif not told and time.monotonic() >= end:
                 raise Fault(f"session {self.session.name}: the pty host doesn't answer")

@@ -2,6 +2,11 @@
 from __future__ import annotations
 
 import os
+from collections.abc import Iterable
+
+TYPE_CHECKING = False
+if TYPE_CHECKING:
+    import socket
 
 # No line has so many bytes: what is longer is no line, and isn't kept.
 LONGEST_LINE = 1 << 16
@@ -28,6 +33,65 @@ class Lines:
         if self.is_cut or len(self.rest) >= self.longest:
             self.rest, self.is_cut = b"", True
         return [line.decode("utf-8", "replace") for line in lines if len(line) < self.longest]
+
+
+class LongLine(ValueError):
+    """A line that is longer than any may be."""
+
+
+class RecordBuffer:
+    """What came of a stream of lines, some of which have counted bytes behind them. No line has `longest` bytes."""
+
+    def __init__(self, longest: int = LONGEST_LINE) -> None:
+        self.kept, self.longest = bytearray(), longest
+
+    def line(self) -> bytes | None:
+        """Remove and return the next line, None if none is whole; LongLine if it is longer than any may be."""
+        end = self.kept.find(b"\n", 0, self.longest)
+        if end < 0:
+            if len(self.kept) >= self.longest:
+                raise LongLine("a line is longer than any")
+            return None
+        line = bytes(self.kept[:end])
+        del self.kept[: end + 1]
+        return line
+
+    def data(self, count: int) -> bytes | None:
+        """Remove and return so many bytes; None if they aren't all there."""
+        if len(self.kept) < count:
+            return None
+        data = bytes(self.kept[:count])
+        del self.kept[:count]
+        return data
+
+
+class LinePeer:
+    """A connection to which lines are sent. What it didn't ask for is bounded: it has to read that in time."""
+
+    # So many bytes wait at most beside those of answers.
+    most = 1 << 16
+
+    def __init__(self, end: socket.socket) -> None:
+        self.end, self.waiting = end, bytearray()
+        # How many bytes of answers wait since it had read all.
+        self.answers = 0
+
+    def put(self, lines: Iterable[str]) -> bool:
+        """Have lines wait, and return True if that isn't too much."""
+        self.waiting += "".join([f"{line}\n" for line in lines]).encode("utf-8", "replace")
+        return len(self.waiting) <= self.most + self.answers
+
+    def put_answer(self, data: bytes) -> None:
+        """Have an answer wait, which it asked for."""
+        self.waiting += data
+        self.answers += len(data)
+
+    def write(self) -> bool:
+        """Write what it takes, and return True while it is there."""
+        is_there = write(self.end.fileno(), self.waiting)
+        if not self.waiting:
+            self.answers = 0
+        return is_there
 
 
 def read(source: int) -> bytes | None:

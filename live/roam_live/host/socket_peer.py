@@ -3,6 +3,7 @@ from __future__ import annotations
 
 import socket
 
+from roam_live.common.io import LinePeer, RecordBuffer
 from roam_live.protocol.presence import CLIENT, GONE, OTHERS, THERE, Presence
 from roam_live.protocol.zoom_record import NO_ZOOM
 
@@ -11,9 +12,8 @@ if TYPE_CHECKING:
     from roam_live.host.scrollback_queries import RowAsker
     from roam_live.host.window_channel import WindowChannel
 
-# So many bytes at most wait for one who is told something that he didn't ask for: who takes them not is let go. While more of answers wait
-# nothing more is heard of him.
-MOST_WAITING = 1 << 16
+# No line that comes has so many bytes.
+LONGEST_LINE = 256
 
 # Of so many texts one is told at most what becomes of them.
 MOST_NAMES = 64
@@ -40,12 +40,12 @@ class Upload:
         self.left -= count
 
 
-class HostPeer:
+class HostPeer(LinePeer):
     """A connection, by a number of its own: what came of its lines, what waits for it, and the terminal at its other end, if any."""
 
     def __init__(self, end: socket.socket, number: int) -> None:
-        self.end, self.number = end, number
-        self.came, self.waiting = bytearray(), bytearray()
+        super().__init__(end)
+        self.number, self.came = number, RecordBuffer(LONGEST_LINE)
         # What its last line was about; the number of the window where it is, as it said, and that window.
         self.said = 0
         self.at: int | None = None
@@ -66,9 +66,8 @@ class HostPeer:
         # The text that it gives now, and the names of those of which it wants to know what becomes of them.
         self.upload: Upload | None = None
         self.names: dict[str, None] = {}
-        # What it asks of rows; and how many bytes of answers wait since it took all.
+        # What it asks of rows.
         self.asker: RowAsker | None = None
-        self.answers = 0
         # Until when it is waited for, where it writes rows down and doesn't take them.
         self.awaited_until = 0.0
 
@@ -87,7 +86,7 @@ class HostPeer:
 
     def is_full(self) -> bool:
         """Whether much of what it was answered waits for it."""
-        return len(self.waiting) > MOST_WAITING
+        return len(self.waiting) > self.most
 
     def is_read_only(self) -> bool:
         """Whether it said that it only watches."""

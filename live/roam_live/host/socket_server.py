@@ -11,12 +11,12 @@ import socket
 
 from roam_live.common.errors import Fault, reason, say
 from roam_live.common.event_loop import Loop
-from roam_live.common.io import read, write
+from roam_live.common.io import LongLine, read
 from roam_live.common.listener import Listener
 from roam_live.host.paste_buffers import NOTHING, READ_ONLY, UNKNOWN, Buffers
 from roam_live.host.pending_pastes import KEPT, PendingPaste, PendingPastes
 from roam_live.host.scrollback_queries import RowAsker
-from roam_live.host.socket_peer import MOST_WAITING, HostPeer, Upload, client_line
+from roam_live.host.socket_peer import HostPeer, Upload, client_line
 from roam_live.protocol.colours import Colours
 from roam_live.protocol.host_lines import SESSION, led, parted
 from roam_live.protocol.paste_text import LOST, cleaned, random_name
@@ -33,9 +33,6 @@ if TYPE_CHECKING:
 
 # So many are connected at most, front ends of this machine and of others.
 MOST_PEERS = 256
-
-# No line that comes has so many bytes.
-LONGEST_LINE = 256
 
 # Of answers with bytes behind them so many wait for all together; who takes none of one for so many seconds is let go.
 MOST_ANSWERS = 1 << 25
@@ -164,7 +161,7 @@ class HostSocket:
         if chunk == b"":
             self.drop(peer)
             return
-        peer.came += chunk or b""
+        peer.came.kept += chunk or b""
         self.take_lines(peer)
 
     def take_lines(self, peer: HostPeer) -> None:
@@ -173,18 +170,19 @@ class HostSocket:
             self.loop.changed(peer.end)
         while peer in self.peers and not peer.is_busy():
             if peer.upload:
-                peer.upload.take(peer.came)
+                peer.upload.take(peer.came.kept)
                 if peer.upload.left:
                     self.wait_for(peer)
                     return
                 self.take_upload(peer, peer.upload)
-            end = peer.came.find(b"\n", 0, LONGEST_LINE)
-            if end < 0:
-                if len(peer.came) >= LONGEST_LINE:
-                    self.drop(peer)
+            try:
+                told = peer.came.line()
+            except LongLine:
+                self.drop(peer)
                 return
-            number, line = parted(peer.came[:end].decode("utf-8", "replace"))
-            del peer.came[: end + 1]
+            if told is None:
+                return
+            number, line = parted(told.decode("utf-8", "replace"))
             if number is None:
                 self.send(peer, [BAD_LINE])
                 continue
@@ -436,9 +434,9 @@ class HostSocket:
 
     def send_led(self, peer: HostPeer, lines: list[str]) -> None:
         """Send lines that have their number. Drop a peer for whom too much waits."""
-        peer.waiting += "".join([f"{line}\n" for line in lines]).encode("utf-8", "replace")
+        has_room = peer.put(lines)
         self.waits(peer)
-        if len(peer.waiting) > MOST_WAITING + peer.answers:
+        if not has_room:
             self.drop(peer)
 
     def waits(self, peer: HostPeer) -> None:
@@ -453,8 +451,7 @@ class HostSocket:
     def answer(self, peer: HostPeer, data: bytes) -> None:
         """Has an answer with bytes behind it go to one: he asks no more until he took most of it. Where too much waits for all he is let
         go."""
-        peer.waiting += data
-        peer.answers += len(data)
+        peer.put_answer(data)
         self.waits(peer)
         if sum(one.answers for one in self.peers) > MOST_ANSWERS:
             self.drop(peer)
@@ -469,17 +466,16 @@ class HostSocket:
     def write(self, peer: HostPeer) -> None:
         """Writes what one takes."""
         waiting = len(peer.waiting)
-        if not write(peer.end.fileno(), peer.waiting):
+        if not peer.write():
             self.drop(peer)
             return
         if not peer.waiting:
-            peer.answers = 0
             self.loop.drop(f"unread by {peer.number}")
         elif len(peer.waiting) < waiting and peer.answers:
             self.loop.later(f"unread by {peer.number}", UNREAD, lambda: self.drop_unread(peer))
         if peer.logs():
             self.see_to_rows()
-        if peer.came:
+        if peer.came.kept:
             self.take_lines(peer)
 
     def drop(self, peer: HostPeer) -> None:
@@ -505,7 +501,7 @@ class HostSocket:
     def close(self) -> None:
         """Close the socket. What was sent last, as that a pane is gone, goes as far as it is taken."""
         for peer in list(self.peers):
-            write(peer.end.fileno(), peer.waiting)
+            peer.write()
             self.drop(peer)
         for channel in list(self.channels.values()):
             channel.close()

@@ -4,6 +4,8 @@ from __future__ import annotations
 
 from collections import namedtuple
 
+from roam_live.common.io import LongLine, RecordBuffer
+
 # What came before this was painted, and isn't known to the terminal any more.
 BEGIN = b"\nevents\n"
 FULL = b"full\n"
@@ -57,14 +59,14 @@ class Records:
     """Takes what comes over a stream, cut anywhere, and gives the records in it, each once and in order."""
 
     def __init__(self) -> None:
-        self.kept = bytearray()
+        self.kept = RecordBuffer(LONGEST_LINE)
         self.begun = False
         # The record whose bytes aren't there yet.
         self.waiting: DisplayRecord | None = None
 
     def came(self, chunk: bytes) -> list[DisplayRecord]:
         """The records that these bytes end. What was painted before the first one is dropped."""
-        self.kept += chunk
+        self.kept.kept += chunk
         found: list[DisplayRecord] = []
         if not self.begun and not self._begins(found):
             return found
@@ -74,15 +76,16 @@ class Records:
 
     def _begins(self, found: list[DisplayRecord]) -> bool:
         """Whether records have begun; a client without room says so and nothing else."""
-        place = self.kept.find(BEGIN)
+        kept = self.kept.kept
+        place = kept.find(BEGIN)
         if place >= 0:
-            del self.kept[:place + 1]
+            del kept[:place + 1]
             self.begun = True
             return True
-        if self.kept == FULL:
+        if kept == FULL:
             found.append(DisplayRecord("full"))
-        if len(self.kept) > len(FULL):
-            del self.kept[:-len(BEGIN)]
+        if len(kept) > len(FULL):
+            del kept[:-len(BEGIN)]
         return False
 
     def _next(self) -> DisplayRecord | None:
@@ -90,25 +93,17 @@ class Records:
         record = self.waiting or self._line()
         if record is None or record.word not in CARRYING:
             return record
-        count = record.numbers[0]
-        if len(self.kept) < count:
-            self.waiting = record
-            return None
-        self.waiting = None
-        data = bytes(self.kept[:count])
-        del self.kept[:count]
-        return record._replace(data=data)
+        data = self.kept.data(record.numbers[0])
+        self.waiting = record if data is None else None
+        return None if data is None else record._replace(data=data)
 
     def _line(self) -> DisplayRecord | None:
         """The record of the line that stands first, where one does whole."""
-        end = self.kept.find(b"\n", 0, LONGEST_LINE)
-        if end < 0:
-            if len(self.kept) >= LONGEST_LINE:
-                raise NoRecord("a line that doesn't end")
-            return None
-        line = bytes(self.kept[:end])
-        del self.kept[:end + 1]
-        return line_of(line)
+        try:
+            line = self.kept.line()
+        except LongLine:
+            raise NoRecord("a line that doesn't end") from None
+        return None if line is None else line_of(line)
 
 
 class Screen(namedtuple("Screen", "rows cols cursor visible cells")):

@@ -5,6 +5,7 @@ from __future__ import annotations
 from collections import deque, namedtuple
 from collections.abc import Callable
 
+from roam_live.common.io import LongLine, RecordBuffer
 from roam_live.protocol.host_lines import SESSION, parted
 
 TYPE_CHECKING = False
@@ -119,52 +120,55 @@ class AnswerReader:
     LENGTHS = {ROWS: 6, SNAPSHOT: 7}
 
     def __init__(self) -> None:
-        self.came = bytearray()
+        self.came = RecordBuffer()
+        # The answer whose bytes, or lines, aren't all there yet, and how many are missing.
         self.answer: Answer | None = None
         self.missing = self.lines_missing = 0
 
     def fed(self, chunk: bytes) -> list[Answer]:
         """What is whole now; BadAnswer where a line, or what is behind it, is longer than any."""
-        self.came += chunk
+        self.came.kept += chunk
         found: list[Answer] = []
-        while True:
-            if self.answer and self.missing:
-                if len(self.came) < self.missing:
-                    return found
-                self.answer.data = bytes(self.came[: self.missing])
-                del self.came[: self.missing]
-                self.missing = 0
-            elif not self.take_line():
-                return found
-            if self.answer and not self.missing and not self.lines_missing:
-                found.append(self.answer)
-                self.answer = None
+        try:
+            while (answer := self.next()) is not None:
+                found.append(answer)
+        except LongLine as fault:
+            raise BadAnswer(str(fault)) from fault
+        return found
 
-    def take_line(self) -> bool:
-        """Takes a line, and tells whether one was there."""
-        end = self.came.find(b"\n")
-        if end < 0:
-            if len(self.came) >= 1 << 16:
-                raise BadAnswer("a line is longer than any")
-            return False
-        line = self.came[:end].decode("utf-8", "replace")
-        del self.came[: end + 1]
-        if self.answer:
-            self.answer.lines.append(line)
+    def next(self) -> Answer | None:
+        """The next answer that is there whole."""
+        answer = self.answer = self.answer or self.begun()
+        while answer and self.lines_missing:
+            line = self.came.line()
+            if line is None:
+                return None
+            answer.lines.append(line.decode("utf-8", "replace"))
             self.lines_missing -= 1
-            return True
-        number, line = parted(line)
+        if answer and self.missing:
+            data = self.came.data(self.missing)
+            if data is None:
+                return None
+            answer.data, self.missing = data, 0
+        self.answer = None
+        return answer
+
+    def begun(self) -> Answer | None:
+        """The answer that the next line begins."""
+        told = self.came.line()
+        if told is None:
+            return None
+        number, line = parted(told.decode("utf-8", "replace"))
         if number is None:
             raise BadAnswer(line[:80])
-        self.answer = Answer(line.split(" "), number)
-        words = self.answer.words
+        words = line.split(" ")
         if len(words) == self.LENGTHS.get(words[0]) or words[:2] == [BUFFER, SHOW] and words[3:] != [NONE]:
             self.missing = number_at(words, len(words) - 1)
         elif words[0] == BUFFERS:
             self.lines_missing = number_at(words, 1)
         if self.missing > MOST_ANSWER or self.lines_missing > MOST_LISTED:
             raise BadAnswer("an answer is longer than any")
-        return True
+        return Answer(words, number)
 
 
 class ScrollbackClient:

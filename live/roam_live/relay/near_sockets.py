@@ -8,7 +8,7 @@ from collections.abc import Callable
 
 from roam_live.common.errors import Fault, reason, say
 from roam_live.common.event_loop import Loop, is_hung_up
-from roam_live.common.io import read, write
+from roam_live.common.io import LinePeer, read
 from roam_live.common.listener import Listener
 from roam_live.protocol.panes import CLIP, CLIPBOARD, METADATA, PanesState, metadata_key
 from roam_live.protocol.panes_client import Subscription
@@ -23,9 +23,8 @@ if TYPE_CHECKING:
     # What forwards connections now; None where nothing does.
     Forwards = Callable[[], "Streams[Any] | None"]
 
-# Who follows the panes here, so many at most, and so many bytes at most wait for one.
+# So many follow the panes here at most.
 MOST_SUBSCRIBERS = 64
-MOST_WAITING = 1 << 16
 
 PANES = "panes"
 
@@ -80,20 +79,17 @@ class ForwardedHost:
         self.waiting.clear()
 
 
-class PanesPeer:
+class PanesPeer(LinePeer):
     """One who follows the panes here, and what waits for it."""
 
     def __init__(self, end: socket.socket) -> None:
-        self.end = end
-        self.waiting = bytearray()
+        super().__init__(end)
         # Whether it was told all.
         self.knows = False
-        # What it asked for that is told here, and what it said of another line; the newest of what it is still to be told of that, and how
-        # many bytes of it wait.
+        # What it asked for that is told here, and what it said of another line; the newest of what it is still to be told of that.
         self.words: list[str] = []
         self.said = b""
         self.news: dict[str, str] = {}
-        self.beside = 0
 
     def said_lines(self) -> list[str] | None:
         """The lines that it said since, where each asks for what is told here, and what follows may do so; else None."""
@@ -107,8 +103,7 @@ class PanesPeer:
     def put_news(self) -> None:
         """Has what it is still to be told wait, once all is taken that waited before."""
         if not self.waiting:
-            self.waiting += "".join(f"{line}\n" for line in self.news.values()).encode()
-            self.beside = len(self.waiting)
+            self.put_answer("".join(f"{line}\n" for line in self.news.values()).encode())
             self.news.clear()
 
 
@@ -192,18 +187,16 @@ class SharedPanes:
 
     def tell(self, peer: PanesPeer, lines: list[str]) -> None:
         """Tells one lines; who doesn't take what is told of the panes is let go."""
-        peer.waiting += "".join(f"{line}\n" for line in lines).encode()
-        if len(peer.waiting) - peer.beside > MOST_WAITING:
-            self.drop(peer)
-        else:
+        if peer.put(lines):
             peer.put_news()
+        else:
+            self.drop(peer)
 
     def write(self, peer: PanesPeer) -> None:
         """Writes what one takes."""
-        if not write(peer.end.fileno(), peer.waiting):
+        if not peer.write():
             self.drop(peer)
         elif not peer.waiting:
-            peer.beside = 0
             peer.put_news()
 
     def asked(self, peer: PanesPeer) -> None:
