@@ -17,7 +17,8 @@ from unittest import mock
 
 from roam_live.common.event_loop import Loop
 from roam_live.common.process import TOOLS
-from roam_live.protocol.host_client import HostClient, HostLink
+from roam_live.protocol.host_client import HostClient
+from roam_live.protocol.host_link import HostLink
 
 
 @functools.lru_cache()
@@ -182,7 +183,7 @@ class Asker:
 
 def without_numbers(case: "Case") -> None:
     """Has lines at the socket `host` go without the numbers of windows, for tests of one window that say and read them by hand."""
-    for module in ("host.socket_server", "host.scrollback_queries", "protocol.host_client"):
+    for module in ("host.socket_server", "host.uploads", "host.scrollback_queries", "protocol.host_link"):
         case.patch(f"roam_live.{module}.led", lambda number, line: line)
     for module in ("host.socket_server", "protocol.scrollback_client"):
         case.patch(f"roam_live.{module}.parted", lambda line: (0, line))

@@ -20,7 +20,7 @@ from roam_live.input.extended_keys import QUERY, WANTED, given_back
 from roam_live.protocol import client_link
 from roam_live.protocol.colours import ASKED
 from roam_live.protocol.display_records import DisplayRecord
-from roam_live.protocol.host_client import FEW
+from roam_live.protocol.host_link import FEW
 from roam_live.protocol.panes import Places, Rect
 from roam_live.session.front_end_lock import has_front_ends
 from test_display import Person, PlayedPanes, painting, places

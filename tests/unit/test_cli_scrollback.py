@@ -177,13 +177,13 @@ class Buffered(Asked):
 
     def test_pasted(self):
         """A buffer's mark is typed once the host holds it as a text."""
-        self.socket.buffers.add(b"one\ntwo")
+        self.socket.uploads.buffers.add(b"one\ntwo")
         typed = []
 
         def type_lines(session, link, lines):
             typed.extend(lines)
             self.loop.turns(4)
-            text = self.socket.texts.placed(lines[0].partition("9f")[0] and next(iter(self.socket.texts.texts)))
+            text = self.socket.uploads.texts.placed(lines[0].partition("9f")[0] and next(iter(self.socket.uploads.texts.texts)))
             self.assertEqual(text.data, b"one\rtwo")
 
         self.patch_of(paste, "ready", self.ready)
@@ -195,7 +195,7 @@ class Buffered(Asked):
 
     def test_no_answer(self):
         """A host that tells of no buffers, takes none or ends, or that isn't there, is told of."""
-        with mock.patch.object(self.socket, "take_buffer_line", lambda peer, line: False):
+        with mock.patch.object(self.socket.uploads, "take_buffer_line", lambda peer, line: False):
             self.refuses("session main: the pty host tells of no buffers", scrollback.list_buffers)
             self.refuses("session main: the buffer isn't kept", scrollback.set_buffer, "a")
             self.patch_of(paste, "ready", self.ready)

@@ -65,7 +65,7 @@ class Connected(Rows):
         """What is copied is the newest buffer, which C-b ] has put where its placeholder is typed."""
         self.opened()
         self.types(b"gjV\r")
-        self.assertEqual(self.socket.buffers.texts, {1: b"beta\n"})
+        self.assertEqual(self.socket.uploads.buffers.texts, {1: b"beta\n"})
         self.assertEqual(self.person.display.row.told, "5 characters copied; C-b ] pastes")
         before = len(self.person.link.lines)
         self.types(b"\x02]")

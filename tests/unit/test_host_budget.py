@@ -6,6 +6,7 @@ import sys
 from aids import read_now
 from roam_live.common.unix_socket import connected_now
 from roam_live.host import pane, window
+from roam_live.session import tmp_keepalive
 from test_pty_host import Host
 
 # Most Python calls and bytecodes of a key and its echo. Python 3.11 needs 90 and 2,060; other versions have other bytecodes.
@@ -90,4 +91,4 @@ class Key(Host):
             if self.now > 160:
                 break
         self.assertEqual([name for name in self.host.loop.due], ["folders"])
-        self.assertEqual((self.host.loop.wait_time(), self.host.loop.before, self.host.loop.asked), (window.LOOKS, [], {}))
+        self.assertEqual((self.host.loop.wait_time(), self.host.loop.before, self.host.loop.asked), (tmp_keepalive.LOOKS, [], {}))

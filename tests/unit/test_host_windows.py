@@ -12,7 +12,7 @@ from aids import Asker, Case, StillLoop, unled
 from roam_live.common import process as common_process
 from roam_live.common.errors import Fault
 from roam_live.common.process import begun
-from roam_live.host import pane as host_pane, repair, window as host_window, window_processes, windows
+from roam_live.host import common as host_common, pane as host_pane, repair, window as host_window, window_processes, windows
 from roam_live.host.window_commands import ASKED_AGAIN
 from roam_live.host.window_processes import CLIENT, SERVER, WindowProcesses
 from roam_live.host.windows import ENDING, ENDS, FULL, OPENS, OVER, THERE, Windows
@@ -39,7 +39,8 @@ class Played(Case):
         self.wakeup = self.pipe()[0]
         self.made, self.spawned, self.killed = [], [], []
         self.patch_of(host_pane.spawn, "forked", side_effect=self.forked)
-        self.patch_of(host_window, "has_ended", return_value=False)
+        for module in (host_window, host_common):
+            self.patch_of(module, "has_ended", return_value=False)
         self.patch_of(WindowProcesses, "spawn", lambda processes, role, words: self.spawn(processes, role))
         self.patch_of(roles, "program", lambda: "/roam")
         self.patch_of(window_processes, "is_running", lambda process, moment: process in self.alive)

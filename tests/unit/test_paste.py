@@ -9,7 +9,7 @@ from roam_live.frontend.paste import (BEHIND_IT, COUNTS, DROPPED, DROPS, FULL_BE
                                       TOO_LONG, Pastes, weight)
 from roam_live.frontend.paste import ENDS, NO_ROOM, SHORT, PasteIntake
 from roam_live.input.keys import BRACKETS
-from roam_live.protocol.host_client import LATER, MOST_UNSENT, NO_HOST, STORES_AGAIN
+from roam_live.protocol.host_link import LATER, MOST_UNSENT, NO_HOST, STORES_AGAIN
 from roam_live.protocol.panes_client import PAUSES
 from roam_live.protocol.paste_text import FULL, placeholder_acts
 from test_display import ClientLink, Person, PlayedPanes, places
@@ -393,7 +393,7 @@ class Given(Sockets):
         link.store(self.names[0], b"text" * 50000)
         self.turn()
         self.assertEqual((self.told, link.unstored), ([(self.names[0], "stored", "")], {}))
-        self.socket.texts.placed(self.names[0])
+        self.socket.uploads.texts.placed(self.names[0])
         self.turn()
         self.assertEqual((self.told[1:], link.stored), ([(self.names[0], "inserted", "")], {}))
         for line in (f"stored {self.names[3]}", f"lost {self.names[0]}", f"inserted {self.names[0]}"):
@@ -403,7 +403,7 @@ class Given(Sockets):
     def test_refused(self):
         """One that is refused is told with the words of the host."""
         self.turn()
-        with mock.patch.object(self.socket.texts, "refusal", return_value="none is taken"):
+        with mock.patch.object(self.socket.uploads.texts, "refusal", return_value="none is taken"):
             self.made_link.store(self.names[0], b"text")
             self.turn()
         self.assertEqual((self.told, self.made_link.unstored), ([(self.names[0], "refused", "none is taken")], {}))
@@ -414,7 +414,7 @@ class Given(Sockets):
         self.turn()
         for refusal in FULL:
             self.told.clear()
-            with mock.patch.object(self.socket.texts, "refusal", side_effect=["", refusal, refusal]):
+            with mock.patch.object(self.socket.uploads.texts, "refusal", side_effect=["", refusal, refusal]):
                 for name in names[:3]:
                     link.store(name, b"text")
                 self.turn()
@@ -423,7 +423,7 @@ class Given(Sockets):
             self.assertEqual(self.told, [(names[0], "stored", ""), *((name, LATER, refusal) for name in names[1:3])])
             self.assertEqual(list(link.unstored), names[1:4])
             self.now += STORES_AGAIN
-            with mock.patch.object(self.socket.texts, "refusal", side_effect=["", refusal]) as asked:
+            with mock.patch.object(self.socket.uploads.texts, "refusal", side_effect=["", refusal]) as asked:
                 self.turn()
             self.assertEqual((self.told[3:], asked.call_count), ([(names[1], "stored", ""), (names[2], LATER, refusal)], 2))
             self.now += STORES_AGAIN
@@ -431,9 +431,9 @@ class Given(Sockets):
             self.assertEqual((self.told[5:], link.unstored), ([(name, "stored", "") for name in names[2:4]], {}))
             link.store(names[4], b"text")
             self.turn()
-            self.assertEqual((self.told[7:], self.socket.texts.coming), ([(names[4], "stored", "")], 0))
+            self.assertEqual((self.told[7:], self.socket.uploads.texts.coming), ([(names[4], "stored", "")], 0))
             for name in names:
-                self.socket.texts.drop(self.socket.texts.placed(name))
+                self.socket.uploads.texts.drop(self.socket.uploads.texts.placed(name))
             names = self.names = [f"{number:016x}" for number in range(5, 10)]
             self.turn()
 
@@ -441,7 +441,7 @@ class Given(Sockets):
         """A host that is there again is given all that waits at once; who doesn't want a text any more keeps none back."""
         link, names = self.made_link, self.names
         self.turn()
-        with mock.patch.object(self.socket.texts, "refusal", return_value=FULL[0]):
+        with mock.patch.object(self.socket.uploads.texts, "refusal", return_value=FULL[0]):
             for name in names[:3]:
                 link.store(name, b"text")
             self.turn()
@@ -452,7 +452,7 @@ class Given(Sockets):
         self.now += PAUSES[0]
         self.turn()
         self.assertEqual(([word for _, word, _ in self.told[3:]], link.is_full), (["stored", "stored"], False))
-        with mock.patch.object(self.socket.texts, "refusal", return_value=FULL[0]):
+        with mock.patch.object(self.socket.uploads.texts, "refusal", return_value=FULL[0]):
             link.store(names[3], b"text")
             link.store(names[4], b"text")
             link.cancel(names[3])
@@ -472,12 +472,12 @@ class Given(Sockets):
         link.loop.turn()
         self.socket.drop(self.socket.peers[0])
         self.turn(2)
-        self.assertEqual((list(link.unstored), list(link.stored), self.socket.texts.coming), ([self.names[1]], [self.names[0]], 0))
-        self.socket.texts.placed(self.names[0])
+        self.assertEqual((list(link.unstored), list(link.stored), self.socket.uploads.texts.coming), ([self.names[1]], [self.names[0]], 0))
+        self.socket.uploads.texts.placed(self.names[0])
         self.now += PAUSES[0]
         self.turn()
         self.assertEqual(self.told, [(self.names[0], "stored", ""), (self.names[1], "stored", ""), (self.names[0], "inserted", "")])
-        self.assertEqual(self.socket.texts.texts[self.names[1]].data, b"two" * 100000)
+        self.assertEqual(self.socket.uploads.texts.texts[self.names[1]].data, b"two" * 100000)
 
     def test_another_host(self):
         """What one before held, or was given, is lost to another host, which isn't given it."""
@@ -491,7 +491,7 @@ class Given(Sockets):
         self.now += PAUSES[0]
         self.turn()
         self.assertEqual(self.told, [(self.names[0], "stored", ""), *((name, "lost", "") for name in self.names[:2])])
-        self.assertEqual((self.socket.texts.texts, self.made_link.unstored, self.made_link.stored), ({}, {}, {}))
+        self.assertEqual((self.socket.uploads.texts.texts, self.made_link.unstored, self.made_link.stored), ({}, {}, {}))
         self.made_link.store(self.names[2], b"three")
         self.turn()
         self.assertEqual(self.told[3:], [(self.names[2], "stored", "")])
@@ -525,7 +525,7 @@ class Given(Sockets):
         link.loop.turn()
         link.cancel(names[3])
         self.turn(60)
-        self.assertEqual((self.told, list(self.socket.texts.texts)), ([(names[1], "stored", "")], [names[1], names[3]]))
+        self.assertEqual((self.told, list(self.socket.uploads.texts.texts)), ([(names[1], "stored", "")], [names[1], names[3]]))
 
 
 class Persons(unittest.TestCase):

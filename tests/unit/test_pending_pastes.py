@@ -391,10 +391,10 @@ class Given(Sockets):
             one = self.connect(text[:cut])
             self.say(one, text[cut:])
             self.assertEqual(read_now(one), f"stored {NAME}\nhost {NAMED}\nothers 0\n".encode(), cut)
-            self.assertEqual(self.socket.texts.placed(NAME).data, b"two\nlines")
+            self.assertEqual(self.socket.uploads.texts.placed(NAME).data, b"two\nlines")
             self.loop.turn()
             self.assertEqual(read_now(one), f"inserted {NAME}\n".encode())
-            self.socket.texts.texts.clear()
+            self.socket.uploads.texts.texts.clear()
             one.close()
             self.loop.turns(2)
 
@@ -403,17 +403,17 @@ class Given(Sockets):
         self.connect(f"paste {NAME} 1 plain\nx".encode()).close()
         one = self.connect(f"status {NAME}\nstatus {OTHER}\n".encode())
         self.assertEqual(read_now(one), f"stored {NAME}\nlost {OTHER}\n".encode())
-        self.assertTrue(self.socket.texts.placed(NAME).is_plain)
+        self.assertTrue(self.socket.uploads.texts.placed(NAME).is_plain)
         self.loop.turn()
         self.assertEqual(read_now(one), f"inserted {NAME}\n".encode())
 
     def test_again(self):
         """A text that is given again is held once, and one that was put isn't put again."""
         one = self.connect(f"paste {NAME} 1\nxpaste {NAME} 1\nx".encode())
-        self.assertEqual((read_now(one), len(self.socket.texts.texts)), (f"stored {NAME}\n".encode() * 2, 1))
-        self.socket.texts.drop(self.socket.texts.placed(NAME))
+        self.assertEqual((read_now(one), len(self.socket.uploads.texts.texts)), (f"stored {NAME}\n".encode() * 2, 1))
+        self.socket.uploads.texts.drop(self.socket.uploads.texts.placed(NAME))
         self.say(one, f"paste {NAME} 1\nx".encode())
-        self.assertEqual((read_now(one), self.socket.texts.texts), (f"inserted {NAME}\ninserted {NAME}\n".encode(), {}))
+        self.assertEqual((read_now(one), self.socket.uploads.texts.texts), (f"inserted {NAME}\ninserted {NAME}\n".encode(), {}))
 
     def test_refused(self):
         """What has no room is refused in words, its bytes are passed over, and the connection goes on."""
@@ -434,7 +434,7 @@ class Given(Sockets):
     def test_stalled(self):
         """Who gives half of a text, and nothing for 60 seconds, is let go, and takes no room; so is it with who leaves."""
         one = self.connect(f"paste {NAME} {MOST_BYTES}\nhalf".encode())
-        self.assertEqual(self.socket.texts.coming, MOST_BYTES)
+        self.assertEqual(self.socket.uploads.texts.coming, MOST_BYTES)
         self.now += KEPT - 1
         self.say(one, b"more")
         self.now += KEPT - 1
@@ -442,10 +442,10 @@ class Given(Sockets):
         self.assertEqual(len(self.socket.peers), 1)
         self.now += 1
         self.loop.turns(2)
-        self.assertEqual((self.socket.peers, self.socket.texts.coming), ([], 0))
+        self.assertEqual((self.socket.peers, self.socket.uploads.texts.coming), ([], 0))
         self.connect(f"paste {NAME} 100\n".encode()).close()
         self.loop.turns(2)
-        self.assertEqual((self.socket.texts.coming, self.loop.due), (0, {}))
+        self.assertEqual((self.socket.uploads.texts.coming, self.loop.due), (0, {}))
 
     def test_chance(self):
         """Whatever comes, in whatever chunks, is taken or told to be no line, or its sender let go; nothing is kept without bound."""
@@ -462,10 +462,10 @@ class Given(Sockets):
             read_now(one)
             self.now += chance.random()
             self.assertLessEqual(sum(len(peer.came.kept) for peer in self.socket.peers), LONGEST_LINE)
-            self.assertLessEqual(len(self.socket.texts.texts), 1)
+            self.assertLessEqual(len(self.socket.uploads.texts.texts), 1)
         one.close()
         self.loop.turns(3)
-        self.assertEqual((self.socket.peers, self.socket.texts.coming), ([], 0))
+        self.assertEqual((self.socket.peers, self.socket.uploads.texts.coming), ([], 0))
 
     def test_names(self):
         """Of 64 texts at most one is told what becomes of them."""

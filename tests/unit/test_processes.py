@@ -14,7 +14,7 @@ from roam_live.cli.args import WordParser
 from roam_live.common.errors import Fault
 from roam_live.common.event_loop import READ, WRITE
 from roam_live.common.process import begun
-from roam_live.host import window, windows
+from roam_live.host import common, windows
 from roam_live.protocol import datagram_stream
 from roam_live.protocol.client_link import ClientLink
 from roam_live.protocol.datagram_stream import LONGEST, SHORTEST, Carrier
@@ -349,7 +349,7 @@ class Spawned(Based):
 
     def test_ended(self):
         """SIGTERM ends a process, and SIGKILL one that doesn't end in three seconds, which is more than a host needs."""
-        self.assertGreater(processes.END_WAIT, windows.ALL_END + window.LOGS_END)
+        self.assertGreater(processes.END_WAIT, windows.ALL_END + common.LOGS_END)
         self.stop_clock()
         kills, left = self.patch("os.kill"), [7, 7, 7]
         self.patch_of(Processes, "process", lambda session, role: left[0] if left else None)

@@ -11,7 +11,8 @@ from filtered import played
 from roam_live.common.errors import Fault
 from roam_live.common.event_loop import READ, WRITE
 from roam_live.common.process import begun
-from roam_live.host import pane as host_pane, scrollback, window
+from roam_live.host import common, options, pane as host_pane, scrollback, window
+from roam_live.session import tmp_keepalive
 from roam_live.host.input_queue import TypedQueue
 from roam_live.host.pending_pastes import PendingPastes
 
@@ -42,7 +43,8 @@ class Host(Case):
         self.patch_of(host_pane.spawn, "forked", side_effect=self.forked)
         self.kills = self.patch("os.kill")
         self.ended = {}
-        self.patch_of(window, "has_ended", side_effect=lambda process: self.ended.get(process, False))
+        for module in (window, common):
+            self.patch_of(module, "has_ended", side_effect=lambda process: self.ended.get(process, False))
         self.host = self.kept()
         self.server = self.taken(self.listeners["panes"])
 
@@ -306,11 +308,11 @@ class Panes(Host):
         (self.folder / "host").unlink()
         other = self.listening(self.folder / "host")
         for _ in range(3):
-            self.now += window.LOOKS
+            self.now += tmp_keepalive.LOOKS
             self.turn(1)
         self.assertEqual(self.said.getvalue().count("the session's socket was removed and cannot be restored: somebody listens at "), 1)
         other.close()
-        self.now += window.LOOKS
+        self.now += tmp_keepalive.LOOKS
         self.turn(1)
         self.assertTrue(self.host.common.socket.is_found())
         self.assertIn(window.MENDED, self.said.getvalue())
@@ -755,9 +757,9 @@ class Words(Case):
     def test_has_ended(self):
         process = self.process("true")
         self.assertTrue(os.waitid(os.P_PID, process.pid, os.WEXITED | os.WNOWAIT))
-        self.assertTrue(host_pane.has_ended(process.pid))
-        self.assertTrue(host_pane.has_ended(process.pid))
-        self.assertFalse(host_pane.has_ended(self.process().pid))
+        self.assertTrue(options.has_ended(process.pid))
+        self.assertTrue(options.has_ended(process.pid))
+        self.assertFalse(options.has_ended(self.process().pid))
 
     def test_child(self):
         """What is forked becomes the command, of the pane's size and in its folder, and ends where it can't."""

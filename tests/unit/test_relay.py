@@ -9,7 +9,7 @@ from unittest import mock
 from aids import Case, StillLoop, ended, loaded, read_now
 from roam_live.common.errors import Fault
 from roam_live.protocol.datagram_stream import LONGEST, SHORTEST
-from roam_live.relay import common, far, near
+from roam_live.relay import common, far, near, near_command
 from test_frames import HOSTILE, ODD
 from roam_live.relay.forwarding import BYTES, FORWARDS, OPEN
 from roam_live.relay.frames import COUNT, ENDED, HAD, HEADER, KILLED, UNPACKS, WAITING_LIMIT, BadWords, RelayStream, Waiting, greeting
@@ -996,8 +996,8 @@ class Commands(Case):
     def test_runs(self):
         """Its standard error is passed on as printable lines, and its end has a status."""
         said = self.patch("os.write")
-        reads = self.patch_of(near, "read", side_effect=[b"no \x1b[c\n", b""])
-        link = near.RunningCommand(["sh", "-c", "exec cat"], "-", False)
+        reads = self.patch_of(near_command, "read", side_effect=[b"no \x1b[c\n", b""])
+        link = near_command.RunningCommand(["sh", "-c", "exec cat"], "-", False)
         self.addCleanup(link.process.wait)
         self.assertEqual(os.getsid(link.process.pid), link.process.pid)
         for end in (link.process.stdin, link.process.stdout, link.process.stderr):
@@ -1012,10 +1012,10 @@ class Commands(Case):
 
     def test_sayings(self):
         """What a command says is little and printable, and the logs that are known have room for it."""
-        link = near.RunningCommand(["sleep", "60"], "-", False)
+        link = near_command.RunningCommand(["sleep", "60"], "-", False)
         self.addCleanup(lambda: (link.end(), link.status()))
-        rooms, writes = self.patch_of(near, "make_room_in_logs"), self.patch("os.write")
-        self.patch_of(near, "read", return_value=b"the far host\x1b[c says so\n" * 2000)
+        rooms, writes = self.patch_of(near_command, "make_room_in_logs"), self.patch("os.write")
+        self.patch_of(near_command, "read", return_value=b"the far host\x1b[c says so\n" * 2000)
         for _ in range(20):
             link.pass_errors()
         said = b"".join(call[0][1] for call in writes.call_args_list).decode()
@@ -1025,10 +1025,10 @@ class Commands(Case):
 
     def test_killed(self):
         """One that doesn't end in a second is ended by force."""
-        link = near.RunningCommand(["sleep", "60"], "-", True)
+        link = near_command.RunningCommand(["sleep", "60"], "-", True)
         self.assertEqual(os.getsid(link.process.pid), os.getsid(0))
         waits = link.process.wait
-        with mock.patch.object(link.process, "wait", side_effect=[near.subprocess.TimeoutExpired("x", 1), -9]) as asked:
+        with mock.patch.object(link.process, "wait", side_effect=[near_command.subprocess.TimeoutExpired("x", 1), -9]) as asked:
             self.assertEqual(link.status(), -9)
             self.assertEqual(asked.call_args_list, [mock.call(1.0), mock.call()])
         self.assertEqual(waits(), -9)

@@ -70,7 +70,7 @@ class Asked(Rows):
         """Questions come in any chunks."""
         text = b"count 1 5\nrows 1 5 0 2\nbuffer add 3\na\nbfind 1 5 0 on be\nbuffer list\n"
         for cut in range(len(text)):
-            self.socket.buffers = Buffers()
+            self.socket.uploads.buffers = Buffers()
             one = self.connect(text[:cut])
             self.say(one, text[cut:])
             self.loop.turns(2)
@@ -307,28 +307,28 @@ class Buffered(Rows):
         self.assertEqual(read_now(one), f"buffer add none {TOO_LONG}\n".encode())
         self.assertEqual(self.asked(one, "buffer add 0"), f"buffer add none {EMPTY}\n".encode())
         self.assertEqual(self.asked(watching, "buffer add 2\na"), f"buffer add none {READ_ONLY}\n".encode())
-        self.assertEqual(self.socket.buffers.coming, 0)
-        self.socket.buffers.coming = MOST_COMING - 1
+        self.assertEqual(self.socket.uploads.buffers.coming, 0)
+        self.socket.uploads.buffers.coming = MOST_COMING - 1
         self.assertEqual(self.asked(one, "buffer add 2\na"), f"buffer add none {TOO_MUCH}\n".encode())
-        self.socket.buffers.coming -= 1
+        self.socket.uploads.buffers.coming -= 1
         self.assertEqual(self.asked(other, "buffer add 2\na"), b"buffer add 1 2\n")
-        self.assertEqual(self.socket.buffers.coming, MOST_COMING - 2)
-        self.socket.buffers = Buffers()
+        self.assertEqual(self.socket.uploads.buffers.coming, MOST_COMING - 2)
+        self.socket.uploads.buffers = Buffers()
         self.say(other, b"buffer add 2\na")
-        self.assertEqual(self.socket.buffers.coming, 2)
+        self.assertEqual(self.socket.uploads.buffers.coming, 2)
         other.close()
         self.loop.turns(2)
-        self.assertEqual((self.socket.buffers.coming, self.asked(one, "buffer list")), (0, b"buffers 0\n"))
+        self.assertEqual((self.socket.uploads.buffers.coming, self.asked(one, "buffer list")), (0, b"buffers 0\n"))
 
     def test_given(self):
         """A buffer is given as a text: what of it is pasted, once; an unknown one is refused."""
         one = self.connect()
         self.asked(one, "buffer add 12\na\nb\t\x1b[201~c")
         self.assertEqual(self.asked(one, f"paste {NAME} buffer 1"), f"stored {NAME}\n".encode())
-        self.assertEqual(self.socket.texts.texts[NAME].data, b"a\rb\t[201~c\r")
+        self.assertEqual(self.socket.uploads.texts.texts[NAME].data, b"a\rb\t[201~c\r")
         self.assertEqual(self.asked(one, f"paste {NAME} buffer 9"), f"stored {NAME}\n".encode())
         self.assertEqual(self.asked(one, f"paste {NAME[::-1]} buffer 9"), f"refused {NAME[::-1]} {UNKNOWN}\n".encode())
-        self.assertEqual((self.socket.texts.coming, len(self.socket.texts.texts)), (0, 1))
+        self.assertEqual((self.socket.uploads.texts.coming, len(self.socket.uploads.texts.texts)), (0, 1))
         self.assertEqual(self.asked(one, f"status {NAME}", f"status {NAME[::-1]}"), f"stored {NAME}\nlost {NAME[::-1]}\n".encode())
 
     def test_sample(self):

@@ -210,7 +210,7 @@ class Given(Sockets):
         """The session takes lines, and the host finds the placeholder."""
         self.typed += lines
         if self.is_inserted:
-            text = self.socket.texts.placed("0123456789abcdef")
+            text = self.socket.uploads.texts.placed("0123456789abcdef")
             self.texts += [(text.data, text.is_plain)] if text else []
         elif self.is_inserted is None:
             self.socket.close()
@@ -221,7 +221,7 @@ class Given(Sockets):
         self.assertEqual(paste.type_text(self.session, text, 0, False), 0)
         self.assertEqual(self.texts, [(text.encode(), False)])
         self.assertEqual(self.typed, [" ; ".join(["paste", *placeholder_acts("0123456789abcdef")])])
-        self.socket.texts.texts.clear()
+        self.socket.uploads.texts.texts.clear()
         self.assertEqual(paste.type_text(self.session, "ab", 2, True), 0)
         self.assertEqual((self.texts[1:], self.typed[1][:18], self.typed[1][-7:]), ([(b"ab", True)], "paste ; focus 2 ; ", "focus 1"))
 
@@ -244,7 +244,7 @@ class Given(Sockets):
                                 ("x", 3, "session main has no pane 3")):
             with self.assertRaisesRegex(Fault, f"^{why}$"):
                 paste.type_text(self.session, text, pane, False)
-        with mock.patch.object(self.socket.texts, "refusal", return_value="64 texts wait to be pasted"):
+        with mock.patch.object(self.socket.uploads.texts, "refusal", return_value="64 texts wait to be pasted"):
             with self.assertRaisesRegex(Fault, "^session main: 64 texts wait to be pasted. Nothing was typed$"):
                 paste.type_text(self.session, "x", 0, False)
         with mock.patch.object(paste, "ready", lambda end, events, seconds: self.pass_time(seconds) or 0):

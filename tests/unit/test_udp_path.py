@@ -5,12 +5,13 @@ import unittest
 from unittest import mock
 
 from aids import Case
-from roam_live.relay import udp_path
+from roam_live.relay import path_state, udp_path
 from roam_live.relay.aead_packets import LONGEST_PACKET, LONGEST_TEXT, MOST_PACKETS, AeadPackets
 from roam_live.relay.batches import CHUNK, MOST_BATCHES
 from roam_live.relay.frames import ENDED, KILLED, LEAVES, Waiting
-from roam_live.relay.udp_path import (ASKS, ASKS_LARGE, FIRST, HEAD, HELD, LEAST, MOMENT, Best, HeardPackets, Path, PathPace, SentPacket,
-                                      States, Trips, frames_in)
+from roam_live.relay.path_state import (ASKS, ASKS_LARGE, FIRST, HEAD, HELD, LEAST, Best, HeardPackets, PathPace, SentPacket, States,
+                                        Trips, frames_in)
+from roam_live.relay.udp_path import MOMENT, Path
 from test_batches import datagrams, noise, shown, typed
 from test_aead_packets import Foolish
 
@@ -613,7 +614,7 @@ class Parts(Case):
             pace.went(1200)
             went += 1
         self.assertEqual((went, pace.window()), (12, FIRST))
-        self.assertAlmostEqual(pace.wait_time(1200), 1200 / (LEAST / udp_path.ROUND))
+        self.assertAlmostEqual(pace.wait_time(1200), 1200 / (LEAST / path_state.ROUND))
         self.now += pace.wait_time(1200)
         self.assertTrue(pace.lets(1200, self.now))
         pace.note(SentPacket(self.now - 0.1, 1200, (), 0, 0.0), self.now, False)
@@ -658,7 +659,7 @@ class Parts(Case):
     def test_trips(self):
         """Trip and spread are smoothed; a packet is lost sooner where a later one came, and later the more often nothing is told."""
         trips = Trips()
-        self.assertEqual((trips.patience(HELD, False), trips.round()), (udp_path.LATEST, udp_path.ROUND))
+        self.assertEqual((trips.patience(HELD, False), trips.round()), (path_state.LATEST, path_state.ROUND))
         trips.note(0.1)
         self.assertAlmostEqual(trips.patience(0.12, True), 0.2)
         self.assertAlmostEqual(trips.patience(0.12, False), 0.42)
@@ -668,7 +669,7 @@ class Parts(Case):
         trips.tries = 1
         self.assertAlmostEqual(trips.patience(0.025, False), 0.25, places=3)
         trips.tries = 5
-        self.assertAlmostEqual(trips.patience(0.025, False), udp_path.LATEST, places=3)
+        self.assertAlmostEqual(trips.patience(0.025, False), path_state.LATEST, places=3)
 
     def test_loss(self):
         """Loss is known within some fifty packets; what came after all wasn't lost."""
@@ -714,7 +715,7 @@ class Parts(Case):
         self.assertEqual((arrivals.told_at, arrivals.peers(self.now + 2, 9)), (None, []))
         for peer in range(20_000):
             arrivals.note_peer(peer, self.now, True)
-        self.assertEqual((len(arrivals.whole_until), len(arrivals.news)), (udp_path.MOST_TOLD, udp_path.MOST_TOLD))
+        self.assertEqual((len(arrivals.whole_until), len(arrivals.news)), (path_state.MOST_TOLD, path_state.MOST_TOLD))
 
     def test_mask(self):
         """A mask has 32 bytes at most."""

@@ -1,7 +1,8 @@
 """What a front end is told of windows, whatever a host, also one of another machine, says."""
 from aids import Case, StillLoop, read_now
 from roam_live.frontend.windows_client import WindowsState
-from roam_live.protocol.host_client import HostClient, HostLink
+from roam_live.protocol.host_client import HostClient
+from roam_live.protocol.host_link import HostLink
 
 LIST = ("window 1 -", "window 2 68c3a920", "window 10 1b5b324a0a", "windows 3")
 

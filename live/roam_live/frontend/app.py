@@ -21,7 +21,7 @@ from roam_live.frontend.status_segments import StatusRow, format_values
 from roam_live.frontend.window_views import DETACHED, LOSS_TOLD, ViewMaker, WindowViews
 from roam_live.frontend.windows import WindowWishes
 from roam_live.protocol.client_link import LAST_WAIT
-from roam_live.protocol.host_client import HostLink
+from roam_live.protocol.host_link import HostLink
 from roam_live.session.environment import environment_lines
 from roam_live.session.front_end_lock import locked_session
 from roam_live.session.host_watchdog import HostWatchdog

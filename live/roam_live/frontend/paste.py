@@ -7,7 +7,7 @@ from collections.abc import Callable, Iterable, Sequence
 from roam_live.common.event_loop import Loop
 from roam_live.input.keys import pasted_acts
 from roam_live.protocol.client_link import TYPES
-from roam_live.protocol.host_client import INSERTED, LATER, LOST, NO_HOST, STORED
+from roam_live.protocol.host_link import INSERTED, LATER, LOST, NO_HOST, STORED
 from roam_live.protocol.panes import MOVES
 from roam_live.protocol.paste_text import MOST_BYTES, cleaned, placeholder_acts, placeholder_in, random_name
 

@@ -19,7 +19,7 @@ if TYPE_CHECKING:
     from roam_live.frontend.lists import Lists
     from roam_live.frontend.settings import FrontSettings
     from roam_live.frontend.window_acts import WindowActs
-    from roam_live.protocol.host_client import HostLink
+    from roam_live.protocol.host_link import HostLink
     from roam_live.protocol.panes import Places
     from roam_live.protocol.session_interface import AnySession
 

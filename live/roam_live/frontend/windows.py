@@ -18,7 +18,7 @@ from roam_live.session.foreground import told
 TYPE_CHECKING = False
 if TYPE_CHECKING:
     from roam_live.frontend.window_views import WindowViews
-    from roam_live.protocol.host_client import HostLink
+    from roam_live.protocol.host_link import HostLink
 
 # What is told to who had a window opened.
 OPENED = re.compile(r"opened (?:(?P<window>[1-9]\d?)|none (?P<why>.{1,200}))", re.ASCII)

@@ -18,7 +18,8 @@ from roam_live.session.window_state import WINDOWS_VERSION, window_folder, windo
 
 TYPE_CHECKING = False
 if TYPE_CHECKING:
-    from roam_live.host.windows import HostedWindow, Windows
+    from roam_live.host.hosted_window import HostedWindow
+    from roam_live.host.windows import Windows
     from roam_live.session.local import Session
 
 # Suffixes of a session whose name was taken run from 2 to LAST_NUMBER. LONGEST_NAME is the limit of a session's name.

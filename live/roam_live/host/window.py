@@ -1,5 +1,4 @@
-"""The panes of one window of a session at the pty host, as the window's server tells them, with what is kept once for all
-windows."""
+"""The panes of one window of a session at the pty host, as the window's server tells them."""
 from __future__ import annotations
 
 import contextlib
@@ -11,21 +10,19 @@ import time
 from collections.abc import Callable
 
 from roam_live.common.errors import Fault, reason, say
-from roam_live.common.event_loop import Loop
-from roam_live.common.fault_log import FaultLog
-from roam_live.common.io import read
 from roam_live.common.process import begun, is_running, note_end
+from roam_live.host.common import Common
 from roam_live.host.foreground_watch import Fronts
 from roam_live.host.input_queue import TypedQueue
-from roam_live.host.pane import Options, PaneCommand, Spare, has_ended, say_in
-from roam_live.host.scrollback import Scrollback, pane_key, pane_of_key
-from roam_live.host.socket_server import HostSocket
+from roam_live.host.options import Options, has_ended
+from roam_live.host.pane import PaneCommand, say_in
+from roam_live.host.scrollback import pane_key
 from roam_live.host.window_channel import WindowChannel
-from roam_live.protocol.panes import BRACKETED, FOCUS, OTHER, PanesState, Rect
+from roam_live.protocol.panes import BRACKETED, FOCUS, PanesState, Rect
 from roam_live.protocol.panes_client import PROBE, HostSubscription
 from roam_live.protocol.queries import QUERY, holds_frames, query_in
 from roam_live.session.foreground import working_folder
-from roam_live.session.tmp_keepalive import LOOKS, Lasting
+from roam_live.session.tmp_keepalive import Lasting
 
 TYPE_CHECKING = False
 if TYPE_CHECKING:
@@ -35,9 +32,6 @@ if TYPE_CHECKING:
 # So many seconds a close may take before it is asked for anew.
 CLOSE_WAIT = 3.0
 
-# So many seconds later what the system refused is tried again.
-AGAIN = 0.25
-
 # The socket at which a server takes its clients: where its file was removed the server is had to take so many turns, so many seconds apart.
 CLIENTS = "clients"
 ROUSED, ROUSED_EACH = 2, 1.0
@@ -45,152 +39,13 @@ ROUSED, ROUSED_EACH = 2, 1.0
 # Messages after the host's socket was removed.
 MENDED = "the session's socket was removed, as by a cleaner of old files, and has been restored"
 UNMENDED = "the session's socket was removed and cannot be restored: {}"
-
 UNREAD = "{} isn't shown: the server doesn't read it, as where no descriptor is left for it"
-
-# What ends the host. Its shells hang up then.
-LEAVING = (signal.SIGTERM, signal.SIGHUP)
-
-# So many seconds who writes rows down has for the last of them, where the session ends.
-LOGS_END = 1.0
-
 ENDED = b"\r\n[ended]"
 NOT_CONNECTED = "[not run: {}; tried again]\r\n"
 NOT_FOLLOWED = "[no shell: the panes can't be followed: {}; tried again]\r\n"
 
 # What a program reads that asked for reports of the focus (xterm, 1004), where it comes and where it goes.
 FOCUS_IN, FOCUS_OUT = b"\x1b[I", b"\x1b[O"
-
-
-class Common:
-    """What a host has once for all windows: its loop, the scrollback rows, what is told at all sockets `host`, the processes that
-    were hung up, and descriptors that are kept for need."""
-
-    def __init__(self, wakeup: int, loop: Loop | None = None) -> None:
-        self.wakeup, self.loop = wakeup, loop or Loop()
-        self.faults = FaultLog(self.loop.clock)
-        # The panes of each window, by its number; 0 is that of a session that has no others.
-        self.windows: dict[int, WindowHost] = {}
-        self.hung: list[int] = []
-        self.is_over = False
-        # What was refused, as it was told.
-        self.refused: set[str] = set()
-        self.loop.add(wakeup, self.reap)
-        # One for what a pane is begun with, and one by which a pane that can't be begun says so.
-        self.spare, self.voice = Spare(), Spare()
-        with contextlib.suppress(OSError):
-            self.voice.keep()
-            self.spare.keep()
-        self.rows = Scrollback(self.loop, self.tell)
-        self.rows.is_other = self.shows_other
-        self.socket = HostSocket(self.loop, self.rows)
-        self.loop.faults = self.take_fault
-        self.rows.hears_changed = self.see_to_panes
-        # Called once a minute to look after folders.
-        self.lasting: list[Callable[[], object]] = []
-        self.loop.later("folders", LOOKS, self.look_at_folders)
-
-    def take_fault(self, fault: Exception) -> None:
-        """Log an unexpected exception. If memory is short, drop scrollback rows first: they matter least."""
-        if isinstance(fault, MemoryError):
-            self.rows.shed()
-        self.faults.take(fault)
-
-    def see_to_panes(self) -> None:
-        """Check all panes whether they are read now."""
-        for window in self.windows.values():
-            for pane in window.panes.values():
-                pane.see_to_ends()
-
-    def see_to(self, lasts: Callable[[], object]) -> None:
-        """Call something before the next wait, and then once a minute, to look after a folder."""
-        self.lasting.append(lasts)
-        self.loop.soon(lasts)
-
-    def see_no_more(self, lasts: Callable[[], object]) -> None:
-        """Stop calling it."""
-        if lasts in self.lasting:
-            self.lasting.remove(lasts)
-
-    def look_at_folders(self) -> None:
-        """Look after all folders."""
-        for lasts in list(self.lasting):
-            self.loop.is_done(lasts)
-        self.loop.later("folders", LOOKS, self.look_at_folders)
-
-    def tell(self, text: str) -> None:
-        """Log what a person has to know, and send it to the terminals at all windows."""
-        say(text)
-        for window in list(self.windows.values()):
-            window.channel.notify(text)
-
-    def shows_other(self, key: int) -> bool:
-        """Whether a pane's program is known to show the other screen."""
-        number, pane = pane_of_key(key)
-        window = self.windows.get(number)
-        return window is not None and window.panes_state.has_set(pane, OTHER)
-
-    def keep_spares(self) -> None:
-        """Has the spare descriptors, as soon as they are to be had: first that by which a pane says what it hasn't."""
-        try:
-            for spare in (self.voice, self.spare):
-                spare.keep()
-        except OSError as fault:
-            self.refuse("a spare descriptor", fault)
-
-    def refuse(self, what: str, fault: OSError) -> None:
-        """Takes note of what the system refused, which is tried again; the log is told once until all is had."""
-        if what not in self.refused:
-            self.refused.add(what)
-            self.tell(f"{what}: {reason(fault)}; tried again")
-        self.loop.later("again", AGAIN, self.try_again)
-
-    def try_again(self) -> None:
-        """Tries again what was refused."""
-        for window in list(self.windows.values()):
-            window.begin_again()
-        self.keep_spares()
-        if "again" not in self.loop.due:
-            self.refused.clear()
-
-    def reap(self) -> None:
-        """Takes note of commands that ended, and of a signal to end."""
-        if any(number in LEAVING for number in read(self.wakeup) or b""):
-            self.is_over = True
-        self.hung = [process for process in self.hung if not has_ended(process)]
-        for window in list(self.windows.values()):
-            self.loop.is_done(window.reap)
-
-    def turn(self) -> None:
-        """Waits until something can be done, and does it."""
-        self.loop.turn()
-
-    def run(self) -> int:
-        """Keeps the shells of a session of one window until it ends."""
-        try:
-            while not self.is_over and not any(window.is_over for window in self.windows.values()):
-                self.turn()
-        finally:
-            self.close()
-        return 0
-
-    def end_logs(self) -> None:
-        """Tells who writes rows down what stood last in the panes, as far as that is soon taken."""
-        end = self.loop.clock() + LOGS_END
-        self.loop.at("end logs", end, lambda: None)
-        while self.rows.leaving and self.loop.clock() < end:
-            self.loop.turn()
-
-    def close(self) -> None:
-        """Ends all that is left: the shells first, of which who writes rows down has the last."""
-        windows = list(self.windows.values())
-        for window in windows:
-            window.hang_up()
-        self.end_logs()
-        for window in windows:
-            window.close()
-        self.socket.close()
-        self.rows.close()
 
 
 class WindowHost:
@@ -301,7 +156,7 @@ class WindowHost:
         else:
             folder, begins = self.folder_of_new(), self.handed_to(rect)
             self.drop(number)
-            typed = TypedQueue(self.common.socket.texts, lambda: self.panes_state.has_set(number, BRACKETED))
+            typed = TypedQueue(self.common.socket.uploads.texts, lambda: self.panes_state.has_set(number, BRACKETED))
             self.panes[number] = PaneCommand(self.asked, self.loop, number, generation, size, self.is_again,
                                               begins and begins.folder or folder, typed)
             self.panes[number].command = begins.command() if begins else []

@@ -5,17 +5,17 @@ import contextlib
 import functools
 import os
 import signal
-import socket
 from collections.abc import Callable
 
 from roam_live.common.errors import Fault, reason, say
-from roam_live.common.io import read
-from roam_live.common.tty import LEAST, size_act
+from roam_live.common.tty import LEAST
 from roam_live.common.unix_socket import connected_now
-from roam_live.host.pane import Options
+from roam_live.host.common import Common
+from roam_live.host.hosted_window import ENDING, OPENING, OPENS, THERE, HostedWindow, SizeAct
+from roam_live.host.options import Options
 from roam_live.host.repair import Mending
 from roam_live.host.scrollback import pane_of_key
-from roam_live.host.window import Common, WindowHost
+from roam_live.host.window import WindowHost
 from roam_live.host.window_commands import WindowLines
 from roam_live.host.window_processes import CLIENT, SERVER, WindowProcesses
 from roam_live.protocol.window_lines import ACTIVITY, BELL, GONE, MOST_WINDOWS, RUNS
@@ -25,17 +25,12 @@ from roam_live.session.window_state import note_ends, numbers_in, windows_folder
 
 TYPE_CHECKING = False
 if TYPE_CHECKING:
-    from roam_live.common.event_loop import Loop
     from roam_live.common.tty import Size
     from roam_live.protocol.spawn_request import Begins
 
-# What a window is: about to be there, there, or about to be gone.
-OPENING, THERE, ENDING = "opening", "there", "ending"
-
-# So often it is looked whether what was begun is there, or has ended, and so many seconds it has for that; and all windows of a session
-# together have so many for their ends.
+# Seconds between two looks whether what was begun is there, or has ended; until a window has to be gone; and for all windows of a session
+# together.
 STEP = 0.004
-OPENS = 10.0
 ENDS = 1.0
 ALL_END = 1.5 * ENDS
 
@@ -48,38 +43,8 @@ APART = 1.0
 
 # What tells of a socket at which somebody may listen soon.
 SOON_THERE = (FileNotFoundError, ConnectionRefusedError, BlockingIOError)
-
 FULL = f"a session has {MOST_WINDOWS} windows at most"
 OVER = "the session ends"
-
-
-class HostedWindow:
-    """A window: its processes, its panes once they are followed, its name, and who is told once it is there."""
-
-    def __init__(self, number: int, processes: WindowProcesses, told: Callable[[int, str], object]) -> None:
-        self.number, self.processes, self.told = number, processes, told
-        self.state = OPENING
-        self.name = processes.name()
-        self.host: WindowHost | None = None
-        self.size: Size | None = None
-        self.sizes: SizeAct | None = None
-        # Where its first pane's command begins, whether another host had it before, and whether it has a client here from the beginning:
-        # of a session's first window who launches it sees to that, or a terminal of another machine has one there.
-        self.begins_in, self.is_again, self.has_client = "", False, True
-        # What somebody asked for it to begin with.
-        self.begins: Begins | None = None
-        # Whether its server is spawned by somebody else, and isn't known yet.
-        self.is_given = False
-        # Until when it has to be there, or gone.
-        self.until = 0.0
-        # When it may be told again that something was written there.
-        self.active_at = 0.0
-        # What runs in front in its pane in focus, as it was told.
-        self.runs = ""
-
-    def has_terminals(self) -> bool:
-        """Whether somebody is there."""
-        return self.host is not None and self.host.channel.has_terminals()
 
 
 class Windows:
@@ -467,31 +432,3 @@ class Windows:
     def first(self, number: int, why: str) -> None:
         """Takes note of the first window, without which there is no session."""
         self.refusal = "" if number else why
-
-
-class SizeAct:
-    """A connection to a client, over which a size is typed: it is closed once the client has taken that."""
-
-    def __init__(self, loop: Loop, peer: socket.socket, size: Size) -> None:
-        self.loop, self.peer = loop, peer
-        # A client that is stopped takes nothing: it is closed then too.
-        self.name = f"size {peer.fileno()} is taken"
-        loop.add(peer, self.hear, fails=lambda fault: self.close())
-        loop.later(self.name, OPENS, self.close)
-        try:
-            peer.send(f"{size_act(size)}\n".encode())
-            peer.shutdown(socket.SHUT_WR)
-        except OSError:
-            self.close()
-
-    def hear(self) -> None:
-        """Passes over what is painted, until the client has closed it."""
-        if read(self.peer.fileno()) == b"":
-            self.close()
-
-    def close(self) -> None:
-        """Closes it."""
-        if self.peer.fileno() >= 0:
-            self.loop.remove(self.peer)
-            self.loop.drop(self.name)
-            self.peer.close()

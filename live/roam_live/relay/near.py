@@ -2,27 +2,23 @@
 from __future__ import annotations
 
 import contextlib
-import itertools
 import os
 import pathlib
 import shlex
 import socket
-import subprocess
 import time
-from collections.abc import Callable, Iterator
 
-from roam_live.common.errors import Fault, logs, make_room_in_logs, reason, say
+from roam_live.common.errors import Fault, logs, reason, say
 from roam_live.common.event_loop import Loop
 from roam_live.common.files import replace_text
-from roam_live.common.io import read
 from roam_live.common.listener import Listener
 from roam_live.common.process import opened_process
-from roam_live.common.text import Said
 from roam_live.protocol.datagram_stream import Carrier, is_datagram
-from roam_live.relay.common import FORGOTTEN_AFTER, PEER_LIMIT, Ended, Options, end_for, loopback_socket, received
-from roam_live.relay.far_windows import MOST_IN_WINDOW, WINDOW_SHIFT, windows_in
+from roam_live.relay.common import PEER_LIMIT, Ended, Options, end_for, loopback_socket, received
+from roam_live.relay.far_windows import windows_in
 from roam_live.relay.forwarding import BadStream
 from roam_live.relay.frames import ENCRYPTED, ENDED, KILLED, LEAVES, WINDOWS, BadWords, RelayStream, Waiting
+from roam_live.relay.near_command import END_WAIT, MOST_BROKEN, BrokenWords, Peers, RunningCommand
 from roam_live.relay.near_sockets import NearSockets
 from roam_live.relay.near_windows import NearWindows
 from roam_live.relay.path_setup import Finder, NearPath, is_wanted, kept_name, near_path, wish
@@ -31,9 +27,8 @@ from roam_live.session.tmp_keepalive import Lasting
 
 TYPE_CHECKING = False
 if TYPE_CHECKING:
-    from typing import IO, Any
+    from typing import Any
 
-    from roam_live.relay.common import Address
     from roam_live.relay.forwarding import Streams
     from roam_live.relay.udp_path import Path
 
@@ -44,9 +39,7 @@ SILENT = 7.0
 PAUSES = (0.2, 1, 2, 5)
 PATIENCE = 20.0
 
-# So many seconds a command has for its end, and the other end for hearing by a path that this one leaves; and so many packets tell it that
-# its own end was heard.
-END_WAIT = 1.0
+# Packets that tell the other end that its own end was heard.
 LAST_PACKETS = 3
 
 # Seconds between two checks whether a front end is connected.
@@ -56,151 +49,9 @@ LOOKS = 5.0
 WINDOWS_EVERY = 0.1
 TOLD_WINDOWS = "windows told"
 
-# After the other end said what can't be the next command is spawned no sooner than after so many seconds, twice as many each time up to the
-# most; so many times end the relay; and all are forgotten once it was validated for so long.
-BROKEN_PAUSE, MOST_PAUSE = 2.0, 60.0
-MOST_BROKEN = 10
-FORGIVEN = 600.0
-
 # What a shell's status tells of a command that it hasn't found, and what may be done then.
 NOT_FOUND = 127
 NOT_THERE = ": roam isn't installed there, or --far has to name its roam-mux"
-
-
-class Peers:
-    """The addresses of clients and their numbers. A number isn't given again before all others were."""
-
-    def __init__(self, forget: Callable[[int], None]) -> None:
-        self.numbers: dict[Address | Carrier, int] = {}
-        self.addresses: dict[int, Address | Carrier] = {}
-        self.moments: dict[int, float] = {}
-        # The last of each window; 0 is the relay's own, which has all numbers while none is known of another.
-        self.last: dict[int, int] = {}
-        self.has_windows = False
-        self.forget = forget
-
-    def number(self, address: Address | Carrier, window: int = 0) -> int:
-        """The number of an address, from 1; its high byte is that of its window."""
-        if address not in self.numbers:
-            while len(self.numbers) >= PEER_LIMIT:
-                self.drop(min(self.moments, key=self.moments.__getitem__))
-            number = next(self.free(window))
-            self.last[window] = number
-            self.numbers[address], self.addresses[number] = number, address
-        number = self.numbers[address]
-        self.moments[number] = time.monotonic()
-        return number
-
-    def free(self, window: int) -> Iterator[int]:
-        """The numbers that are free for a window, from the one behind the last on."""
-        first = (window << WINDOW_SHIFT) + 1
-        end = first + MOST_IN_WINDOW if window or self.has_windows else 65536
-        last = self.last.get(window, first - 1)
-        return (number for number in itertools.chain(range(last + 1, end), range(first, last + 1)) if number not in self.addresses)
-
-    def use_windows(self) -> None:
-        """Has the relay's own window keep to its numbers: others are forgotten."""
-        self.has_windows = True
-        self.last[0] = min(self.last.get(0, 0), MOST_IN_WINDOW)
-        for number in [number for number in self.addresses if number > MOST_IN_WINDOW]:
-            self.drop(number)
-
-    def drop_window(self, window: int) -> None:
-        """Forgets the peers of a window that is gone."""
-        for number in [number for number in self.addresses if number >> WINDOW_SHIFT == window]:
-            self.drop(number)
-
-    def drop(self, number: int) -> None:
-        """Forgets a peer."""
-        del self.numbers[self.addresses.pop(number)], self.moments[number]
-        self.forget(number)
-
-    def drop_silent(self) -> None:
-        """Forgets the peers that have said nothing for long."""
-        for number in [number for number, moment in self.moments.items() if moment + FORGOTTEN_AFTER < time.monotonic()]:
-            self.drop(number)
-
-
-class BrokenWords:
-    """How often the other end said what can't be."""
-
-    def __init__(self) -> None:
-        self.count = 0
-        self.validated_since: float | None = None
-
-    def add(self, now: float) -> float:
-        """Counts one more, and tells when the next command may be spawned."""
-        self.count += 1
-        self.validated_since = None
-        pause: float = min(BROKEN_PAUSE * 2 ** (self.count - 1), MOST_PAUSE)
-        return now + pause
-
-    def are_too_many(self) -> bool:
-        """Whether the relay ends."""
-        return self.count >= MOST_BROKEN
-
-    def note(self, is_validated: bool, now: float) -> None:
-        """Takes note of whether something carries what goes: after so long all are forgotten."""
-        self.validated_since = (self.validated_since if self.validated_since is not None else now) if is_validated else None
-        if self.validated_since is not None and now >= self.validated_since + FORGIVEN:
-            self.count = 0
-
-
-class RunningCommand:
-    """A command that runs, and the stream over its standard input and output."""
-
-    def __init__(self, command: list[str], session: str, may_ask: bool) -> None:
-        pipe = subprocess.PIPE
-        self.process = subprocess.Popen(command, stdin=pipe, stdout=pipe, stderr=pipe, start_new_session=not may_ask)
-        self.ends: list[IO[bytes]] = [end for end in (self.process.stdin, self.process.stdout, self.process.stderr) if end]
-        target, source, errors = (end.fileno() for end in self.ends)
-        self.errors: int | None = errors
-        self.said = Said()
-        self.loop: Loop | None = None
-        for end in (target, source, errors):
-            os.set_blocking(end, False)
-        self.stream = RelayStream(source, target, session)
-        self.since = time.monotonic()
-
-    def join(self, loop: Loop, hears: Callable[[], object]) -> None:
-        """Has a loop carry what goes to the command, pass on what it says, and call where something came."""
-        self.loop = loop
-        if self.errors is not None:
-            loop.add(self.errors, self.pass_errors, hears=lambda: self.errors is not None)
-        loop.add(self.stream.target, None, self.stream.flush, has_more=lambda: self.stream.going)
-        # Its end is seen where it is read: it may have said something.
-        loop.add(self.stream.source, hears)
-
-    def pass_errors(self) -> None:
-        """Says what the command said on its standard error, as far as that isn't too much: at the terminal at first, and in the log later,
-        as this tool does."""
-        chunk = read(self.errors) if self.errors else None
-        if chunk == b"":
-            self.errors = None
-        text = self.said.fed(chunk or b"")
-        if text:
-            make_room_in_logs(len(text.encode()))
-            with contextlib.suppress(OSError):
-                os.write(2, text.encode())
-
-    def end(self) -> None:
-        """Has the command end."""
-        self.process.terminate()
-        self.pass_errors()
-        # What is left in Python's own buffers is nothing: the descriptors alone were used.
-        for end in self.ends:
-            if self.loop:
-                self.loop.remove(end)
-            end.close()
-        self.errors = None
-
-    def status(self) -> int:
-        """Waits for its end, which comes in time, and tells the status."""
-        try:
-            return self.process.wait(END_WAIT)
-        except subprocess.TimeoutExpired:
-            self.process.kill()
-            return self.process.wait()
 
 
 def bound_port(port: int | None) -> socket.socket | None:

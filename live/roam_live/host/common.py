@@ -1,0 +1,160 @@
+"""What a pty host has once for all windows: its loop, the scrollback rows, the socket, and processes that were hung up."""
+from __future__ import annotations
+
+import contextlib
+import signal
+from collections.abc import Callable
+
+from roam_live.common.errors import reason, say
+from roam_live.common.event_loop import Loop
+from roam_live.common.fault_log import FaultLog
+from roam_live.common.io import read
+from roam_live.host.options import Spare, has_ended
+from roam_live.host.scrollback import Scrollback, pane_of_key
+from roam_live.host.socket_server import HostSocket
+from roam_live.protocol.panes import OTHER
+from roam_live.session.tmp_keepalive import LOOKS
+
+TYPE_CHECKING = False
+if TYPE_CHECKING:
+    from roam_live.host.window import WindowHost
+
+# So many seconds later what the system refused is tried again.
+AGAIN = 0.25
+
+# What ends the host. Its shells hang up then.
+LEAVING = (signal.SIGTERM, signal.SIGHUP)
+
+# So many seconds who writes rows down has for the last of them, where the session ends.
+LOGS_END = 1.0
+
+
+class Common:
+    """What a host has once for all windows: its loop, the scrollback rows, the socket `host`, the processes that
+    were hung up, and descriptors that are kept for need."""
+
+    def __init__(self, wakeup: int, loop: Loop | None = None) -> None:
+        self.wakeup, self.loop = wakeup, loop or Loop()
+        self.faults = FaultLog(self.loop.clock)
+        # The panes of each window, by its number; 0 is that of a session that has no others.
+        self.windows: dict[int, WindowHost] = {}
+        self.hung: list[int] = []
+        self.is_over = False
+        # What was refused, as it was told.
+        self.refused: set[str] = set()
+        self.loop.add(wakeup, self.reap)
+        # One for what a pane is begun with, and one by which a pane that can't be begun says so.
+        self.spare, self.voice = Spare(), Spare()
+        with contextlib.suppress(OSError):
+            self.voice.keep()
+            self.spare.keep()
+        self.rows = Scrollback(self.loop, self.tell)
+        self.rows.is_other = self.shows_other
+        self.socket = HostSocket(self.loop, self.rows)
+        self.loop.faults = self.take_fault
+        self.rows.hears_changed = self.see_to_panes
+        # Called once a minute to look after folders.
+        self.lasting: list[Callable[[], object]] = []
+        self.loop.later("folders", LOOKS, self.look_at_folders)
+
+    def take_fault(self, fault: Exception) -> None:
+        """Log an unexpected exception. If memory is short, drop scrollback rows first: they matter least."""
+        if isinstance(fault, MemoryError):
+            self.rows.shed()
+        self.faults.take(fault)
+
+    def see_to_panes(self) -> None:
+        """Check all panes whether they are read now."""
+        for window in self.windows.values():
+            for pane in window.panes.values():
+                pane.see_to_ends()
+
+    def see_to(self, lasts: Callable[[], object]) -> None:
+        """Call something before the next wait, and then once a minute, to look after a folder."""
+        self.lasting.append(lasts)
+        self.loop.soon(lasts)
+
+    def see_no_more(self, lasts: Callable[[], object]) -> None:
+        """Stop calling it."""
+        if lasts in self.lasting:
+            self.lasting.remove(lasts)
+
+    def look_at_folders(self) -> None:
+        """Look after all folders."""
+        for lasts in list(self.lasting):
+            self.loop.is_done(lasts)
+        self.loop.later("folders", LOOKS, self.look_at_folders)
+
+    def tell(self, text: str) -> None:
+        """Log what a person has to know, and send it to the terminals at all windows."""
+        say(text)
+        for window in list(self.windows.values()):
+            window.channel.notify(text)
+
+    def shows_other(self, key: int) -> bool:
+        """Whether a pane's program is known to show the other screen."""
+        number, pane = pane_of_key(key)
+        window = self.windows.get(number)
+        return window is not None and window.panes_state.has_set(pane, OTHER)
+
+    def keep_spares(self) -> None:
+        """Has the spare descriptors, as soon as they are to be had: first that by which a pane says what it hasn't."""
+        try:
+            for spare in (self.voice, self.spare):
+                spare.keep()
+        except OSError as fault:
+            self.refuse("a spare descriptor", fault)
+
+    def refuse(self, what: str, fault: OSError) -> None:
+        """Takes note of what the system refused, which is tried again; the log is told once until all is had."""
+        if what not in self.refused:
+            self.refused.add(what)
+            self.tell(f"{what}: {reason(fault)}; tried again")
+        self.loop.later("again", AGAIN, self.try_again)
+
+    def try_again(self) -> None:
+        """Tries again what was refused."""
+        for window in list(self.windows.values()):
+            window.begin_again()
+        self.keep_spares()
+        if "again" not in self.loop.due:
+            self.refused.clear()
+
+    def reap(self) -> None:
+        """Takes note of commands that ended, and of a signal to end."""
+        if any(number in LEAVING for number in read(self.wakeup) or b""):
+            self.is_over = True
+        self.hung = [process for process in self.hung if not has_ended(process)]
+        for window in list(self.windows.values()):
+            self.loop.is_done(window.reap)
+
+    def turn(self) -> None:
+        """Waits until something can be done, and does it."""
+        self.loop.turn()
+
+    def run(self) -> int:
+        """Keeps the shells of a session of one window until it ends."""
+        try:
+            while not self.is_over and not any(window.is_over for window in self.windows.values()):
+                self.turn()
+        finally:
+            self.close()
+        return 0
+
+    def end_logs(self) -> None:
+        """Tells who writes rows down what stood last in the panes, as far as that is soon taken."""
+        end = self.loop.clock() + LOGS_END
+        self.loop.at("end logs", end, lambda: None)
+        while self.rows.leaving and self.loop.clock() < end:
+            self.loop.turn()
+
+    def close(self) -> None:
+        """Ends all that is left: the shells first, of which who writes rows down has the last."""
+        windows = list(self.windows.values())
+        for window in windows:
+            window.hang_up()
+        self.end_logs()
+        for window in windows:
+            window.close()
+        self.socket.close()
+        self.rows.close()

@@ -1,0 +1,142 @@
+"""What connections give the pty host: texts that are pasted, buffers, and commands for new panes, each with its bytes behind a line."""
+from __future__ import annotations
+
+import re
+
+from roam_live.host.paste_buffers import NOTHING, READ_ONLY, UNKNOWN, Buffers
+from roam_live.host.pending_pastes import KEPT, PendingPaste, PendingPastes
+from roam_live.host.socket_peer import HostPeer, Upload
+from roam_live.protocol.host_lines import SESSION, led
+from roam_live.protocol.paste_text import LOST, cleaned
+from roam_live.protocol.spawn_request import RAN, REFUSED, RUN
+from roam_live.session.environment import ENVIRONMENT
+
+TYPE_CHECKING = False
+if TYPE_CHECKING:
+    from roam_live.host.socket_server import HostSocket
+
+# How one gives a text, whose bytes follow, and asks for one that it gave.
+PASTE = re.compile(r"paste ([0-9a-f]{16}) ([1-9]\d{0,8})( plain)?", re.ASCII)
+STATUS = re.compile(r"status ([0-9a-f]{16})", re.ASCII)
+
+# How one gives a buffer, has one kept, whose bytes follow, and asks for one, or for all.
+PASTE_BUFFER = re.compile(r"paste ([0-9a-f]{16}) buffer (\d{1,9})", re.ASCII)
+BUFFER = re.compile(r"buffer (add|show) (\d{1,9})", re.ASCII)
+BUFFER_LIST = "buffer list"
+
+
+class Uploads:
+    """Texts, buffers and commands that come over a socket, and what becomes of them."""
+
+    def __init__(self, socket: HostSocket) -> None:
+        self.socket = socket
+        self.texts, self.buffers = PendingPastes(socket.loop, self.tell_text), Buffers()
+
+    def take_line(self, peer: HostPeer, line: str) -> bool:
+        """Take a line about a text, a buffer, a command or the environment of new panes, and return True if it is one."""
+        gives, asks = PASTE.fullmatch(line), STATUS.fullmatch(line)
+        if gives:
+            self.begin_upload(peer, gives[1], int(gives[2]), bool(gives[3]))
+        elif asks:
+            peer.wants(asks[1])
+            self.socket.send(peer, [f"{self.texts.state(asks[1])} {asks[1]}"])
+        elif line == ENVIRONMENT:
+            self.socket.send(peer, self.socket.pane_environment.lines())
+        else:
+            return self.take_buffer_line(peer, line) or self.take_run_line(peer, line)
+        return True
+
+    def begin_upload(self, peer: HostPeer, name: str, length: int, is_plain: bool) -> None:
+        """Takes a text, whose bytes follow, where there is room; one that was given before is known."""
+        is_known = self.texts.state(name) != LOST
+        refusal = "" if is_known else self.texts.refusal(length)
+        peer.upload = Upload(name, length, is_plain, not is_known and not refusal, refusal)
+        self.texts.coming += length if peer.upload.is_kept else 0
+        peer.wants(name)
+
+    def take_buffer_line(self, peer: HostPeer, line: str) -> bool:
+        """Takes a line about buffers, and tells whether it is one."""
+        gives, asks = PASTE_BUFFER.fullmatch(line), BUFFER.fullmatch(line)
+        if line == BUFFER_LIST:
+            head, *others = self.buffers.lines()
+            self.socket.answer(peer, "".join(f"{one}\n" for one in (led(peer.said, head), *others)).encode("utf-8", "replace"))
+        elif gives:
+            self.paste_buffer(peer, gives[1], self.buffers.texts.get(int(gives[2])))
+        elif asks and asks[1] == "add":
+            self.begin_buffer(peer, int(asks[2]))
+        elif asks:
+            data = self.buffers.texts.get(int(asks[2]))
+            told = f"buffer show {int(asks[2])} {'none' if data is None else len(data)}"
+            self.socket.answer(peer, f"{led(peer.said, told)}\n".encode() + (data or b""))
+        return bool(line == BUFFER_LIST or gives or asks)
+
+    def begin_buffer(self, peer: HostPeer, length: int) -> None:
+        """Takes a text that is to be a buffer, whose bytes follow."""
+        refusal = READ_ONLY if peer.is_read_only() else self.buffers.refusal(length)
+        peer.upload = Upload("", length, False, not refusal, refusal, is_buffer=True)
+        self.buffers.coming += 0 if refusal else length
+
+    def take_run_line(self, peer: HostPeer, line: str) -> bool:
+        """Takes a command for a new pane, whose bytes follow, of who doesn't only watch; tells whether the line is one."""
+        runs, channel = RUN.fullmatch(line), self.socket.channel(peer.said)
+        if not runs or peer.is_read_only() or not channel:
+            return False
+        refusal = channel.handed.refusal(int(runs[4]))
+        peer.upload = Upload(runs[1], int(runs[4]), False, not refusal, refusal)
+        peer.upload.beside = int(runs[2] or 0), int(runs[3] or 0)
+        return True
+
+    def take_run(self, peer: HostPeer, upload: Upload, beside: tuple[int, int]) -> None:
+        """Has a command wait for its pane whose bytes are all there."""
+        channel = self.socket.channel(peer.said)
+        if upload.refusal or not channel:
+            self.socket.send(peer, [f"{RAN} {upload.name} {REFUSED} {upload.refusal}"], SESSION)
+        else:
+            channel.handed.take(peer, upload.name, beside, bytes(upload.data))
+
+    def paste_buffer(self, peer: HostPeer, name: str, data: bytes | None) -> None:
+        """Takes a buffer for a text, as if its characters were given."""
+        text = cleaned((data or b"").decode("utf-8", "replace")).encode()
+        if not text and self.texts.state(name) == LOST:
+            self.socket.send(peer, [f"refused {name} {UNKNOWN if data is None else NOTHING}"])
+            return
+        self.begin_upload(peer, name, len(text), False)
+        if peer.upload:
+            peer.upload.take(bytearray(text))
+            self.end(peer, peer.upload)
+
+    def wait_for(self, peer: HostPeer) -> None:
+        """Waits for more of a text; one of which nothing more comes takes its room no longer than others."""
+        self.socket.loop.later(f"upload by {peer.number}", KEPT, lambda: self.socket.drop(peer))
+
+    def end(self, peer: HostPeer, upload: Upload) -> None:
+        """Has a text wait whose bytes are all there, and answers."""
+        self.drop(peer)
+        if upload.beside is not None:
+            self.take_run(peer, upload, upload.beside)
+            return
+        if upload.is_buffer:
+            told = f"none {upload.refusal}" if upload.refusal else f"{self.buffers.add(bytes(upload.data))} {upload.length}"
+            self.socket.send(peer, [f"buffer add {told}"])
+            return
+        if upload.is_kept:
+            self.texts.take(PendingPaste(upload.name, bytes(upload.data), upload.is_plain))
+        state = self.texts.state(upload.name)
+        self.socket.send(peer, [f"refused {upload.name} {upload.refusal}" if upload.refusal else f"{state} {upload.name}"])
+
+    def drop(self, peer: HostPeer) -> None:
+        """Waits for no more of a text."""
+        upload = peer.upload
+        is_counted = upload and upload.is_kept and upload.beside is None
+        if upload and is_counted and upload.is_buffer:
+            self.buffers.coming -= upload.length
+        elif upload and is_counted:
+            self.texts.coming -= upload.length
+        peer.upload = None
+        self.socket.loop.drop(f"upload by {peer.number}")
+
+    def tell_text(self, name: str, word: str) -> None:
+        """Tells what became of a text to who gave it, or asked for it."""
+        for peer in [peer for peer in self.socket.peers if name in peer.names]:
+            del peer.names[name]
+            self.socket.send(peer, [f"{word} {name}"], SESSION)
