@@ -15,7 +15,7 @@ from roam_live.config import environment
 from roam_live.protocol import client_link, datagram_stream, panes_client, server_address
 from roam_live.protocol.server_address import Home
 from roam_live.relay import common, far, frames, near
-from roam_live.session import foreground, front_end_lock, host_watchdog, place as session_place, remote, tmp_keepalive
+from roam_live.session import foreground, front_end_lock, host_watchdog, folder as session_folder, remote, tmp_keepalive
 
 
 class Programs(Case):
@@ -563,7 +563,7 @@ class Numbers(Case):
 
     def test_relay(self):
         """A relay is alone for an hour, its far end half a minute; seven seconds are silence; `ls` tells of more than 32 starts."""
-        self.assertEqual((remote.ALONE, session_place.MANY_CLIENTS), (3600, 32))
+        self.assertEqual((remote.ALONE, session_folder.MANY_CLIENTS), (3600, 32))
         self.assertEqual((near.SILENT, far.ALONE, common.PEER_LIMIT, frames.HEARTBEAT), (7.0, 30.0, 256, 3.0))
         self.assertEqual((frames.VERSION, frames.NOISE_LIMIT, frames.MOST_TOLD, frames.WAITING_LIMIT), (2, 65536, 4097, 4 << 20))
 

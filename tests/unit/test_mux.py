@@ -18,8 +18,8 @@ from roam_live.frontend import app
 from roam_live.protocol.panes import Places, Rect
 from roam_live.relay.frames import greeting
 from roam_live.session import environment as session_environment, local, lookup
-from roam_live.session.local import Session, Window
-from roam_live.session.place import Place
+from roam_live.session.folder import SessionFolder
+from roam_live.session.local import LocalSession, Window
 from roam_live.session.remote import RemoteSession
 
 mux = loaded("mux")
@@ -43,22 +43,22 @@ class Mux(Case):
         # What others left is no matter either.
         self.sweeps = self.patch_of(mux, "sweep")
         self.runs, self.done = set(), []
-        self.patch_of(Session, "spawn_host", self.does("spawn_host"))
+        self.patch_of(LocalSession, "spawn_host", self.does("spawn_host"))
         for name in ("launch", "demand_client", "demand_host", "demand_ready", "note_found", "kill", "end_all",
                      "tidy"):
             self.patch_each(name, self.does(name))
         self.patch_each("find", lambda session: session.name in self.runs)
         self.patch_each("runs", lambda session, role=None: session.name in self.runs)
         self.patch_each("busy", lambda session: {1: "vi"})
-        self.patch_of(Session, "busy_programs", Place.busy_programs)
+        self.patch_of(LocalSession, "busy_programs", SessionFolder.busy_programs)
         # Its windows are no matter here: it is as one that has no others.
-        self.patch_of(Session, "served", "server")
-        self.patch_of(Session, "window", lambda session, number=None: session)
-        self.patch_of(Session, "windows", lambda session: [session])
+        self.patch_of(LocalSession, "served", "server")
+        self.patch_of(LocalSession, "window", lambda session, number=None: session)
+        self.patch_of(LocalSession, "windows", lambda session: [session])
 
     def patch_each(self, name, does):
         """Has a session do something else, whether it has windows or not."""
-        for one in (Place, Session):
+        for one in (SessionFolder, LocalSession):
             self.patch_of(one, name, does)
 
     def does(self, name):
@@ -259,7 +259,7 @@ class Starts(Mux):
 
     def test_not_ended(self):
         self.runs.add("main")
-        with mock.patch.object(Session, "end_all"):
+        with mock.patch.object(LocalSession, "end_all"):
             self.refuses("session main doesn't end", "kill", "-f", "main")
 
     def test_ready(self):
@@ -357,14 +357,14 @@ class Starts(Mux):
             self.assertEqual((self.mux("send", "-a", "main.3", "char 61"), sends.call_args[0][1:]), (3, (["char 61"], 3)))
             self.assertEqual((self.mux("capture", "main.3"), takes.call_args[0][1:]), (4, (False, 3)))
         places = Places({1: Rect(1, 1, 5, 5), 2: Rect(1, 7, 5, 5)}, 1)
-        with mock.patch.object(Place, "places", lambda session: places), mock.patch.object(targets, "close_pane") as closes:
+        with mock.patch.object(SessionFolder, "places", lambda session: places), mock.patch.object(targets, "close_pane") as closes:
             self.assertEqual((self.mux("kill", "main.2"), closes.call_args[0][1]), (0, 2))
             self.is_terminal = False
             self.refuses("session main runs vi in pane 1; `mux kill -f main.1` closes it", "kill", "main.1")
             self.refuses("session main has no pane 3", "kill", "main.3")
             self.assertEqual((self.mux("kill", "-f", "main.1"), closes.call_args[0][1]), (0, 1))
             self.is_terminal = True
-            with mock.patch("sys.stdin") as asked, mock.patch.object(Session, "busy", lambda session: None):
+            with mock.patch("sys.stdin") as asked, mock.patch.object(LocalSession, "busy", lambda session: None):
                 asked.readline.return_value = "n\n"
                 self.assertEqual(self.mux("kill", "main.2"), 1)
             self.assertIn("session main runs a program that isn't known; close it? [y/N] ", self.said.getvalue())
@@ -391,8 +391,8 @@ class Listed(Mux):
                 raise found[session.name]
             return found[session.name]
 
-        with mock.patch.object(Place, "is_listed", is_listed), \
-                mock.patch.object(Place, "line", lambda session, survey, windows: f"{session.name} 24 by 80\x1b[c"):
+        with mock.patch.object(SessionFolder, "is_listed", is_listed), \
+                mock.patch.object(SessionFolder, "line", lambda session, survey, windows: f"{session.name} 24 by 80\x1b[c"):
             self.assertEqual(self.mux("ls"), 1)
             self.assertEqual(self.text.getvalue(), "a 24 by 80?[c\n")
             self.assertIn("session ssh:there:main: somebody listens\n", self.said.getvalue())
@@ -487,7 +487,7 @@ class Far(Mux):
         greets = self.patch_of(ssh, "read_greeting", return_value="-")
         self.refuses("standard input is a terminal; `mux ssh` on another machine spawns this end", "far", "main")
         self.is_terminal = False
-        self.patch_of(Place, "process", return_value=17)
+        self.patch_of(SessionFolder, "process", return_value=17)
         self.mux("far", "main")
         self.assertEqual(self.done, [("kill", "main"), ("launch", "main")])
         words = [str(ssh.TOOLS / "relay"), "--far", "--greeted", "--server", "17", "--dir", str(self.base / "main"), "-"]

@@ -22,8 +22,8 @@ from roam_live.protocol.panes import Places, Rect
 from roam_live.protocol.server_address import Home
 from roam_live.relay.frames import greeting, read_greeting
 from roam_live.session import local, lookup, names as session_names, port_session, processes, remote, roles
+from roam_live.session.folder import SessionFolder
 from roam_live.session.local import Window
-from roam_live.session.place import Place
 from roam_live.session.port_session import PortSession
 from roam_live.session.processes import Processes, is_note
 from roam_live.session.remote import RemoteSession
@@ -156,7 +156,7 @@ class Read(Based):
     def test_command_found(self):
         """One whose note is lost is found by its sockets."""
         session = self.session()
-        self.patch_of(Place, "listener", lambda _, name: {"clients": OWN[0], "host": OWN[0]}.get(name))
+        self.patch_of(SessionFolder, "listener", lambda _, name: {"clients": OWN[0], "host": OWN[0]}.get(name))
         self.assertTrue(session.find())
         self.assertEqual(session.state, {"version": WINDOWS_VERSION, "server": OWN, "host": OWN})
         session.note_found()
@@ -238,8 +238,8 @@ class Starts(Based):
     def setUp(self):
         super().setUp()
         self.patch_of(roles, "program", return_value="/roam")
-        self.patch_of(Place, "spawned", lambda session, role, words, *_, **__: self.spawn(session, role, words))
-        self.patch_of(Place, "wait_for", lambda session, role, before, test: self.waits.append((role, before, test)))
+        self.patch_of(SessionFolder, "spawned", lambda session, role, words, *_, **__: self.spawn(session, role, words))
+        self.patch_of(SessionFolder, "wait_for", lambda session, role, before, test: self.waits.append((role, before, test)))
         self.words, self.waits = [], []
 
     def spawn(self, session, role, words):
@@ -284,7 +284,7 @@ class Starts(Based):
 
     def test_full(self):
         """A server that has had its 64 clients hears no other, which is told."""
-        self.patch_of(Place, "places", lambda _, seconds: Places({1: Rect(1, 1, 23, 80)}, 1, 64, 0))
+        self.patch_of(SessionFolder, "places", lambda _, seconds: Places({1: Rect(1, 1, 23, 80)}, 1, 64, 0))
         told = ("session main has had the 64 clients of its life, and hears no other; what runs in it goes on, and `mux kill main` "
                 "ends it")
         with self.assertRaises(Fault) as fault:
@@ -567,7 +567,7 @@ class Sends(Based):
     def test_not_done(self):
         """What can't be done is looked at again for a second, since what was asked for before may not be told yet."""
         told = [Places({1: Rect(1, 1, 23, 80)}, 1, 1)]
-        self.patch_of(Place, "places", lambda _: told[0])
+        self.patch_of(SessionFolder, "places", lambda _: told[0])
         with self.assertRaisesRegex(Fault, "^'focus 2' can't be done: there is no pane 2. None was typed$"):
             send.send(self.session(), ["focus 2"])
         self.assertTrue(101.0 < self.now <= 101.1)
@@ -586,7 +586,7 @@ class Sends(Based):
             self.link.has_come = self.link.records.begun = True
             self.answers, session = answers, self.session()
             words = f"session main: {told}" if told else "session main takes no more acts; some may have been typed"
-            with mock.patch.object(Place, "runs", return_value=runs):
+            with mock.patch.object(SessionFolder, "runs", return_value=runs):
                 if told is None:
                     self.assertEqual(send.send(session, ["char 61"]), 0)
                     continue

@@ -16,7 +16,7 @@ from roam_live.common.errors import Fault
 from roam_live.common.process import begun, note_end
 from roam_live.session import local, lookup, survey
 from roam_live.session.front_end_lock import locked_session
-from roam_live.session.local import Session, Window
+from roam_live.session.local import LocalSession, Window
 from roam_live.session.remote import RemoteSession
 from roam_live.session.window_state import WINDOWS_VERSION
 

@@ -16,11 +16,11 @@ from roam_live.common.errors import Fault
 from roam_live.common.process import begun, end_words, is_running
 from roam_live.common.unix_socket import is_listened
 from roam_live.protocol.panes import Places, Rect
-from roam_live.session import foreground, local, lookup, place as session_place, remote, roles
+from roam_live.session import foreground, local, lookup, folder as session_folder, remote, roles
+from roam_live.session.folder import SessionFolder
 from roam_live.session.front_end_lock import has_front_ends
-from roam_live.session.local import Session, Window
+from roam_live.session.local import LocalSession, Window
 from roam_live.session.lookup import session_named, window_in
-from roam_live.session.place import Place
 from roam_live.session.window_state import WINDOWS_VERSION, is_spare_server, numbers_in
 
 PLACES = Places({1: Rect(1, 1, 23, 80)}, 1, 1)
@@ -59,10 +59,10 @@ class Found(Sessions):
     def test_kinds(self):
         """A name is that of a session, and a folder that of a window: of a session's, or of one whose server was started by hand, which
         is no session's."""
-        self.assertIsInstance(session_named("new"), Session)
+        self.assertIsInstance(session_named("new"), LocalSession)
         self.noted("main", host=self.own)
         (self.base / "main/clients").touch()
-        self.assertIsInstance(session_named("main"), Session)
+        self.assertIsInstance(session_named("main"), LocalSession)
         for path, number in (("main/w/3", 3), ("main/w/0", 0), ("main/w/100", 0), ("main", 0)):
             window = window_in(self.base / path)
             self.assertEqual((type(window), window.number, window.session is not None), (Window, number, number > 0), path)
@@ -133,7 +133,7 @@ class Found(Sessions):
         window = session.window(2)
         self.noted("main", 2, server=self.own, client=self.own)
         window.read()
-        age = self.patch_of(session_place, "age_of", return_value=9.9)
+        age = self.patch_of(session_folder, "age_of", return_value=9.9)
         self.assertTrue(window.has_client())
         age.return_value = 10.1
         self.assertFalse(window.has_client())
@@ -209,7 +209,7 @@ class Unknown(Sessions):
         """A session whose processes are noted runs, though none of them can be looked at."""
         session = self.session()
         again = self.full()
-        found = session.find(), session.runs("host"), Place.runs(session, "host"), is_running(1 << 22, 1)
+        found = session.find(), session.runs("host"), SessionFolder.runs(session, "host"), is_running(1 << 22, 1)
         again()
         self.assertEqual(found, (True, True, True, False))
 
@@ -221,7 +221,7 @@ class Unknown(Sessions):
         before = sorted(path.name for path in self.base.rglob("*"))
         again = self.full()
         told = []
-        session = Session(self.base / "main")
+        session = LocalSession(self.base / "main")
         window = session.window_of(2)
         for does in (session.find, window.find, lambda: window.listener("clients"), lambda: numbers_in(str(self.base / "main/w")),
                      window.clean, session.tidy):
@@ -253,9 +253,9 @@ class Launched(Sessions):
         self.spawned, self.waits, self.ended, self.refused = [], [], [], ""
         for module in (roles,):
             self.patch_of(module, "program", return_value="/roam")
-        self.patch_of(Place, "spawned", lambda session, role, words: self.spawn(session, role, words))
-        self.patch_of(Place, "wait_for", lambda session, role, before, test: self.waits.append((role, test)))
-        self.patch_of(Place, "end", lambda session, role: self.ended.append((session.name, role)))
+        self.patch_of(SessionFolder, "spawned", lambda session, role, words: self.spawn(session, role, words))
+        self.patch_of(SessionFolder, "wait_for", lambda session, role, before, test: self.waits.append((role, test)))
+        self.patch_of(SessionFolder, "end", lambda session, role: self.ended.append((session.name, role)))
         (self.base / "new").mkdir(mode=0o700)
         self.new = session_named("new")
 
@@ -462,18 +462,18 @@ class Asked(Sessions):
                                            (7, wide, {}, " 7 -                24 by 80     2 panes"),
                                            (7, None, None, " 7 -                -            ? panes")):
             self.answers, self.host = [b"window %d %s\nwindows 1\n" % (number, b"61e282ac62" if number == 2 else b"-")], None
-            self.patch_of(Place, "places", lambda session: places)
+            self.patch_of(SessionFolder, "places", lambda session: places)
             self.patch_of(Window, "busy", lambda session: busy)
             list_windows(self.window)
             self.assertEqual(self.text.getvalue().splitlines()[-1], line.replace("a?b", "a\u20acb"))
 
     def test_opened(self):
         """A window is opened of the size of that at which it is asked for, and has a name where one is given."""
-        self.patch_of(Place, "places", lambda session: Places({1: Rect(1, 1, 29, 100)}, 1))
+        self.patch_of(SessionFolder, "places", lambda session: Places({1: Rect(1, 1, 29, 100)}, 1))
         self.answers = [b"opened 4\n"]
         self.assertEqual(new_window(self.window, ""), 0)
         self.assertEqual((read_now(self.host), self.text.getvalue()), (b"open 30 100\n", "main:4\n"))
-        self.patch_of(Place, "places", lambda session: None)
+        self.patch_of(SessionFolder, "places", lambda session: None)
         self.answers, self.host = [b"opened 5\n", b"windows 0\n", b"window 5 6162\n"], None
         self.assertEqual(new_window(self.window, "ab"), 0)
         self.assertEqual((read_now(self.host), self.text.getvalue()), (b"open 24 80\nwindows\nname 5 6162\n", "main:4\nmain:5\n"))

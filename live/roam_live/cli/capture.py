@@ -16,7 +16,7 @@ TYPE_CHECKING = False
 if TYPE_CHECKING:
     from roam_live.protocol.client_link import ClientLink
     from roam_live.protocol.panes import Rect
-    from roam_live.session.place import Place
+    from roam_live.session.folder import SessionFolder
 
 # So many seconds a screen is waited for, and so many pass until one is asked for again that the client hasn't heard of yet.
 SCREEN_WAIT = 5.0
@@ -59,7 +59,7 @@ def asked_screen(link: ClientLink, asks: str) -> bytes:
         link.close()
 
 
-def capture(session: Place, is_drawn: bool, pane: int = 0) -> int:
+def capture(session: SessionFolder, is_drawn: bool, pane: int = 0) -> int:
     """Prints what a session shows, or a pane of it, or a picture of that, and tells the status."""
     rect = pane_places(session, pane).rects[pane] if pane else None
     data = asked_screen(opened(session, True), "look sgr" if is_drawn else "look")

@@ -10,7 +10,7 @@ from roam_live.protocol.spawn_request import DONE, RAN
 TYPE_CHECKING = False
 if TYPE_CHECKING:
     from roam_live.protocol.spawn_request import Begins
-    from roam_live.session.place import Place
+    from roam_live.session.folder import SessionFolder
 
 # The acts of wishes that are done by acts alone.
 ACTS = {"split right": "split right", "split down": "split down", "close": "close"}
@@ -18,7 +18,7 @@ ACTS = {"split right": "split right", "split down": "split down", "close": "clos
 OWN = "it is a terminal's own, and done there by a key or behind C-b :"
 
 
-def run(window: Place, pane: int, words: list[str]) -> int:
+def run(window: SessionFolder, pane: int, words: list[str]) -> int:
     """Does a command in a window, of a pane where one is named, and tells the status. Fault tells what can't be done."""
     try:
         asked = asked_by(words)
@@ -40,7 +40,7 @@ def placed(begins: Begins) -> Begins:
     return begins._replace(folder=os.path.abspath(begins.folder)) if is_own else begins
 
 
-def split(window: Place, pane: int, act: str, begins: Begins) -> int:
+def split(window: SessionFolder, pane: int, act: str, begins: Begins) -> int:
     """Splits a pane, or that in focus, with a command in the new one, and ends once it has begun there."""
     from roam_live.cli import send
     from roam_live.cli.targets import making_of, pane_places
@@ -57,7 +57,7 @@ def split(window: Place, pane: int, act: str, begins: Begins) -> int:
     return status
 
 
-def changed(window: Place, asked: CommandWish, name: str) -> int:
+def changed(window: SessionFolder, asked: CommandWish, name: str) -> int:
     """Does what is asked of a session's windows or terminals."""
     from roam_live.cli import windows
 

@@ -6,10 +6,10 @@ from roam_live.protocol.client_link import FIRST_WAIT, SILENT, ClientLink
 
 TYPE_CHECKING = False
 if TYPE_CHECKING:
-    from roam_live.session.place import Place
+    from roam_live.session.folder import SessionFolder
 
 
-def opened(session: Place, is_read_only: bool) -> ClientLink:
+def opened(session: SessionFolder, is_read_only: bool) -> ClientLink:
     """Return a connection over which records come; Fault tells why none do."""
     link = ClientLink(session.terminals, is_read_only)
     link.connect()

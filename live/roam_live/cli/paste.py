@@ -20,7 +20,7 @@ from roam_live.protocol.scrollback_client import BAD_LINE
 
 TYPE_CHECKING = False
 if TYPE_CHECKING:
-    from roam_live.session.place import Place
+    from roam_live.session.folder import SessionFolder
 
 # So many seconds a host has for taking a connection, and something of a text, and for putting the text in the place of its placeholder.
 CONNECTS = 1.0
@@ -30,7 +30,7 @@ TAKES = 10.0
 class PasteClient:
     """A connection to the pty host, by which a text is given."""
 
-    def __init__(self, session: Place) -> None:
+    def __init__(self, session: SessionFolder) -> None:
         self.session = session
         self.peer = connected_in(session.common / "host", CONNECTS)
         self.lines = Lines()
@@ -76,7 +76,7 @@ class PasteClient:
         return self.answer(STORED)
 
 
-def store_text(session: Place, data: bytes, is_plain: bool) -> PasteClient | None:
+def store_text(session: SessionFolder, data: bytes, is_plain: bool) -> PasteClient | None:
     """The connection to a host that holds a text; None where none is there that takes any."""
     try:
         client = PasteClient(session)
@@ -88,7 +88,7 @@ def store_text(session: Place, data: bytes, is_plain: bool) -> PasteClient | Non
     return None
 
 
-def type_text(session: Place, text: str, pane: int, is_plain: bool) -> int:
+def type_text(session: SessionFolder, text: str, pane: int, is_plain: bool) -> int:
     """Has a text typed, whole and at one place among all acts, into a pane or that in focus: between brackets where its program wants them
     and it isn't plain. Where no host is there, as of a session that was begun by hand, it is typed as acts."""
     focus = pane_places(session, pane).focus if pane else 0
@@ -105,7 +105,7 @@ def type_text(session: Place, text: str, pane: int, is_plain: bool) -> int:
     return 0
 
 
-def insert_text(session: Place, client: PasteClient, pane: int, focus: int) -> int:
+def insert_text(session: SessionFolder, client: PasteClient, pane: int, focus: int) -> int:
     """Has the placeholder typed of a text that the host holds, and returns once the text is put there."""
     type_lines(session, opened(session, False), lines_in_pane(placeholder_acts(client.name), pane, focus, "paste ; "))
     if not client.answer(INSERTED):
@@ -113,7 +113,7 @@ def insert_text(session: Place, client: PasteClient, pane: int, focus: int) -> i
     return 0
 
 
-def paste_buffer(session: Place, number: int, pane: int) -> int:
+def paste_buffer(session: SessionFolder, number: int, pane: int) -> int:
     """Has a buffer of the host's pasted into a pane, or into that in focus."""
     focus = pane_places(session, pane).focus if pane else 0
     try:

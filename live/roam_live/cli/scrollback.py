@@ -24,7 +24,7 @@ if TYPE_CHECKING:
     from collections.abc import Callable
     from typing import Any
 
-    from roam_live.session.place import Place
+    from roam_live.session.folder import SessionFolder
 
 # So many seconds a host has for an answer, or a part of one.
 ANSWERS = 10.0
@@ -43,7 +43,7 @@ IN_STYLE = frozenset("0123456789;:")
 class RowsAsked:
     """A connection to a session's host, by which rows and buffers are asked for one after the other."""
 
-    def __init__(self, session: Place) -> None:
+    def __init__(self, session: SessionFolder) -> None:
         self.session = session
         try:
             self.peer = connected_in(session.common / "host", CONNECTS)
@@ -119,7 +119,7 @@ def row_number(word: str | None, snapshot: Snapshot, default: int, outermost: in
     return min(max(snapshot.end + int(word), snapshot.first), snapshot.end + len(snapshot.screen) - 1)
 
 
-def capture_rows(session: Place, pane: int, begin: str | None, end: str | None, has_styles: bool, is_joined: bool) -> int:
+def capture_rows(session: SessionFolder, pane: int, begin: str | None, end: str | None, has_styles: bool, is_joined: bool) -> int:
     """Prints rows of a pane, those of its screen where no others are named, and tells the status."""
     asked = RowsAsked(session)
     snapshot = asked.snapshot(pane)
@@ -137,7 +137,7 @@ def capture_rows(session: Place, pane: int, begin: str | None, end: str | None, 
     return 0
 
 
-def log_rows(session: Place, pane: int, has_styles: bool, is_joined: bool) -> int:
+def log_rows(session: SessionFolder, pane: int, has_styles: bool, is_joined: bool) -> int:
     """Prints each row of a pane as it leaves the screen, and what stands there where the pane ends, and tells the status then."""
     asked = RowsAsked(session)
     number, generation = making_of(session, pane)
@@ -188,14 +188,14 @@ def buffer_number(asked: RowsAsked, word: str | None) -> int:
     return notes[0].number
 
 
-def list_buffers(session: Place) -> int:
+def list_buffers(session: SessionFolder) -> int:
     """Prints a line for each buffer, the newest first."""
     for note in buffer_notes(RowsAsked(session)):
         print(f"{note.number}: {note.length} bytes: {printable(note.sample)}")
     return 0
 
 
-def show_buffer(session: Place, word: str | None) -> int:
+def show_buffer(session: SessionFolder, word: str | None) -> int:
     """Prints a buffer, byte by byte; to a terminal its characters."""
     asked = RowsAsked(session)
     number = buffer_number(asked, word)
@@ -209,7 +209,7 @@ def show_buffer(session: Place, word: str | None) -> int:
     return 0
 
 
-def set_buffer(session: Place, text: str | None) -> int:
+def set_buffer(session: SessionFolder, text: str | None) -> int:
     """Has a text kept as a buffer, or what is read from standard input."""
     data = sys.stdin.buffer.read(MOST_BUFFER + 1) if text is None else os.fsencode(text)
     if not 0 < len(data) <= MOST_BUFFER:
@@ -221,7 +221,7 @@ def set_buffer(session: Place, text: str | None) -> int:
     return 0
 
 
-def put_buffer(session: Place, word: str | None, pane: int) -> int:
+def put_buffer(session: SessionFolder, word: str | None, pane: int) -> int:
     """Pastes a buffer into a pane, or into that in focus."""
     return paste_buffer(session, buffer_number(RowsAsked(session), word), pane)
 

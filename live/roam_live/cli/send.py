@@ -20,7 +20,7 @@ if TYPE_CHECKING:
     from collections.abc import Callable
 
     from roam_live.protocol.client_link import ClientLink
-    from roam_live.session.place import Place
+    from roam_live.session.folder import SessionFolder
 
 # So many seconds a session may take none of the acts that its client process was given.
 SEND_WAIT = 10.0
@@ -106,7 +106,7 @@ def wrong_in(acts: list[str], places: Places | None) -> str:
     return next((f"{act!r} can't be done: {why}" for act, why in found if why), "")
 
 
-def demand_acts(session: Place, acts: list[str]) -> None:
+def demand_acts(session: SessionFolder, acts: list[str]) -> None:
     """Refuses what is no act, by a client process that takes no turn: the session never knows it."""
     lines = "".join(f"{act}\n" for act in acts)
     words = Home(folder=str(session.folder)).attach_words(["--keys", "/dev/stdin", "--turns", "0"])
@@ -117,7 +117,7 @@ def demand_acts(session: Place, acts: list[str]) -> None:
         raise Fault(f"{acts[int(line[1]) - 1]!r} is no act, which the page roam(1) lists, and no key. None was typed" if line else said)
 
 
-def demand_doable(session: Place, acts: list[str]) -> None:
+def demand_doable(session: SessionFolder, acts: list[str]) -> None:
     """Refuses acts of which one can't be done."""
     end = time.monotonic() + TOLD_WAIT
     while True:
@@ -152,7 +152,7 @@ def lines_in_pane(acts: list[str], pane: int, focus: int, leads: str = "") -> li
     return [leads + " ; ".join([*begins, *acts[place : place + most], *ends]) for place in range(0, len(acts), most)]
 
 
-def type_lines(session: Place, link: ClientLink, lines: list[str]) -> None:
+def type_lines(session: SessionFolder, link: ClientLink, lines: list[str]) -> None:
     """Types lines of acts, and returns once the session has taken all of them."""
     for line in lines:
         link.say(line)
@@ -167,7 +167,7 @@ def type_lines(session: Place, link: ClientLink, lines: list[str]) -> None:
     raise Fault(f"session {session.name} takes no more acts; some may have been typed")
 
 
-def send_words(session: Place, words: list[str], pane: int = 0) -> int:
+def send_words(session: SessionFolder, words: list[str], pane: int = 0) -> int:
     """Types keys by tmux's names, and any other word's characters, into a session, as `send` types acts."""
     try:
         acts = [act for word in words for act in acts_of_word(os.fsencode(word).decode("utf-8", "replace"))]
@@ -176,7 +176,7 @@ def send_words(session: Place, words: list[str], pane: int = 0) -> int:
     return send(session, acts, pane)
 
 
-def send(session: Place, words: list[str], pane: int = 0) -> int:
+def send(session: SessionFolder, words: list[str], pane: int = 0) -> int:
     """Types acts, and keys by tmux's names, into a session, in a pane where one is named, and ends once it has taken all of them."""
     acts = [act for word in words for act in acts_named(word) or [word.replace("\n", "\\n")]]
     if not acts:

@@ -13,7 +13,7 @@ from roam_live.common.process import TOOLS
 from roam_live.config.environment import wants_udp
 from roam_live.relay.frames import greeting, read_greeting
 from roam_live.session.environment import send_environment
-from roam_live.session.place import Place
+from roam_live.session.folder import SessionFolder
 from roam_live.session.names import base, check_name
 from roam_live.session.remote import RemoteSession
 
@@ -86,7 +86,7 @@ def is_first_client(places: Places | None) -> bool:
     return places is not None and places.clients <= 1
 
 
-def carry(name: str, launched: Callable[[Place], bool]) -> int:
+def carry(name: str, launched: Callable[[SessionFolder], bool]) -> int:
     """Carries a session's datagrams over standard input and output. One that the other end knew and that has ended isn't launched anew;
     whether another runs, or was begun halfway, a call tells under its lock. What sshd set here is brought to the session."""
     wanted, target = read_greeting(0), target_of(name)

@@ -18,7 +18,7 @@ if TYPE_CHECKING:
     import socket
 
     from roam_live.protocol.panes import Places
-    from roam_live.session.place import Place
+    from roam_live.session.folder import SessionFolder
 
 # The name of a session, or of what stands here for one of another machine, which may be missing; a window of it, and a pane.
 WORD = re.compile(r"(?P<name>ssh:[^:]+:[^:.]+(?::[0-9a-f]{8})?|[^:.]*)(?::(?P<window>[1-9]\d?))?(?:\.(?P<pane>[1-9]))?|:", re.ASCII)
@@ -46,7 +46,7 @@ def target_of(word: str) -> Target:
     return Target(found["name"] or "", int(found["window"]) if found["window"] else None, int(found["pane"] or 0))
 
 
-def session_of(target: Target) -> Place:
+def session_of(target: Target) -> SessionFolder:
     """The session that is named, or the one in which this process runs."""
     from roam_live.session.lookup import session_named, window_in
 
@@ -58,7 +58,7 @@ def session_of(target: Target) -> Place:
     return window_in(folder).whole_session()
 
 
-def window_of(session: Place, target: Target) -> Place:
+def window_of(session: SessionFolder, target: Target) -> SessionFolder:
     """The window that is named of a session which runs: where none is, that in which this process runs, else that where somebody was
     last."""
     from roam_live.session.lookup import window_in
@@ -71,12 +71,12 @@ def window_of(session: Place, target: Target) -> Place:
     return window
 
 
-def is_in(folder: str, session: Place) -> bool:
+def is_in(folder: str, session: SessionFolder) -> bool:
     """Whether a folder is that of a session, or of a window of it."""
     return os.path.abspath(folder) == str(session.folder) or os.path.abspath(folder).startswith(f"{session.folder}/w/")
 
 
-def pane_places(session: Place, pane: int) -> Places:
+def pane_places(session: SessionFolder, pane: int) -> Places:
     """Where the panes of a session are, of which one is named; Fault where that isn't told, or it isn't there."""
     places = session.places()
     if places is None:
@@ -111,7 +111,7 @@ class AskedPanes:
             end = min(end, time.monotonic() + BEHIND) if self.told.places() else end
 
 
-def making_of(session: Place, pane: int) -> tuple[int, int]:
+def making_of(session: SessionFolder, pane: int) -> tuple[int, int]:
     """A pane, or that in focus where none is named, and its life; Fault where that isn't told, or it isn't there."""
     try:
         with connected_in(session.folder / "panes", ASKED) as peer:
@@ -127,7 +127,7 @@ def making_of(session: Place, pane: int) -> tuple[int, int]:
     return number, int(generation)
 
 
-def wants_brackets(session: Place, pane: int) -> bool:
+def wants_brackets(session: SessionFolder, pane: int) -> bool:
     """Whether the program in a pane, or in the one in focus, is known to want what is pasted between brackets."""
     try:
         with connected_in(session.folder / "panes", ASKED) as peer:
@@ -140,7 +140,7 @@ def wants_brackets(session: Place, pane: int) -> bool:
     return places is not None and asked.told.has_set(pane or places.focus, BRACKETED)
 
 
-def close_pane(session: Place, pane: int) -> None:
+def close_pane(session: SessionFolder, pane: int) -> None:
     """Closes a pane; Fault tells why that can't be done."""
     try:
         with connected_in(session.folder / "panes", ASKED) as peer:

@@ -21,7 +21,7 @@ if TYPE_CHECKING:
     import socket
 
     from roam_live.protocol.spawn_request import Begins
-    from roam_live.session.place import Place
+    from roam_live.session.folder import SessionFolder
 
 # So many seconds the host has for taking a connection, and for what it is asked: a window has to be opened, or to end, in that time.
 CONNECTS = 1.0
@@ -43,7 +43,7 @@ ONE_WINDOW = "session {}: it was begun by hand, and has one window"
 class WindowsAsked:
     """A connection to the host, at the socket of one window."""
 
-    def __init__(self, session: Place) -> None:
+    def __init__(self, session: SessionFolder) -> None:
         self.session, self.lines = session, Lines()
         self.told: list[str] = []
         try:
@@ -115,7 +115,7 @@ def tells_terminal(words: list[str]) -> bool:
     return is_numbered and presence_in([*words[2:5], words[7]]) is not None
 
 
-def windows_of(session: Place, has_programs: bool = False) -> list[tuple[int, str]]:
+def windows_of(session: SessionFolder, has_programs: bool = False) -> list[tuple[int, str]]:
     """The windows of a session by their numbers, with the names that they have, or what runs there where that is asked; one that was
     begun by hand has one."""
     asked = WindowsAsked(session)
@@ -150,7 +150,7 @@ def with_programs(asked: WindowsAsked, found: dict[int, str]) -> None:
             found[number] = printable(" ".join(words[2:]))[:LONGEST_NAME]
 
 
-def list_windows(session: Place) -> int:
+def list_windows(session: SessionFolder) -> int:
     """Prints a line for each window of a session: its number, its name or what runs in front in it, its size, and its panes."""
     from roam_live.session.foreground import told
 
@@ -164,7 +164,7 @@ def list_windows(session: Place) -> int:
     return 0
 
 
-def new_window(session: Place, name: str, begins: Begins | None = None) -> int:
+def new_window(session: SessionFolder, name: str, begins: Begins | None = None) -> int:
     """Opens a window of a session, of the size of that at which this is asked, that begins as is asked, and prints its number."""
     check_title(name)
     places = session.places()
@@ -189,7 +189,7 @@ def check_title(name: str) -> None:
         raise Fault(f"a window's name has {LONGEST_NAME} printable characters at most, and {LONGEST_BYTES} bytes")
 
 
-def rename(window: Place, name: str) -> int:
+def rename(window: SessionFolder, name: str) -> int:
     """Gives a window a name, or none where that is empty."""
     check_title(name)
     asked = WindowsAsked(window)
@@ -199,7 +199,7 @@ def rename(window: Place, name: str) -> int:
     return 0
 
 
-def shut(window: Place) -> int:
+def shut(window: SessionFolder) -> int:
     """Shuts a window, and returns once nothing of it is there."""
     server = window.process("server")
     asked = WindowsAsked(window)
@@ -220,14 +220,14 @@ def shut(window: Place) -> int:
     return 0
 
 
-def is_there(window: Place, server: int | None) -> bool:
+def is_there(window: SessionFolder, server: int | None) -> bool:
     """Whether a window, or what is left of it, is there: another may have its number. Of another machine's the server isn't known here."""
     if server is None:
         return window.find()
     return window.process("server") in (server, None) and os.path.exists(window.folder)
 
 
-def list_clients(session: Place) -> int:
+def list_clients(session: SessionFolder) -> int:
     """Prints a line for each terminal at a session: its number, name, size, window, since when, and whether it watches."""
     for words in WindowsAsked(session).clients():
         since = time.strftime("%Y-%m-%d %H:%M", time.localtime(min(int(words[6]), 1 << 40)))
@@ -236,7 +236,7 @@ def list_clients(session: Place) -> int:
     return 0
 
 
-def detach_others(session: Place) -> int:
+def detach_others(session: SessionFolder) -> int:
     """Has all terminals leave that are at a session, and returns once they did; tells how many stay."""
     asked = WindowsAsked(session)
     there = asked.clients()

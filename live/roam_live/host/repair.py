@@ -20,7 +20,7 @@ TYPE_CHECKING = False
 if TYPE_CHECKING:
     from roam_live.host.hosted_window import HostedWindow
     from roam_live.host.windows import Windows
-    from roam_live.session.local import Session
+    from roam_live.session.local import LocalSession
 
 # Suffixes of a session whose name was taken run from 2 to LAST_NUMBER. LONGEST_NAME is the limit of a session's name.
 LAST_NUMBER = 999
@@ -60,9 +60,9 @@ class Mending:
         """Restore what is missing, unless somebody holds the session's lock, as one who launches something there."""
         if self.windows.common.socket.is_found():
             return
-        from roam_live.session.local import Session
+        from roam_live.session.local import LocalSession
 
-        session = Session(self.windows.asked.common)
+        session = LocalSession(self.windows.asked.common)
         try:
             with session.locked(may_wait=False):
                 self.mend(session)
@@ -79,7 +79,7 @@ class Mending:
             self.said = words
             self.windows.common.tell(words)
 
-    def mend(self, session: Session) -> None:
+    def mend(self, session: LocalSession) -> None:
         """Restore everything, under a new name if another session has this one. The caller holds the session's lock."""
         common, told = self.windows.asked.common, MENDED
         if self.is_taken(session):
@@ -98,7 +98,7 @@ class Mending:
         self.windows.common.tell(told)
 
     @staticmethod
-    def is_taken(session: Session) -> bool:
+    def is_taken(session: LocalSession) -> bool:
         """Return True if another session has the name by now."""
         found = (session.process(session.served), session.listener(ROLES[session.served].socket))
         return any(process not in (None, os.getpid()) for process in found)

@@ -28,7 +28,7 @@ from roam_live.session.lookup import window_in
 TYPE_CHECKING = False
 if TYPE_CHECKING:
     from roam_live.relay.udp_path import Path
-    from roam_live.session.place import Place
+    from roam_live.session.folder import SessionFolder
 
 # An end to which nothing is said for so many seconds ends; one that was called over a path waits so long for the near end, which may sleep
 # over holidays.
@@ -46,7 +46,7 @@ class Far:
         if asked.server:
             self.follow_server(asked.server)
         # Nobody else may be there to see the shells' end.
-        self.place: Place | None = window_in(asked.dir, asked.server) if asked.server and asked.dir else None
+        self.place: SessionFolder | None = window_in(asked.dir, asked.server) if asked.server and asked.dir else None
         self.watchdog = HostWatchdog(self.place, self.loop) if self.place else None
         self.windows = FarWindows(self.place, self.loop, self.tell_windows)
         if asked.dir and is_own_folder(asked.dir):

@@ -20,7 +20,7 @@ from roam_live.relay.frames import WINDOWS as LEADS
 
 TYPE_CHECKING = False
 if TYPE_CHECKING:
-    from roam_live.session.place import Place
+    from roam_live.session.folder import SessionFolder
 
 # The high byte of a peer's number names its window, which 0 stands for the relay's own.
 WINDOW_SHIFT = 8
@@ -54,7 +54,7 @@ def windows_in(text: bytes) -> dict[int, str]:
 class FarWindows:
     """The windows of a session, once the near end asked: a call tells it all of them, as often as they change."""
 
-    def __init__(self, place: Place | None, loop: Loop, tells: Callable[[bytes], object]) -> None:
+    def __init__(self, place: SessionFolder | None, loop: Loop, tells: Callable[[bytes], object]) -> None:
         self.place, self.loop, self.tells = place, loop, tells
         # Whether the near end takes windows, and what it was told.
         self.is_used = False
@@ -64,9 +64,9 @@ class FarWindows:
         self.is_whole = False
         self.following: Subscription | None = None
         # Those that ran when that was asked last.
-        self.ran: Sequence[Place] = ()
+        self.ran: Sequence[SessionFolder] = ()
 
-    def running(self) -> Sequence[Place]:
+    def running(self) -> Sequence[SessionFolder]:
         """The windows that run; those of the last time where it can't be asked now."""
         with contextlib.suppress(Fault):
             self.ran = self.place.windows() if self.place else ()
@@ -145,7 +145,7 @@ class FarWindows:
             return os.path.join(self.folder(int(of_window[1])), name[of_window.end() :])
         return os.path.join(self.place.common if self.place and name == HOST else self.folder(0), name)
 
-    def heir(self) -> Place | None:
+    def heir(self) -> SessionFolder | None:
         """Another window of the session, once the relay's own has ended; None where there is none, or the near end knows of none."""
         others = [window for window in self.running() if window.number != self.own()] if self.is_used else []
         if others:

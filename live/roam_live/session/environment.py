@@ -21,7 +21,7 @@ if TYPE_CHECKING:
     from collections.abc import Iterable
 
     from roam_live.protocol.session_interface import AnySession
-    from roam_live.session.place import Place
+    from roam_live.session.folder import SessionFolder
 
 # The variables whose values are brought, and what one is that isn't set. The longest stands in a line in hexadecimal.
 NAMES = ("DISPLAY", "WAYLAND_DISPLAY", "SSH_CONNECTION")
@@ -176,7 +176,7 @@ def environment_lines(session: AnySession, is_read_only: bool) -> list[str]:
     return value_lines(ENVIRONMENT, own_values())
 
 
-def send_environment(session: Place) -> None:
+def send_environment(session: SessionFolder) -> None:
     """Brings what this process has to a session, whose host reads it once it can; one that isn't there yet is spawned with that."""
     lines = environment_lines(session, False)
     with contextlib.suppress(OSError), connected_now(session.common / "host") as peer:
@@ -188,7 +188,7 @@ def joined(lines: Iterable[str]) -> bytes:
     return "".join(f"{led(SESSION, line)}\n" for line in lines).encode()
 
 
-def asked_values(session: Place) -> dict[str, str]:
+def asked_values(session: SessionFolder) -> dict[str, str]:
     """The values that new panes of a session have, by its host; Fault tells why they aren't known."""
     try:
         with connected_in(session.common / "host", ASKED) as peer:
@@ -212,7 +212,7 @@ def read_environment(peer: socket.socket, end: float) -> PaneEnvironment | None:
     return None if left else told
 
 
-def shell_lines(session: Place) -> list[str]:
+def shell_lines(session: SessionFolder) -> list[str]:
     """The lines by which a shell has what new panes of a session have; whatever was brought, it runs nothing else."""
     import shlex
 

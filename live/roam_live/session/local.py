@@ -10,8 +10,8 @@ from roam_live.common.errors import Fault
 from roam_live.common.process import begun, end_words, holder_of
 from roam_live.common.unix_socket import is_listened
 from roam_live.protocol.window_lines import MOST_WINDOWS, name_in
+from roam_live.session.folder import SessionFolder
 from roam_live.session.names import LONGEST_PATH, base, check_name
-from roam_live.session.place import Place
 from roam_live.session.processes import end_left
 from roam_live.session.roles import ROLES, host_words, server_words
 from roam_live.session.window_state import JOINED, SPARE, WINDOWS, WINDOWS_VERSION, is_spare_server, note_ends, numbers_in
@@ -27,7 +27,7 @@ FIRST = 1
 END_SOON = 1.0
 
 
-class Session(Place):
+class LocalSession(SessionFolder):
     """A session: its note has the pty host, which has the rest."""
 
     served = "host"
@@ -40,7 +40,7 @@ class Session(Place):
             raise Fault(f"{self.folder} is too long for a socket's path")
 
     @classmethod
-    def named(cls, name: str) -> Session:
+    def named(cls, name: str) -> LocalSession:
         """That of a name."""
         check_name(name)
         return cls(base() / name)
@@ -55,11 +55,11 @@ class Session(Place):
         """Return the window of a number, whether it is there or not."""
         return Window(self.folder_of_windows / str(number), server, self, number)
 
-    def windows(self) -> list[Place]:
+    def windows(self) -> list[SessionFolder]:
         """The windows that run, in order."""
         return [window for window in self.all_windows() if window.find() and not window.is_spare()]
 
-    def window(self, number: int | None = None) -> Place:
+    def window(self, number: int | None = None) -> SessionFolder:
         """A window by its number, else the one where somebody was last; Fault where it isn't there."""
         if number is not None:
             named = self.window_of(number) if number in numbers_in(str(self.folder_of_windows)) else None
@@ -207,20 +207,21 @@ class Session(Place):
 
     # ---- what `mux ls` says
 
-    def shown_window(self, windows: list[Place]) -> Place:
+    def shown_window(self, windows: list[SessionFolder]) -> SessionFolder:
         """Return the window where somebody was last."""
         last = self.last()
         return next((window for window in windows if window.number == last), windows[0])
 
 
-class Window(Place):
+class Window(SessionFolder):
     """A window: its server and its client, as they are noted in its folder.
 
     One of a session has the session's lock, log and pty host. One whose server was started by hand has no session and the number 0; its pty
     host listens in its own folder and is never spawned here.
     """
 
-    def __init__(self, folder: str | os.PathLike[str], server: int | None = None, session: Session | None = None, number: int = 0) -> None:
+    def __init__(self, folder: str | os.PathLike[str], server: int | None = None, session: LocalSession | None = None,
+                 number: int = 0) -> None:
         super().__init__(folder, f"{session.name}:{number}" if session else None, server)
         self.session, self.number = session, number
         if session:
@@ -228,15 +229,15 @@ class Window(Place):
         else:
             self.roles = ("server", "host", "client")
 
-    def whole_session(self) -> Place:
+    def whole_session(self) -> SessionFolder:
         """The session of which this is a window, or itself."""
         return self.session or self
 
-    def windows(self) -> list[Place]:
+    def windows(self) -> list[SessionFolder]:
         """The windows of its session that run."""
         return self.session.windows() if self.session else [self]
 
-    def window(self, number: int | None = None) -> Place:
+    def window(self, number: int | None = None) -> SessionFolder:
         """A window of its session by its number, else this one."""
         if number in (None, self.number or 1):
             return self

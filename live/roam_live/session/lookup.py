@@ -7,7 +7,7 @@ import pathlib
 
 from roam_live.common.errors import Fault
 from roam_live.common.unix_socket import is_listened
-from roam_live.session.local import Session, Window
+from roam_live.session.local import LocalSession, Window
 from roam_live.session.names import LONGEST_PATH, NAME, NEAR_NAME, base
 from roam_live.session.remote import RemoteSession
 from roam_live.session.roles import ROLES
@@ -15,13 +15,13 @@ from roam_live.session.window_state import NUMBER, WINDOWS
 
 TYPE_CHECKING = False
 if TYPE_CHECKING:
-    from roam_live.session.place import Place
+    from roam_live.session.folder import SessionFolder
 
 
-def session_named(name: str) -> Place:
+def session_named(name: str) -> SessionFolder:
     """The session of a name: one of this machine, or what stands here for one of another."""
     if not NEAR_NAME.fullmatch(name):
-        session = Session.named(name)
+        session = LocalSession.named(name)
         if is_by_hand(session.folder):
             raise Fault(f"{session.folder} has a server that was started by hand, and is no session of mux; `live/attach` of it attaches")
         return session
@@ -37,14 +37,14 @@ def is_by_hand(folder: pathlib.Path) -> bool:
     return os.path.lexists(path) and is_listened(path)
 
 
-def sessions_here() -> list[Place]:
+def sessions_here() -> list[SessionFolder]:
     """The sessions of which there are folders, by name: those of other machines behind those of this one."""
     folders = sorted(path for path in base().iterdir() if path.is_dir() and len(str(path / "terminals")) <= LONGEST_PATH)
-    own: list[Place] = []
+    own: list[SessionFolder] = []
     for path in folders:
         # One whose path is too long for its windows' sockets can't be one.
         with contextlib.suppress(Fault):
-            own += [Session(path)] if NAME.fullmatch(path.name) and not is_by_hand(path) else []
+            own += [LocalSession(path)] if NAME.fullmatch(path.name) and not is_by_hand(path) else []
     return own + [RemoteSession(path) for path in folders if NEAR_NAME.fullmatch(path.name)]
 
 
@@ -60,5 +60,5 @@ def window_in(folder: str | os.PathLike[str], server: int | None = None) -> Wind
     """What is served in a folder: a window of a session, where it is that of one, or one that was started by hand."""
     path = pathlib.Path(folder).absolute()
     if path.parent.name == WINDOWS and NUMBER.fullmatch(path.name) and NAME.fullmatch(path.parent.parent.name):
-        return Session(path.parent.parent).window_of(int(path.name), server)
+        return LocalSession(path.parent.parent).window_of(int(path.name), server)
     return Window(folder, server)

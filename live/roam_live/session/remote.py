@@ -8,7 +8,7 @@ import time
 
 from roam_live.common.errors import Fault
 from roam_live.common.process import end_words, holder_of
-from roam_live.session.place import Place
+from roam_live.session.folder import SessionFolder
 from roam_live.session.roles import relay_words
 from roam_live.session.window_state import WINDOWS, WINDOWS_VERSION, numbers_in
 
@@ -20,7 +20,7 @@ if TYPE_CHECKING:
 ALONE = 3600
 
 
-class RemoteSession(Place):
+class RemoteSession(SessionFolder):
     """A session of another machine, or a window of it: a relay stands here for its server.
 
     Each window has its sockets in a folder of its own; the lock, the log and the relay are the session's.
@@ -46,13 +46,13 @@ class RemoteSession(Place):
 
     # ---- its windows
 
-    def windows(self) -> list[Place]:
+    def windows(self) -> list[SessionFolder]:
         """The windows that are told here, in order; itself where none is, as of a session there that was begun by hand."""
         whole, folder = self.whole_session(), self.common / WINDOWS
         numbers = [number for number in numbers_in(str(folder)) if (folder / str(number) / "session").exists()]
         return [RemoteSession(folder / str(number), f"{whole.name}:{number}", whole, number) for number in numbers] or [whole]
 
-    def window(self, number: int | None = None) -> Place:
+    def window(self, number: int | None = None) -> SessionFolder:
         """A window by its number; else this one, or that of its own session's id, which the relay's own window has, or the first."""
         if self.session and number in (None, self.number):
             return self
@@ -64,7 +64,7 @@ class RemoteSession(Place):
             raise Fault(f"session {self.whole_session().name} {why}")
         return (named or there)[0]
 
-    def is_own(self, window: Place) -> bool:
+    def is_own(self, window: SessionFolder) -> bool:
         """Return True if a window is the relay's own."""
         return window.id() == self.id()
 
@@ -78,7 +78,7 @@ class RemoteSession(Place):
                 return
             time.sleep(0.01)
 
-    def shown_window(self, windows: list[Place]) -> Place:
+    def shown_window(self, windows: list[SessionFolder]) -> SessionFolder:
         """Return the window that is the relay's own."""
         return next((window for window in windows if self.is_own(window)), windows[0])
 

@@ -13,7 +13,7 @@ if TYPE_CHECKING:
     Folder = str | os.PathLike[str]
 
 
-class Role(namedtuple("Role", "name said socket starter ends")):
+class ProcessRole(namedtuple("ProcessRole", "name said socket starter ends")):
     """A role: its word in notes, its name in messages, its socket, and in words who starts it and when it ends."""
 
     name: str
@@ -24,11 +24,11 @@ class Role(namedtuple("Role", "name said socket starter ends")):
 
 
 ROLES = {role.name: role for role in (
-    Role("server", "the server", "clients", "mux, for the first window; the pty host", "with its window"),
-    Role("client", "the client process", "terminals", "mux, a front end or the pty host", "with its server"),
-    Role("host", "the pty host", "host", "mux, a front end or the far relay", "with the last window"),
-    Role("relay", "the relay", "clients", "mux ssh", "an hour after the last terminal, or with the session"),
-    Role("rows", "the scrollback process", "", "the pty host", "with the pty host"),
+    ProcessRole("server", "the server", "clients", "mux, for the first window; the pty host", "with its window"),
+    ProcessRole("client", "the client process", "terminals", "mux, a front end or the pty host", "with its server"),
+    ProcessRole("host", "the pty host", "host", "mux, a front end or the far relay", "with the last window"),
+    ProcessRole("relay", "the relay", "clients", "mux ssh", "an hour after the last terminal, or with the session"),
+    ProcessRole("rows", "the scrollback process", "", "the pty host", "with the pty host"),
 )}
 
 # The roles of which a note may tell.

@@ -16,7 +16,7 @@ from roam_live.protocol.presence import CLIENTS
 TYPE_CHECKING = False
 if TYPE_CHECKING:
     from roam_live.protocol.panes import Places
-    from roam_live.session.place import Place
+    from roam_live.session.folder import SessionFolder
 
 # Seconds for all answers together.
 ANSWERS = 0.3
@@ -122,7 +122,7 @@ class Survey:
         return question.count if question else None
 
 
-def surveyed(sessions: list[tuple[Place, list[Place]]]) -> list[str]:
+def surveyed(sessions: list[tuple[SessionFolder, list[SessionFolder]]]) -> list[str]:
     """Return the lines of `mux ls` for sessions that run, each with its windows. Their sockets are asked side by side."""
     survey = Survey([str(window.folder) for _, windows in sessions for window in windows],
                     [str(session.folder) for session, _ in sessions])

@@ -42,7 +42,7 @@ NO_ANSWER = ", its pty host does not answer"
 SOCKETS = ("clients", "panes", "terminals", "host", *(f"p{pane}" for pane in range(1, 10)))
 
 
-class Place(Processes):
+class SessionFolder(Processes):
     """A folder in which processes listen: of a session, or of a window. What a session is and has its kinds tell."""
 
     # The roles of the processes that listen in the folder.
@@ -65,15 +65,15 @@ class Place(Processes):
 
     # ---- its windows
 
-    def windows(self) -> list[Place]:
+    def windows(self) -> list[SessionFolder]:
         """Return the windows of the session, in order."""
         raise NotImplementedError
 
-    def window(self, number: int | None = None) -> Place:
+    def window(self, number: int | None = None) -> SessionFolder:
         """Return a window by its number, else the one where somebody was last; Fault if it isn't there."""
         raise NotImplementedError
 
-    def whole_session(self) -> Place:
+    def whole_session(self) -> SessionFolder:
         """Return the session of which this is a window, or itself."""
         return self
 
@@ -280,11 +280,11 @@ class Place(Processes):
             self.drop_ended()
         return self.runs()
 
-    def shown_window(self, windows: list[Place]) -> Place:
+    def shown_window(self, windows: list[SessionFolder]) -> SessionFolder:
         """Return the window whose size `mux ls` prints."""
         return windows[0]
 
-    def line(self, survey: Survey, windows: list[Place]) -> str:
+    def line(self, survey: Survey, windows: list[SessionFolder]) -> str:
         """Return the line of `mux ls`, by what the sockets of its windows answered."""
         places = [survey.places(window.folder) for window in windows]
         shown = survey.places(self.shown_window(windows).folder) if windows else None
