@@ -191,8 +191,8 @@ class Each(unittest.TestCase):
                                                          ("\x0e", (1, 0)),
                                                          ("g", (-9999, 0)), ("G", (9999, 0)), (PAGE_UP, (0, -1)), (PAGE_DOWN, (0, 1)),
                                                          (" ", (0, 1)))),
-            ("x", over), ("\x1b", over), ("\x03", over), ("\x02", [*over, PassKey(Key("\x02", "\x02"))]),
-            ("\x1b[200~", [*over, PassKey(key_in("\x1b[200~"))])))
+            ("x", over), ("\x1b", over), ("\x03", over), ("\x02", [PopMode(), CloseHelp(Key("\x02", "\x02"))]),
+            ("\x1b[200~", [PopMode(), CloseHelp(key_in("\x1b[200~"))])))
 
     def test_list(self):
         """A line is chosen, left or gone to; the prefix and a paste end the list, and keep their meanings."""
@@ -321,7 +321,7 @@ class Covered(unittest.TestCase):
 
     def test_paused(self):
         """Without a connection a paste goes on, a question ends, and another window may be gone to."""
-        self.assertEqual(modes.while_paused(self.ALL), [BeginPaste(), AddPaste("x"), EndPaste(), Perform("go 3"), HidePrompt()])
+        self.assertEqual(modes.while_paused(self.ALL), [BeginPaste(), AddPaste("x"), EndPaste(), Perform("go 3"), ClearStatus(), HidePrompt()])
 
     def test_leaves(self):
         """C-c, q and the command detach; what is pasted doesn't."""

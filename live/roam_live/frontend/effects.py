@@ -158,7 +158,10 @@ class ScrollHelp(Effect):
 
 
 class CloseHelp(Effect):
-    """The session is shown again in place of the list of keys."""
+    """The session is shown again in place of the list of keys, and the modes take a key then, if there is one."""
+
+    def __init__(self, key: Key | None = None) -> None:
+        self.key = key
 
 
 class DrawList(Effect):

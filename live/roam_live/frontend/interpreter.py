@@ -89,7 +89,7 @@ class Interpreter:
             effects.EnterLine: self.enter,
             effects.GoToWindow: self.go_to_window,
             effects.ScrollHelp: self.scroll_help,
-            effects.CloseHelp: lambda asked: display.uncover(),
+            effects.CloseHelp: self.close_help,
             effects.DrawList: lambda asked: now().lists.draw(),
             effects.CloseList: lambda asked: now().lists.close(),
             effects.CopyKey: lambda asked: now().copying.take_key(asked.key),
@@ -254,6 +254,12 @@ class Interpreter:
             return
         rows = asked.rows + asked.pages * max(1, display.outer.size()[0] - 1)
         display.show(display.notice, max(0, min(display.notice_first + rows, display.notice_most)), FOOT)
+
+    def close_help(self, asked: effects.CloseHelp) -> None:
+        """Show the session again, and take the key that ended the list of keys, if it means something else."""
+        self.display.uncover()
+        if asked.key:
+            self.take(asked.key)
 
     def offer_paste(self, asked: effects.OfferPaste) -> None:
         """Have copy mode take a paste, if it asks for a line; else it ends, and the key means what it means elsewhere."""

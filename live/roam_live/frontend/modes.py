@@ -195,8 +195,7 @@ class HelpMode(Mode):
         """Return what a key asks for. One that ends it means nothing else, but for the prefix and a paste."""
         if key.name in HELP_ROWS or key.name in HELP_PAGES:
             return [ScrollHelp(HELP_ROWS.get(key.name, 0), HELP_PAGES.get(key.name, 0))]
-        passed: list[Effect] = [PassKey(key)] if key.name in (self.keymap.prefix, "paste") else []
-        return [PopMode(), CloseHelp(), *passed]
+        return [PopMode(), CloseHelp(key if key.name in (self.keymap.prefix, "paste") else None)]
 
 
 class ListLine:
@@ -395,7 +394,8 @@ def under_notice(effects: list[Effect]) -> list[Effect]:
 
 def while_paused(effects: list[Effect]) -> list[Effect]:
     """Return those of the effects that are carried out without a connection to the session."""
-    return [effect for effect in effects if isinstance(effect, (BeginPaste, AddPaste, EndPaste, HidePrompt)) or is_granted(effect, ())]
+    kept = (BeginPaste, AddPaste, EndPaste, HidePrompt, ClearStatus)
+    return [effect for effect in effects if isinstance(effect, kept) or is_granted(effect, ())]
 
 
 def leaves_paused(key: Key, effects: list[Effect]) -> bool:
