@@ -10,10 +10,11 @@ from roam_live.frontend import effects, modes
 from roam_live.frontend.bindings import NEWEST, Keymap, help_with
 from roam_live.frontend.copymode.keys import KeyPairs
 from roam_live.frontend.effects import (AddPaste, BeginPaste, ClearStatus, CloseHelp, CloseList, ClosePane, CopyKey, CopyText, DrawList,
-                                        EndPaste, EnterLine, GoToWindow, HidePrompt, OfferPaste, PassKey, Perform, PopMode, ScrollHelp,
+                                        EndPaste, EnterLine, GoToWindow, HidePrompt, HoldKey, OfferPaste, PassKey, Perform, PopMode,
+                                        ScrollHelp,
                                         SendLiteral, SendRequest, ShowPrompt, ShowStatus, TellUnbound, TypeActs, TypeKey)
 from roam_live.frontend.line_editor import AskedLine
-from roam_live.frontend.modes import (ConfirmMode, CopyKeysMode, CopyPasteMode, HelpMode, LineMode, ListLine, ListMode, ModeStack,
+from roam_live.frontend.modes import (ConfirmMode, CopyKeysMode, CopyPasteMode, HelpMode, HoldMode, LineMode, ListLine, ListMode, ModeStack,
                                       PastingMode, PickingMode, PlainMode, PrefixMode, PushMode, ScrollMode)
 from roam_live.input.keys import Key, Keys
 
@@ -225,6 +226,10 @@ class Each(unittest.TestCase):
         self.assertEqual([mode.takes(key_in("\x1b[1;5A"), now) for now in (1.9, 2.0)],
                          [[PassKey(key_in("\x1b[1;5A"))], [CopyKey(key_in("\x1b[1;5A"))]])
 
+    def test_hold(self):
+        """Each key waits, whatever it means elsewhere."""
+        self.check(HoldMode, [(key, [HoldKey(key)]) for key in map(key_in, ("x", "\x02", "\x1b", "\x03", "\x1b[200~", UP))])
+
     def test_copy_paste(self):
         """A paste goes into copy mode's line, up to its end."""
         self.check(CopyPasteMode, ((Key("text", "ab"), [CopyText("ab")]), (Key("pasted", ""), [PopMode()])))
@@ -309,7 +314,8 @@ class Covered(unittest.TestCase):
                                                                 "copy")),
            TellUnbound(Key("x", "x")), ShowStatus("x", None), ClearStatus(), ShowPrompt("x"), HidePrompt(), EnterLine("window", "3"),
            GoToWindow(3),
-           ScrollHelp(1, 0), CloseHelp(), DrawList(), CloseList(), CopyKey(Key("x", "x")), CopyText("x"), OfferPaste(Key("paste", ""))]
+           ScrollHelp(1, 0), CloseHelp(), DrawList(), CloseList(), CopyKey(Key("x", "x")), CopyText("x"), OfferPaste(Key("paste", "")),
+           HoldKey(Key("x", "x"))]
 
     def test_notice(self):
         """Nothing is typed, nor changed."""
@@ -317,17 +323,18 @@ class Covered(unittest.TestCase):
                          [TypeActs(NEWEST), BeginPaste(), AddPaste("x"), EndPaste(),
                           *(Perform(wish) for wish in ("detach", "suspend", "repaint", "help", "go 3")),
                           ClearStatus(), ShowPrompt("x"), HidePrompt(), EnterLine("window", "3"), ScrollHelp(1, 0), CloseHelp(),
-                          CopyText("x")])
+                          CopyText("x"), HoldKey(Key("x", "x"))])
 
     def test_paused(self):
         """Without a connection a paste goes on, a question ends, and another window may be gone to."""
-        self.assertEqual(modes.while_paused(self.ALL), [BeginPaste(), AddPaste("x"), EndPaste(), Perform("go 3"), ClearStatus(), HidePrompt()])
+        self.assertEqual(modes.while_paused(self.ALL), [BeginPaste(), AddPaste("x"), EndPaste(), Perform("go 3"), ClearStatus(),
+                                                        HidePrompt(), HoldKey(Key("x", "x"))])
 
     def test_leaves(self):
-        """C-c, q and the command detach; what is pasted doesn't."""
+        """C-c, q and the command detach; what is pasted or waits doesn't."""
         for name, asked, leaves in (("q", [], True), ("\x03", [], True), ("x", [], False), ("x", [Perform("detach")], True),
                                     ("q", [AddPaste("q")], False),
-                                    ("q", [EndPaste()], False), ("x", [Perform("zoom")], False)):
+                                    ("q", [EndPaste()], False), ("q", [HoldKey(Key("q", "q"))], False), ("x", [Perform("zoom")], False)):
             self.assertIs(modes.leaves_paused(Key(name, name), asked), leaves, (name, asked))
 
 

@@ -72,7 +72,7 @@ class FrontEnd:
         views.commands.has_windows(windows)
         self.host_link.leaves = lambda: self.leave(DETACHED)
         self.host_link.others_left = lambda count: views.commands.others_left(count)
-        windows.waiting.types, windows.waiting.reports = keyboard.typed, keyboard.reported
+        windows.waiting.types = keyboard.typed
         keyboard.windows, keyboard.left_window = windows, views.left_commands
         keyboard.enters, keyboard.runs = self.runner.typed, self.runner.run_wish
         self.settings.all_commands, self.settings.runs = views.all_commands, self.runner.run_all

@@ -150,6 +150,13 @@ class GoToWindow(Effect):
         self.number = number
 
 
+class HoldKey(Effect):
+    """A key waits for a window that isn't there yet, or for a list of windows."""
+
+    def __init__(self, key: Key) -> None:
+        self.key = key
+
+
 class ScrollHelp(Effect):
     """The list of keys scrolls, by rows and by pages; it ends if it has room for all."""
 

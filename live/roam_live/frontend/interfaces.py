@@ -19,8 +19,8 @@ class WaitingKeys(Protocol):
     def told_panes(self) -> None:
         """Open a list that waits for what is reported of the panes."""
 
-    def takes(self, keys: list[Key], place: int) -> bool:
-        """Take the keys from a place on if they are for another window, and return True if they are."""
+    def hold(self, key: Key) -> bool:
+        """Have a key wait, and return True if it does."""
 
 
 class OtherWindows(Protocol):

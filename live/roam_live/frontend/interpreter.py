@@ -11,8 +11,8 @@ from roam_live.config.user_file import OWN
 from roam_live.frontend import effects
 from roam_live.frontend.bindings import OWN as OWN_KEY, PICKS, help_with
 from roam_live.frontend.key_help import FOOT, help_of
-from roam_live.frontend.modes import (GOES, CopyKeysMode, CopyPasteMode, HelpMode, LineMode, PastingMode, PickingMode, leaves_paused,
-                                      under_notice, while_paused)
+from roam_live.frontend.modes import (GOES, CopyKeysMode, CopyPasteMode, HelpMode, HoldMode, LineMode, PastingMode, PickingMode,
+                                      leaves_paused, under_notice, while_paused)
 from roam_live.input.extended_keys import ANSWERED
 from roam_live.input.key_names import spelled
 from roam_live.input.keys import Keys
@@ -88,6 +88,7 @@ class Interpreter:
             effects.HidePrompt: lambda asked: display.row.end_prompt(),
             effects.EnterLine: self.enter,
             effects.GoToWindow: self.go_to_window,
+            effects.HoldKey: lambda asked: self.windows and self.windows.waiting.hold(asked.key),
             effects.ScrollHelp: self.scroll_help,
             effects.CloseHelp: self.close_help,
             effects.DrawList: lambda asked: now().lists.draw(),
@@ -120,8 +121,6 @@ class Interpreter:
         keys = self.modes.keymap.joined(keys)
         place = 0
         while place < len(keys):
-            if self.windows and self.windows.waiting.takes(keys, place):
-                break
             if self.commands() is not here:
                 here = self.commands()
                 here.follower.follow_latest()
@@ -134,7 +133,7 @@ class Interpreter:
 
     def take_any(self, key: Key) -> None:
         """Take a key, or what the terminal reports."""
-        if key.name in (COLOUR, ANSWERED) or key.name == MOUSE and not self.modes.has(PastingMode):
+        if key.name in (COLOUR, ANSWERED) or key.name == MOUSE and not self.modes.has(PastingMode, HoldMode):
             self.reported(key)
             return
         try:

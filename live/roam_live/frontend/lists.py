@@ -6,7 +6,7 @@ from collections.abc import Callable
 
 from roam_live.common.text import printable
 from roam_live.frontend.effects import GoToWindow, PasteBuffer
-from roam_live.frontend.modes import ListLine, ListMode
+from roam_live.frontend.modes import HoldMode, ListLine, ListMode
 from roam_live.frontend.popup import Popup
 from roam_live.frontend.status_line import fitted
 from roam_live.protocol.panes import Rect
@@ -164,7 +164,7 @@ class Lists:
 
     def show_lines(self, lines: list[str]) -> bool:
         """Show lines that are only read, and return True if that is possible: prompts and copy mode go first."""
-        if self.acts.modes.pushed or self.acts.paused:
+        if self.acts.modes.pushed and not self.acts.modes.has(HoldMode) or self.acts.paused:
             return False
         return self.open("lines", read_list(self.acts.modes.keymap, lines))
 

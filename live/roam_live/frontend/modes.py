@@ -6,8 +6,8 @@ from __future__ import annotations
 
 from roam_live.frontend.bindings import BINDINGS, BORDERS, DIGITS, MOST_VIEW, NEWEST, PICKS, REPEATS, WISHES, with_meta
 from roam_live.frontend.effects import (AddPaste, BeginPaste, ClearStatus, CloseHelp, CloseList, CopyKey, CopyText, DrawList, Effect,
-                                        EndPaste, EnterLine, HidePrompt, OfferPaste, PassKey, Perform, PopMode, ScrollHelp, SendLiteral,
-                                        ShowPrompt, ShowStatus, TellUnbound, TypeActs, TypeKey)
+                                        EndPaste, EnterLine, HidePrompt, HoldKey, OfferPaste, PassKey, Perform, PopMode, ScrollHelp,
+                                        SendLiteral, ShowPrompt, ShowStatus, TellUnbound, TypeActs, TypeKey)
 from roam_live.frontend.line_editor import LEAVES, TAKES
 from roam_live.input.keys import acts_of
 
@@ -183,6 +183,14 @@ class ScrollMode(Mode):
         step = lines + pages * max(1, self.keymap.rows // 2)
         self.view = min(max(self.view + step, 0), MOST_VIEW)
         return f"view {step}"
+
+
+class HoldMode(Mode):
+    """Keys wait for a window that is being opened, or for a list of windows that waits for its pane."""
+
+    def takes(self, key: Key, now: float) -> list[Effect]:
+        """Return what a key asks for."""
+        return [HoldKey(key)]
 
 
 class HelpMode(Mode):
@@ -388,17 +396,17 @@ def is_granted(effect: Effect, wishes: tuple[str, ...]) -> bool:
 
 def under_notice(effects: list[Effect]) -> list[Effect]:
     """Return those of the effects that a notice in place of the session lets through."""
-    kept = (BeginPaste, AddPaste, EndPaste, HidePrompt, ShowPrompt, EnterLine, ClearStatus, ScrollHelp, CloseHelp, CopyText)
+    kept = (BeginPaste, AddPaste, EndPaste, HidePrompt, ShowPrompt, EnterLine, ClearStatus, ScrollHelp, CloseHelp, CopyText, HoldKey)
     return [effect for effect in effects if isinstance(effect, kept) or effect == TypeActs(NEWEST) or is_granted(effect, UNDER_NOTICE)]
 
 
 def while_paused(effects: list[Effect]) -> list[Effect]:
     """Return those of the effects that are carried out without a connection to the session."""
-    kept = (BeginPaste, AddPaste, EndPaste, HidePrompt, ClearStatus)
+    kept = (BeginPaste, AddPaste, EndPaste, HidePrompt, ClearStatus, HoldKey)
     return [effect for effect in effects if isinstance(effect, kept) or is_granted(effect, ())]
 
 
 def leaves_paused(key: Key, effects: list[Effect]) -> bool:
-    """Return True if a key leaves a session without a connection: C-c or q, unless it is pasted, or the command for that."""
-    is_pasted = any(isinstance(effect, (AddPaste, EndPaste)) for effect in effects)
-    return Perform("detach") in effects or key.name in ("\x03", "q") and not is_pasted
+    """Return True if a key leaves a session without a connection: C-c or q, unless it is pasted or waits, or the command for that."""
+    is_taken = any(isinstance(effect, (AddPaste, EndPaste, HoldKey)) for effect in effects)
+    return Perform("detach") in effects or key.name in ("\x03", "q") and not is_taken

@@ -4,9 +4,8 @@ from __future__ import annotations
 from collections.abc import Callable
 
 from roam_live.common.tty import LEAST, is_large_enough, largest
-from roam_live.input.extended_keys import ANSWERED
+from roam_live.frontend.modes import HoldMode
 from roam_live.input.mouse_reports import MOUSE
-from roam_live.protocol.colours import COLOUR
 from roam_live.protocol.window_lines import MOST_WINDOWS
 
 TYPE_CHECKING = False
@@ -45,12 +44,12 @@ class WindowOpening:
                  shows: Callable[[], bool]) -> None:
         self.views, self.display, self.loop = views, views.display, views.loop
         self.numbers, self.go_to, self.asks, self.shows = numbers, go_to, asks, shows
-        # What takes keys that waited, and what the terminal reports.
+        # What takes keys that waited.
         self.types: Callable[[list[Key]], object] = lambda keys: None
-        self.reports: Callable[[Key], object] = lambda key: None
         # Whether a window is being opened, and that takes so long that a person was told; whether a list of them is about to be; and what
         # is typed for either.
         self.is_opening = self.is_late = self.is_listing = False
+        self.mode = HoldMode()
         self.held: list[Key] = []
         self.held_size = 0
         # What opens one, while it isn't answered; and where it wasn't said yet, since the host isn't connected: it may be soon, as where
@@ -79,7 +78,9 @@ class WindowOpening:
         there, the list waits, and keys for it, but no longer than a moment."""
         acts, waited = self.views.acts, self.is_listing
         self.is_listing = not waited and acts.awaits_focus()
+        acts.modes.remove(self.mode)
         if self.is_listing:
+            acts.modes.push(self.mode)
             self.loop.later("list waits", LISTS, self.list_all)
             return
         self.loop.drop("list waits")
@@ -99,6 +100,7 @@ class WindowOpening:
         """Has a window be opened, of the size that this terminal shows all of, by a command that was handed over where it is named; the
         person goes there, or stays."""
         size, self.is_opening, self.stays = self.display.part.room(), True, stays
+        self.views.acts.modes.push(self.mode)
         why = SMALL if not is_large_enough(size) else MANY if len(self.numbers()) >= MOST_WINDOWS else ""
         if why:
             # What stands behind in the same read was for it too.
@@ -147,6 +149,7 @@ class WindowOpening:
         was_told = self.display.row.told == OPENING
         dropped, self.unsaid = self.held_keys(), ""
         self.is_opening = self.is_late = False
+        self.views.acts.modes.remove(self.mode)
         if [key.name for key in dropped if key.name in ("paste", "pasted")][-1:] == ["paste"]:
             # What comes of it still isn't typed either.
             self.views.acts.refuse_paste(why + DROPPED)
@@ -155,27 +158,16 @@ class WindowOpening:
         elif was_told:
             self.display.row.end_told()
 
-    def takes(self, keys: list[Key], place: int) -> bool:
-        """Takes the keys from this place on, if they are for a window that is being opened, or for a list. Tells whether they were
-        taken."""
-        if not self.is_opening and not self.is_listing:
+    def hold(self, key: Key) -> bool:
+        """Has a key wait, and tells whether it does. Once a person was told that a window takes long C-c waits no longer; what is done with
+        the mouse doesn't wait."""
+        if key.name == INTERRUPT and self.is_late:
+            self.end_opening(NOT_AWAITED)
             return False
-        self.hold(keys[place:])
-        return True
-
-    def hold(self, keys: list[Key]) -> None:
-        """Has keys wait for a window that is being opened; once a person was told that it takes long C-c waits no longer. What the terminal
-        tells itself doesn't wait."""
-        for place, key in enumerate(keys):
-            if key.name in (COLOUR, ANSWERED):
-                self.reports(key)
-            elif key.name == INTERRUPT and self.is_late:
-                self.end_opening(NOT_AWAITED)
-                self.types(keys[place + 1 :])
-                return
-            elif key.name != MOUSE:
-                self.held.append(key)
-                self.held_size += len(key.text)
+        if key.name != MOUSE:
+            self.held.append(key)
+            self.held_size += len(key.text)
+        return key.name != MOUSE
 
     def held_keys(self) -> list[Key]:
         """The keys that waited, which wait no more."""
