@@ -18,7 +18,7 @@ from roam_live.frontend.interpreter import Interpreter
 from roam_live.frontend.modes import ModeStack
 from roam_live.frontend.settings import FrontSettings
 from roam_live.frontend.status_segments import StatusRow, format_values
-from roam_live.frontend.window_views import DETACHED, LOSS_TOLD, ViewMaker, WindowViews
+from roam_live.frontend.window_views import LOSS_TOLD, ViewMaker, WindowViews
 from roam_live.frontend.windows import WindowWishes
 from roam_live.protocol.client_link import LAST_WAIT
 from roam_live.protocol.host_link import HostLink
@@ -34,6 +34,9 @@ if TYPE_CHECKING:
 
 # So many seconds each of several clients has at least for what was typed before a person left.
 LEAST_WAIT = 0.1
+
+# What is said by one that another has detached.
+DETACHED = "[detached from elsewhere]"
 
 LEAVING = (signal.SIGTERM, signal.SIGHUP, signal.SIGINT)
 

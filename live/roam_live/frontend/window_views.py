@@ -26,9 +26,6 @@ if TYPE_CHECKING:
 # So many seconds a line stands that tells what a person has lost.
 LOSS_TOLD = 3.0
 
-# What is said by one that another has detached.
-DETACHED = "[detached from elsewhere]"
-
 
 class ViewMaker:
     """Makes views of windows."""
