@@ -84,8 +84,9 @@ class Linked(Case):
         link.end()
 
     def test_goes(self):
-        """Who goes to another window is there, and knows nothing of the others at the one before; its zoom is told of still."""
-        folder, loop = self.made_folder(), StillLoop(lambda: self.now)
+        """Who goes to another window is there, and knows nothing of the others at the one before, even if told late; its zoom is told of
+        still."""
+        folder, loop, noticed = self.made_folder(), StillLoop(lambda: self.now), []
         listener = self.listening(folder / "host")
         link = HostLink(folder, loop, lambda: (24, 80), False)
         first, second = (HostClient(link, number, lambda: None) for number in (1, 2))
@@ -101,6 +102,11 @@ class Linked(Case):
         loop.turns(2)
         self.assertEqual(read_now(peer).decode(), f"2 here {link.name} 24 80 read-write\n2 who\n1 zoom none\n")
         self.assertEqual((first.has_others(), first.keypads, second.is_awaited(), link.clients), (None, set(), True, {1: first, 2: second}))
+        first.notices = noticed.append
+        peer.send(b"1 there 7 a:/dev/pts/1 24 80 read-write\n1 others 1\n1 keypad 2 application\n1 zoomed 0 24 80 48 160\n1 say late\n")
+        loop.turns(2)
+        self.assertEqual((first.others.there, first.has_others(), first.keypads), ({}, None, set()))
+        self.assertEqual((first.zoomed, noticed), ((0, None), ["late"]))
         peer.send(b"1 others 0\n2 others 0\n2 keypad 3 application\nnone\n")
         loop.turns(2)
         self.assertEqual((link.peer, second.has_others()), (None, None))

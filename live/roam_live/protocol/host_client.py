@@ -103,24 +103,26 @@ class HostClient:
             self.ask(line)
 
     def take(self, line: str) -> None:
-        """Takes a line about the window."""
+        """Take a line about the window. If the person has left it, drop what comes late: he is told anew once he returns."""
+        notice = NOTICE.fullmatch(line)
+        if notice:
+            self.notices(notice[1])
+        elif self.link.here is self:
+            self.take_state(line)
+
+    def take_state(self, line: str) -> None:
+        """Take a line about the state of the window where the person is."""
         word, _, rest = line.partition(" ")
+        keypad = KEYPAD.fullmatch(line)
         if word == ZOOMED:
             self.zoomed = zoomed_in(rest.split(" ")) or self.zoomed
-        elif not self.take_notice(line):
+        elif keypad:
+            (self.keypads.add if keypad[2] == "application" else self.keypads.discard)(int(keypad[1]))
+        else:
             self.others.take(line)
         if self.others.is_whole:
             self.link.is_known = True
             self.knows()
-
-    def take_notice(self, line: str) -> bool:
-        """Take a notice of the host, and return True if the line is one."""
-        notice, keypad = NOTICE.fullmatch(line), KEYPAD.fullmatch(line)
-        if notice:
-            self.notices(notice[1])
-        elif keypad:
-            (self.keypads.add if keypad[2] == "application" else self.keypads.discard)(int(keypad[1]))
-        return bool(notice or keypad)
 
     # ---- the zoom, and the others
 
