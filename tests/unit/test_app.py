@@ -11,7 +11,7 @@ from aids import Case, StillLoop, closed, read_now, record
 from roam_live.common import tty
 from roam_live.common.errors import Fault
 from roam_live.common.event_loop import comes
-from roam_live.frontend import app, outer_terminal, paste, window_view, window_views
+from roam_live.frontend import app, outer_terminal, paste, window_views
 from roam_live.frontend.app import FrontEnd
 from roam_live.frontend.connection import Connecting
 from roam_live.frontend.modes import ScrollMode
@@ -446,8 +446,8 @@ class Loop(Fronts):
         """The end of the server's process is the session's."""
         reader, writer = self.pipe()
         self.place.processes["server"] = 1
-        with mock.patch.object(window_view, "opened_process", return_value=reader):
-            self.front.views.watch_server(window_view.opened_server(self.place))
+        with mock.patch.object(window_views, "opened_process", return_value=reader):
+            self.front.views.watch_server(window_views.opened_server(self.place))
         os.close(writer)
         self.turn(1)
         self.assertEqual((self.front.left, self.front.status), ("[the session has ended]", 0))

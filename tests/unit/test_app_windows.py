@@ -11,7 +11,7 @@ from roam_live.common.errors import Fault
 from roam_live.common.event_loop import comes
 from roam_live.config.environment import choose_by_file
 from roam_live.config.user_file import OWN, settings_path
-from roam_live.frontend import app, command_line, window_view, window_views
+from roam_live.frontend import app, command_line, window_views
 from roam_live.frontend.app import FrontEnd
 from roam_live.frontend.lists import WINDOWS_LINE
 from roam_live.frontend.modes import CopyPasteMode
@@ -272,7 +272,7 @@ class Switches(Windows):
     def test_not_had(self):
         """A window of which the system refuses what is needed isn't gone to: all stays as it is, and says why."""
         self.windows[2].processes["server"] = 1
-        with mock.patch.object(window_view, "opened_process", side_effect=Fault("no descriptor is left")):
+        with mock.patch.object(window_views, "opened_process", side_effect=Fault("no descriptor is left")):
             self.type(b"a\x022b")
         self.assertEqual((self.front.views.number, self.typed, self.rows()[1]), (1, {1: "ab", 2: ""}, "no descriptor is left"))
         self.assertEqual(self.front.views.draining.views, {})

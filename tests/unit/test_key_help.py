@@ -5,7 +5,7 @@ from aids import Case
 from roam_live.config.command_table import DEFAULT_KEYS
 from roam_live.config.loader import Binding
 from roam_live.frontend.bindings import help_with
-from roam_live.frontend.key_help import help_of
+from roam_live.frontend.bindings import help_of
 from test_display import Person
 
 OWN = {

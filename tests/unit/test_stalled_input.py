@@ -2,7 +2,7 @@
 import unittest
 
 from aids import Case, StillLoop, record
-from roam_live.frontend.stalled_input import LOOKS, MOMENT, NOT_TAKEN, NO_KEYS, UNTAKEN, UNTAKEN_SILENTLY, UntakenLines
+from roam_live.frontend.connection import LOOKS, MOMENT, NOT_TAKEN, NO_KEYS, UNTAKEN, UNTAKEN_SILENTLY, UntakenLines
 from test_app import Fronts
 
 

@@ -10,7 +10,7 @@ from roam_live.config import environment as config_environment
 from roam_live.config.styled_text import Styled
 from roam_live.config.user_file import OWN, default_command, settings_path, undone
 from roam_live.frontend.display import Display
-from roam_live.frontend.status_segments import StatusRow, format_values
+from roam_live.frontend.settings import StatusRow, format_values
 
 # Lines of a file, a variable of the environment and its value, what is asked, and the answer.
 CHOSEN = (

@@ -17,7 +17,7 @@ from roam_live.frontend.display import Display
 from roam_live.frontend.interpreter import Interpreter
 from roam_live.frontend.modes import ModeStack
 from roam_live.frontend.settings import FrontSettings
-from roam_live.frontend.status_segments import StatusRow, format_values
+from roam_live.frontend.settings import StatusRow, format_values
 from roam_live.frontend.window_views import LOSS_TOLD, ViewMaker, WindowViews
 from roam_live.frontend.windows import WindowWishes
 from roam_live.protocol.client_link import LAST_WAIT
@@ -28,7 +28,7 @@ from roam_live.session.host_watchdog import HostWatchdog
 
 TYPE_CHECKING = False
 if TYPE_CHECKING:
-    from roam_live.frontend.window_view import WindowView
+    from roam_live.frontend.window_views import WindowView
     from roam_live.protocol.panes import Places
     from roam_live.protocol.session_interface import AnySession
 

@@ -10,7 +10,7 @@ from roam_live.config.environment import ESCAPE_TIME, number_of
 from roam_live.config.user_file import OWN
 from roam_live.frontend import effects
 from roam_live.frontend.bindings import OWN as OWN_KEY, PICKS, help_with
-from roam_live.frontend.key_help import FOOT, help_of
+from roam_live.frontend.bindings import FOOT, help_of
 from roam_live.frontend.modes import (GOES, CopyKeysMode, CopyPasteMode, HelpMode, HoldMode, LineMode, PastingMode, PickingMode,
                                       leaves_paused, under_notice, while_paused)
 from roam_live.input.extended_keys import ANSWERED
