@@ -9,6 +9,7 @@ from aids import Case
 from emulated import Emulated
 from roam_live.common import tty
 from roam_live.common.event_loop import Loop
+from roam_live.config import environment
 from roam_live.config.environment import PREFIXES
 from roam_live.frontend import display, outer_terminal, shown_part
 from roam_live.frontend.bindings import HELP, Keymap, help_with
@@ -452,6 +453,17 @@ class Sizes(unittest.TestCase):
         self.assertEqual((small.sizes(), small.said()), ([], ["part 9 30"]))
         small.resize(30, 90)
         self.assertEqual(small.sizes(), ["size 30 90"])
+
+    def test_latest(self):
+        """By window-size latest the session gets the size of the terminal at which somebody types, but for one that watches."""
+        self.addCleanup(environment.choose_by_file, {})
+        for is_read_only, chosen, sizes in ((False, "latest", ["size 24 80"]), (True, "latest", []), (False, "largest", [])):
+            environment.choose_by_file({"window-size": chosen})
+            person = Person(24, 80, told=places(30, 100), host=PlayedHost(True), is_read_only=is_read_only)
+            before = len(person.link.acts)
+            self.assertEqual(person.types(b"x")[:-1] if not is_read_only else person.link.acts[before:], sizes, chosen)
+            person.tell(places(24, 80))
+            self.assertEqual(person.types(b"x"), [] if is_read_only else ["char 78"])
 
     def test_resized_as_told(self):
         """Where the pty host tells who else types that alone is gone by, of another machine's session too."""

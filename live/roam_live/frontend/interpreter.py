@@ -159,7 +159,8 @@ class Interpreter:
             modes.drop(HelpMode)
         is_covered = is_paused or bool(self.display.notice)
         modes.keymap.rows = self.display.outer.size()[0]
-        asked = [] if is_paused and modes.has(LineMode) else modes.takes(key, now, is_covered)
+        is_line = bool(modes.pushed) and isinstance(modes.pushed[-1], LineMode)
+        asked = [] if is_paused and is_line else modes.takes(key, now, is_covered)
         if is_paused:
             self.carry_out(while_paused(asked))
             if leaves_paused(key, asked):
