@@ -10,6 +10,7 @@ from roam_live.frontend.copymode import selection
 from roam_live.frontend.copymode.clipboard import MOST_COPIED
 from roam_live.frontend.copymode.controller import MOST_WAITING, NO_ROOM
 from roam_live.frontend.copymode.row_requests import LENDS, GONE, MOST_ASKED, WAITING, WAITS
+from roam_live.frontend.line_editor import AskedLine
 from roam_live.protocol.display_records import DisplayRecord
 from roam_live.protocol.panes import Places, Rect
 from roam_live.protocol.paste_text import placeholder_acts
@@ -239,6 +240,18 @@ class Opened(Copied):
         person.types(b"\x02[")
         again = self.person()
         self.assertEqual(self.position(person), self.position(again))
+
+    def test_not_lent_prompt(self):
+        """What was typed before a prompt isn't typed into it where no rows are lent; the prompt is there still."""
+        person = self.person(opens=False)
+        self.scrollback.is_quick = self.scrollback.lends = False
+        person.types(b"\x02[kkxq\x02,")
+        person.commands.acts.ask_line(AskedLine("name"), "name 1")
+        self.assertEqual(person.types(b"ab"), [])
+        before = len(person.link.acts)
+        self.scrollback.answers()
+        self.assertEqual((person.link.acts[before:], person.display.row.prompt), (["view 1", "view 1", "view -500"], "(name) ab"))
+        self.assertEqual((person.types(b"c\x1bd"), person.display.row.prompt), (["char 64"], ""))
 
     def test_connecting(self):
         """A host that may be connected soon, as one that was launched just before, is waited for; not longer than for a snapshot."""

@@ -294,6 +294,17 @@ class Stack(unittest.TestCase):
             self.assertEqual((stack.scroll_by(rows), stack.scroll_mode().view), ((act, modes.SCROLLED.format(view)), view))
         self.assertEqual((stack.scroll_by(-600), stack.pushed), ((NEWEST, ""), []))
 
+    def test_below(self):
+        """The scroll mode begins below a prompt, and gives the prefix to the plain mode; keys that come late are for it."""
+        stack = ModeStack(Keymap())
+        stack.push(LineMode(AskedLine("name"), "name 3"))
+        self.assertIs(stack.lowest(), stack.plain)
+        scroll = stack.scroll_mode()
+        self.assertEqual((stack.pushed[0], stack.lowest()), (scroll, scroll))
+        prefix = Key("\x02", "\x02")
+        self.assertEqual(stack.taken_by(scroll, prefix, 1.0, False), [TypeActs(NEWEST), ClearStatus()])
+        self.assertEqual(list(map(type, stack.pushed)), [LineMode, PrefixMode])
+
     def test_whole(self):
         """Behind the prefix an escape and the next key are one."""
         stack = ModeStack(Keymap())

@@ -28,7 +28,7 @@ if TYPE_CHECKING:
     from roam_live.frontend.display import Display
     from roam_live.frontend.effects import Effect
     from roam_live.frontend.interfaces import OtherWindows
-    from roam_live.frontend.modes import ModeStack
+    from roam_live.frontend.modes import Mode, ModeStack
     from roam_live.input.keys import Key
 
 # What a wish begins with that changes a window.
@@ -152,15 +152,23 @@ class Interpreter:
             if host:
                 host.tell_colour(key.text)
 
-    def take(self, key: Key) -> None:
-        """Take a key. Under a notice nothing is typed; the prefix means there what it always does."""
+    def take_back(self, key: Key) -> None:
+        """Take a key that copy mode gives back: it was typed before a prompt that is there now."""
+        self.take(key, self.modes.lowest())
+
+    def take(self, key: Key, mode: Mode | None = None) -> None:
+        """Take a key, in a mode or in the highest. Under a notice nothing is typed; the prefix means there what it always does."""
         modes, is_paused, now = self.modes, self.commands().acts.paused, time.monotonic()
         if modes.pushed and self.display.notice != self.help:
             modes.drop(HelpMode)
         is_covered = is_paused or bool(self.display.notice)
         modes.keymap.rows = self.display.outer.size()[0]
         is_line = bool(modes.pushed) and isinstance(modes.pushed[-1], LineMode)
-        asked = [] if is_paused and is_line else modes.takes(key, now, is_covered)
+        asked: list[Effect] = []
+        if mode:
+            asked = modes.taken_by(mode, key, now, is_covered)
+        elif not (is_paused and is_line):
+            asked = modes.takes(key, now, is_covered)
         if is_paused:
             self.carry_out(while_paused(asked))
             if leaves_paused(key, asked):

@@ -333,22 +333,30 @@ class ModeStack:
 
     def takes(self, key: Key, now: float, is_covered: bool = False) -> list[Effect]:
         """Return what a key asks for. While something stands in place of the panes what is drawn over them takes no key."""
-        if self.pushed:
-            return self.taken_by(self.pushed[-1], key, now, is_covered)
-        return self.taken_by(self.plain if is_covered or not self.drawn else self.drawn, key, now, is_covered)
+        return self.taken_by(self.pushed[-1] if self.pushed else self.below(None, is_covered), key, now, is_covered)
+
+    def lowest(self) -> Mode:
+        """Return the mode for keys that were typed before what was pushed since: the scroll mode, or the plain one."""
+        return self.pushed[0] if self.pushed and isinstance(self.pushed[0], ScrollMode) else self.plain
+
+    def below(self, mode: Mode | None, is_covered: bool) -> Mode:
+        """Return the mode below another, or below all that were pushed."""
+        place = next((place for place, one in enumerate(self.pushed) if one is mode), 0)
+        if place:
+            return self.pushed[place - 1]
+        return self.drawn if self.drawn and self.drawn is not mode and not is_covered else self.plain
 
     def taken_by(self, mode: Mode, key: Key, now: float, is_covered: bool) -> list[Effect]:
         """Return what a key asks for in a mode, once the modes have changed by it."""
         found: list[Effect] = []
+        below = self.below(mode, is_covered) if mode is not self.plain else mode
         for effect in mode.takes(key, now):
             if isinstance(effect, PushMode):
                 self.push(effect.mode)
             elif isinstance(effect, PopMode):
                 self.remove(mode)
-            elif isinstance(effect, PassKey) and mode.is_drawn:
-                found += self.taken_by(self.plain, effect.key, now, is_covered)
             elif isinstance(effect, PassKey):
-                found += self.takes(effect.key, now, is_covered)
+                found += self.taken_by(below, effect.key, now, is_covered)
             elif isinstance(effect, SendLiteral):
                 found += self.literal(effect.key, is_covered)
             else:
@@ -363,11 +371,11 @@ class ModeStack:
     # ---- the scroll mode
 
     def scroll_mode(self) -> ScrollMode:
-        """Return the scroll mode, which begins if it is not on the stack."""
+        """Return the scroll mode, which begins below what was pushed if it is not on the stack."""
         found = next((mode for mode in self.pushed if isinstance(mode, ScrollMode)), None)
         if not found:
             found = ScrollMode(self.keymap)
-            self.push(found)
+            self.pushed.insert(0, found)
         return found
 
     def scroll_by(self, rows: int) -> tuple[str, str]:

@@ -207,7 +207,7 @@ class ViewMaker:
         host = HostClient(self.host_link, session.number, lambda: commands.follower.others_told())
         host.notices = lambda words: display.row.tell(words, LOSS_TOLD)
         commands = Commands(session, panes, link, display, loop, self.leave, self.keyboard.modes, is_new, self.is_whole, host)
-        commands.copying.gives_back = self.keyboard.take
+        commands.copying.gives_back = self.keyboard.take_back
         commands.synchronizing.remember(self.synchronized, session.number, lambda: self.settings.prediction)
         return WindowView(session, link, Reconnector(session, link, panes.is_full), panes, host, commands)
 
