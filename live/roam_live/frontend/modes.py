@@ -333,14 +333,15 @@ class ModeStack:
 
     def takes(self, key: Key, now: float, is_covered: bool = False) -> list[Effect]:
         """Return what a key asks for. While something stands in place of the panes what is drawn over them takes no key."""
-        return self.taken_by(self.pushed[-1] if self.pushed else self.below(None, is_covered), key, now, is_covered)
+        lowest = self.drawn if self.drawn and not is_covered else self.plain
+        return self.taken_by(self.pushed[-1] if self.pushed else lowest, key, now, is_covered)
 
     def lowest(self) -> Mode:
         """Return the mode for keys that were typed before what was pushed since: the scroll mode, or the plain one."""
         return self.pushed[0] if self.pushed and isinstance(self.pushed[0], ScrollMode) else self.plain
 
-    def below(self, mode: Mode | None, is_covered: bool) -> Mode:
-        """Return the mode below another, or below all that were pushed."""
+    def below(self, mode: Mode, is_covered: bool) -> Mode:
+        """Return the mode below another."""
         place = next((place for place, one in enumerate(self.pushed) if one is mode), 0)
         if place:
             return self.pushed[place - 1]
