@@ -684,6 +684,18 @@ class Fars(Ends):
         self.assertTrue(one.stream.going.startswith(b"roam-relay 2 5e55\n"))
         self.assertEqual((one.stream.session, self.far_end(greeted=True).stream.session), (None, "-"))
 
+    def test_host(self):
+        """The socket `host` of a window is that of its session, also where no server's process is known; `panes` is the window's own."""
+        window = self.folder / "main/w/1"
+        window.mkdir(parents=True)
+        host, panes = self.listening(self.folder / "main/host"), self.listening(window / "panes")
+        one = self.far_end(dir=str(window))
+        for name, listener in (("host", host), ("panes", panes)):
+            with one.opened_socket(name) as opened, self.taken(listener) as taken:
+                opened.send(b"x")
+                self.assertEqual(taken.recv(9), b"x", name)
+        self.assertRaises(OSError, self.far_end(dir=str(self.folder)).opened_socket, "host")
+
     def test_forwards(self):
         """Each client has a stream of its own to the server."""
         self.say(greeting("-") + packed((4, datagram(1)), (7, datagram(2)), (4, datagram(3)), (5, b"XX" + datagram(4)[2:])))

@@ -128,7 +128,10 @@ class Far:
         """A connection to a socket of the session's folder, of those that are forwarded; OSError where it can't be had."""
         if not self.asked.dir:
             raise FileNotFoundError(name)
-        return connected_now(self.windows.path(name) if self.place else os.path.join(self.asked.dir, name))
+        if self.place:
+            return connected_now(self.windows.path(name))
+        # A window's folder has no `host`: that of its session has it.
+        return connected_now(os.path.join(window_in(self.asked.dir).common if name == HOST else self.asked.dir, name))
 
     # ---- what the other end is told
 
