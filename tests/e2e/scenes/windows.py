@@ -138,6 +138,8 @@ def window_stopped(folder):
     wanted = ["one", "two"]
     check("what he typed comes where he was", comes(lambda: [typed_in(path) for path in paths] == wanted), [*map(typed_in, paths)])
     check("the window is there a moment later", outer.status("window 3 is there now") or outer.shows("3:"), outer.rows)
+    # That line would stand until it is told that no keys are taken.
+    check("its label stands in the last row then", comes(lambda: "3:" in outer.rows()[23]), outer.rows)
     client = window_process(2, "client")
     os.kill(client, signal.SIGSTOP)
     outer.type(b" t\x021 o\x022wo")
