@@ -609,7 +609,8 @@ class Words(Mux):
     def test_unknown_variables(self):
         """An unknown variable is named in one printable line on standard error, with the one that it is near to; up to four are."""
         hint = " (did you mean ROAM_PREDICT?)"
-        for name, line in (("ROAM_GUES", f"ROAM_GUES{hint}"), ("ROAM_PREDICTS", f"ROAM_PREDICTS{hint}"), ("ROAM_PREDCIT", f"ROAM_PREDCIT{hint}"),
+        for name, line in (("ROAM_GUES", f"ROAM_GUES{hint}"), ("ROAM_PREDICTS", f"ROAM_PREDICTS{hint}"),
+                           ("ROAM_PREDCIT", f"ROAM_PREDCIT{hint}"),
                            ("ROAM_HISTROY", "ROAM_HISTROY (did you mean ROAM_HISTORY?)"), ("ROAM_ZEBRA", "ROAM_ZEBRA"),
                            ("ROAM_", "ROAM_"), ("ROAM_\x1b[2J\n\udcff", "ROAM_?[2J??"), ("ROAM_" + "X" * 99, f"ROAM_{'X' * 35}..")):
             self.assertEqual(mux.unknown_lines([name, "ROAM", "ROAMING", "HOME"]), [f"roam: unknown variable {line}"])

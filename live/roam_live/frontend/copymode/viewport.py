@@ -199,7 +199,7 @@ class CopyView:
 
 
 def turn_where(view: CopyView, keeps: str) -> None:
-    """Puts the cursor at the other end of lines that are selected, if it keeps to this one of them and is on the row at which they begin."""
+    """Put the cursor at the other end of selected lines, if it keeps to this one of them and is on the row at which they begin."""
     selection = view.selection
     if selection and selection.keeps == keeps and view.position[0] == selection.fixed()[0]:
         view.other_end()
