@@ -4,6 +4,7 @@ Every import counts: those at the top of a module, those below TYPE_CHECKING, an
 """
 import ast
 import graphlib
+import pathlib
 import re
 
 from aids import Case
@@ -56,9 +57,12 @@ def modules_imported_by(text: str) -> "list[tuple[int, str]]":
 
 
 def owners_in(name: str, text: str) -> "list[str]":
-    """Return where an object gives itself to one that it makes: a call of a class has `self` among its arguments."""
+    """Return where an object gives itself to another: a call of a class has `self` among its arguments, or a field of another is set."""
     faults = []
     for node in ast.walk(ast.parse(text)):
+        if isinstance(node, ast.Assign) and any(isinstance(one, ast.Attribute) for one in node.targets):
+            values = node.value.elts if isinstance(node.value, ast.Tuple) else [node.value]
+            faults += [f"{name}:{node.lineno}: gives itself away"] * any(isinstance(one, ast.Name) and one.id == "self" for one in values)
         if not isinstance(node, ast.Call):
             continue
         called = node.func.attr if isinstance(node.func, ast.Attribute) else node.func.id if isinstance(node.func, ast.Name) else ""
@@ -66,6 +70,35 @@ def owners_in(name: str, text: str) -> "list[str]":
         if called[:1].isupper() and any(isinstance(one, ast.Name) and one.id == "self" for one in given):
             faults.append(f"{name}:{node.lineno}: gives itself to what it makes")
     return faults
+
+
+def made_and_known(text: str) -> "tuple[dict[str, set[str]], dict[str, set[str]]]":
+    """Return what each class of a module makes, and the types that its constructor and its fields name."""
+    made: "dict[str, set[str]]" = {}
+    known: "dict[str, set[str]]" = {}
+    for one in ast.walk(ast.parse(text)):
+        if not isinstance(one, ast.ClassDef):
+            continue
+        nodes = list(ast.walk(one))
+        made[one.name] = {node.func.id for node in nodes if isinstance(node, ast.Call) and isinstance(node.func, ast.Name)}
+        fields = [node.annotation for node in nodes if isinstance(node, ast.AnnAssign)]
+        for method in one.body:
+            if isinstance(method, ast.FunctionDef) and method.name == "__init__":
+                fields += [part.annotation for part in method.args.args + method.args.kwonlyargs if part.annotation]
+        known[one.name] = {word for field in fields for word in re.findall(r"\w+", ast.unparse(field))}
+    return made, known
+
+
+def owners_among(given: "list[str]") -> "list[str]":
+    """Return each class of some modules that is named in the constructor or a field of one that it makes."""
+    made: "dict[str, set[str]]" = {}
+    known: "dict[str, set[str]]" = {}
+    for text in given:
+        for table, found in zip((made, known), made_and_known(text)):
+            for name, names in found.items():
+                table.setdefault(name, set()).update(names)
+    return sorted(f"{part} knows {maker}, which makes it" for maker, parts in made.items() for part in parts & set(known)
+                  if part != maker and maker in known[part])
 
 
 def faults_in(name: str, text: str) -> "list[str]":
@@ -117,8 +150,15 @@ class Layers(Case):
         list(graphlib.TopologicalSorter(graph).static_order())
 
     def test_no_owner(self):
-        """No object there gives itself to one that it makes, so that no part has a field for its owner."""
-        self.assertEqual([fault for name, text in texts().items() if name.split("/")[1] in ACYCLIC for fault in owners_in(name, text)], [])
+        """No object there gives itself to another, and no part has a field for the object that made it."""
+        found = {name: text for name, text in texts().items() if name.split("/")[1] in ACYCLIC}
+        self.assertEqual([fault for name, text in found.items() for fault in owners_in(name, text)], [])
+        self.assertEqual(owners_among(list(found.values())), [])
+
+    def test_no_mock(self):
+        """The tests of modes and of copy mode's keys read values: they use no mock."""
+        for name in ("test_modes", "modes_played", "test_copy_keys", "copied"):
+            self.assertNotIn("mock", pathlib.Path(__file__).with_name(f"{name}.py").read_text(encoding="utf-8"), name)
 
     def test_sizes(self):
         """No module there has more than MOST_LINES lines, and no class more than MOST_METHODS methods of its own."""
@@ -131,7 +171,13 @@ class Layers(Case):
                         self.assertLessEqual(methods, MOST_METHODS, f"{name}: {node.name}")
 
     def test_owner_found(self):
-        """An object that is given to a part as it is made is found, and a call of its own isn't."""
+        """An object that gives itself to a part is found, and so is a part that knows its maker; a call of its own isn't."""
+        made = "class A:\n    def __init__(self):\n        self.b = B(1)\n"
+        for part, faults in (("    def __init__(self, one: int, owner: A | None = None):\n        pass\n", ["B knows A, which makes it"]),
+                             ("    def __init__(self, one: int):\n        self.owner: 'A | None' = None\n", ["B knows A, which makes it"]),
+                             ("    def __init__(self, one: int):\n        self.one: int = one\n", [])):
+            self.assertEqual(owners_among([made, f"class B:\n{part}"]), faults, part)
+        self.assertEqual(owners_in("a.py", "class A:\n    def f(self):\n        self.b.owner = self\n"), ["a.py:3: gives itself away"])
         for text, lines in (("class A:\n    def f(self):\n        self.b = B(1, self)\n", [3]),
                             ("class A:\n    def f(self):\n        return b.Part(one=self)\n", [3]),
                             ("class A:\n    def f(self):\n        self.b = B(self.f, lambda: self.x)\n        print(self)\n", [])):
