@@ -2,16 +2,13 @@
 from __future__ import annotations
 
 from collections import namedtuple
+from collections.abc import Callable
 
 from roam_live.common.text import printable
 from roam_live.input.key_names import acts_of_word
 from roam_live.input.keys import Key, acts_of
 from roam_live.protocol.spawn_request import MOST_BYTES, TOO_LONG, Begins
 from roam_live.protocol.window_lines import LONGEST_BYTES, LONGEST_NAME
-
-TYPE_CHECKING = False
-if TYPE_CHECKING:
-    from collections.abc import Callable
 
 # Words that stand in a command, and the flags that stand before them, with their values.
 MOST_WORDS, LONGEST_TEXT = 100, 1000

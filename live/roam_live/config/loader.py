@@ -5,6 +5,7 @@ import glob
 import os
 import stat
 from collections import namedtuple
+from collections.abc import Container, Iterable
 
 from roam_live.common.errors import reason
 from roam_live.common.text import printable
@@ -12,8 +13,6 @@ from roam_live.config.parser import OPTIONS, SWITCHES, TEXTS, BadWord, Block, Fi
 
 TYPE_CHECKING = False
 if TYPE_CHECKING:
-    from collections.abc import Container, Iterable
-
     from roam_live.config.parser import Value, Word
 
 # A file has so many bytes at most; so many are named by one another at most, and so many are read in all.

@@ -4,6 +4,7 @@ from __future__ import annotations
 import bisect
 import os
 from collections import namedtuple
+from collections.abc import Callable, Iterator
 
 from roam_live.common.text import printable
 from roam_live.config.environment import CLIPBOARD, MOST_ROWS, PREDICTION, PREFIXES
@@ -11,7 +12,6 @@ from roam_live.input.key_names import named, named_key
 
 TYPE_CHECKING = False
 if TYPE_CHECKING:
-    from collections.abc import Callable, Iterator
     from typing import Union
 
     # What stands in a command: a text, or a block of commands between braces.

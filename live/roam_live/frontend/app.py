@@ -18,18 +18,17 @@ from roam_live.frontend.interpreter import Interpreter
 from roam_live.frontend.modes import ModeStack
 from roam_live.frontend.settings import FrontSettings
 from roam_live.frontend.settings import StatusRow, format_values
-from roam_live.frontend.window_views import LOSS_TOLD, ViewMaker, WindowViews
+from roam_live.frontend.window_views import LOSS_TOLD, ViewMaker, WindowView, WindowViews
 from roam_live.frontend.windows import WindowWishes
 from roam_live.protocol.client_link import LAST_WAIT
 from roam_live.protocol.host_link import HostLink
+from roam_live.protocol.panes import Places
 from roam_live.session.environment import environment_lines
 from roam_live.session.front_end_lock import locked_session
 from roam_live.session.host_watchdog import HostWatchdog
 
 TYPE_CHECKING = False
 if TYPE_CHECKING:
-    from roam_live.frontend.window_views import WindowView
-    from roam_live.protocol.panes import Places
     from roam_live.protocol.session_interface import AnySession
 
 # So many seconds each of several clients has at least for what was typed before a person left.

@@ -5,14 +5,8 @@ from collections import namedtuple
 
 from roam_live.protocol.panes import Rect
 
-TYPE_CHECKING = False
-if TYPE_CHECKING:
-    from typing import Union
-
-    # What a session, or a part of it, is made of: a pane, by its number, or two parts.
-    Parts = Union[int, "PaneSplit"]
-    # Parts, and the rectangle that they fill.
-    Box = tuple[Rect, Parts]
+# What a session, or a part of it, is made of: a pane, by its number, or two parts; and the rectangle that it fills.
+Box = tuple[Rect, "int | PaneSplit"]
 
 # A pane has so many columns and rows at least; and it grows by so many at once at most.
 LEAST = {"right": 4, "down": 2}
@@ -23,8 +17,8 @@ class PaneSplit(namedtuple("PaneSplit", "way first second")):
     """Two parts beside one another (`right`), or one below the other (`down`)."""
 
     way: str
-    first: Parts
-    second: Parts
+    first: int | PaneSplit
+    second: int | PaneSplit
 
 
 def begin_of(rect: Rect, way: str) -> int:
@@ -51,7 +45,7 @@ def around(first: Rect, second: Rect) -> Rect:
     return Rect(first.row, first.col, end_of(second, "down") - first.row, end_of(second, "right") - first.col)
 
 
-def joined(boxes: dict[int, Box], is_in_order: bool, seen: set[frozenset[Rect]]) -> Parts | None:
+def joined(boxes: dict[int, Box], is_in_order: bool, seen: set[frozenset[Rect]]) -> int | PaneSplit | None:
     """The splits of boxes by the smallest numbers of their panes; None where they can't be. In order, the one with the greatest number was
     split off last, behind what it was split from."""
     if len(boxes) == 1:
@@ -75,7 +69,7 @@ def joined(boxes: dict[int, Box], is_in_order: bool, seen: set[frozenset[Rect]])
     return None
 
 
-def splits_of(rects: dict[int, Rect]) -> Parts | None:
+def splits_of(rects: dict[int, Rect]) -> int | PaneSplit | None:
     """The splits by which panes were made, as far as their rectangles tell it; None where they tell none. A new pane has the smallest free
     number, so that these tell the rest where none was closed."""
     boxes: dict[int, Box] = {pane: (rect, pane) for pane, rect in rects.items()}
@@ -89,17 +83,17 @@ def is_told_by_numbers(rects: dict[int, Rect]) -> bool:
     return sorted(rects) == list(range(1, len(rects) + 1)) and joined(boxes, True, set()) is not None
 
 
-def box_of(parts: Parts, rects: dict[int, Rect]) -> Rect:
+def box_of(parts: int | PaneSplit, rects: dict[int, Rect]) -> Rect:
     """The rectangle that parts fill."""
     return rects[parts] if isinstance(parts, int) else around(box_of(parts.first, rects), box_of(parts.second, rects))
 
 
-def panes_of(parts: Parts) -> list[int]:
+def panes_of(parts: int | PaneSplit) -> list[int]:
     """The panes of parts."""
     return [parts] if isinstance(parts, int) else panes_of(parts.first) + panes_of(parts.second)
 
 
-def least_of(parts: Parts, way: str) -> int:
+def least_of(parts: int | PaneSplit, way: str) -> int:
     """How long parts are at least, along a way."""
     if isinstance(parts, int):
         return LEAST[way]

@@ -6,22 +6,19 @@ from collections import deque
 from collections.abc import Callable
 
 from roam_live.common.errors import reason
+from roam_live.common.event_loop import Loop
 from roam_live.common.io import read
 from roam_live.common.text import printable
 from roam_live.config.command_table import BadCommand, CommandWish, asked_by, completed
 from roam_live.config.environment import BY_FILE, choose_by_file
 from roam_live.config.user_file import OWN
 from roam_live.frontend.bindings import OWN as KEY
+from roam_live.frontend.interpreter import Interpreter
 from roam_live.frontend.line_editor import AskedLine
+from roam_live.frontend.settings import FrontSettings
 from roam_live.frontend.synchronize_panes import OPTION
 from roam_live.input.keys import Key, acts_of
 from roam_live.protocol.window_lines import name_word
-
-TYPE_CHECKING = False
-if TYPE_CHECKING:
-    from roam_live.common.event_loop import Loop
-    from roam_live.frontend.interpreter import Interpreter
-    from roam_live.frontend.settings import FrontSettings
 
 # So many seconds a line stands that a command tells; so many lines that were typed are kept, each so long; and so many programs run at
 # once, of which so much is heard.

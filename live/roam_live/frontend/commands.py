@@ -3,6 +3,8 @@ from __future__ import annotations
 
 from collections.abc import Callable
 
+from roam_live.common import tty
+from roam_live.common.event_loop import Loop
 from roam_live.frontend.copymode.controller import INTERRUPT, Copying
 from roam_live.frontend.copymode.mouse import CopyPointing
 from roam_live.frontend.copymode.state import CopyEvent
@@ -23,18 +25,15 @@ from roam_live.frontend.window_acts import WindowActs
 from roam_live.frontend.zoom import Zooming
 from roam_live.input.extended_keys import form_for
 from roam_live.input.keys import Key, acts_of
-from roam_live.protocol.client_link import TYPES
+from roam_live.protocol.client_link import ClientLink, TYPES
+from roam_live.protocol.host_client import HostClient
+from roam_live.protocol.panes import Places
+from roam_live.protocol.panes_client import PanesSubscriber
 from roam_live.protocol.presence import LEAVE_OTHERS
 
 TYPE_CHECKING = False
 if TYPE_CHECKING:
-    from roam_live.common.event_loop import Loop
-    from roam_live.common.tty import Size
     from roam_live.frontend.interfaces import OtherWindows
-    from roam_live.protocol.client_link import ClientLink
-    from roam_live.protocol.host_client import HostClient
-    from roam_live.protocol.panes import Places
-    from roam_live.protocol.panes_client import PanesSubscriber
     from roam_live.protocol.session_interface import AnySession
 
 # What is told of a paste that is begun in a window that is gone before its end.
@@ -75,7 +74,7 @@ class Commands:
         # The windows of the session, where it may have several.
         self.windows: OtherWindows | None = None
         # The session's size and the labels of its panes, as they were told last.
-        self.known: tuple[Size, str] = (NO_SIZE, "")
+        self.known: tuple[tty.Size, str] = (NO_SIZE, "")
         self.join_parts()
 
     def join_parts(self) -> None:
@@ -259,7 +258,7 @@ class Commands:
         for name in OF_WINDOW:
             self.loop.drop(name)
 
-    def follow_on(self, before: Commands, left_size: Size) -> None:
+    def follow_on(self, before: Commands, left_size: tty.Size) -> None:
         """Go on in this window with what the person has begun elsewhere, as a paste. The window may have been shown whole as it was left,
         with a size."""
         self.pointing.is_on = before.pointing.is_on

@@ -7,15 +7,12 @@ from collections.abc import Callable
 
 from roam_live.common.event_loop import Loop
 from roam_live.frontend.bindings import NEWEST
+from roam_live.frontend.last_row import LastRow
 from roam_live.frontend.modes import ScrollMode
 from roam_live.frontend.preload import Preloading
-
-TYPE_CHECKING = False
-if TYPE_CHECKING:
-    from roam_live.frontend.last_row import LastRow
-    from roam_live.frontend.window_views import WindowViews
-    from roam_live.protocol.client_link import ClientLink
-    from roam_live.protocol.display_records import DisplayRecord
+from roam_live.frontend.window_views import WindowViews
+from roam_live.protocol.client_link import ClientLink
+from roam_live.protocol.display_records import DisplayRecord
 
 # What the moment is called at which it is looked again, and how many seconds lie between two looks.
 MOMENT = "untaken"

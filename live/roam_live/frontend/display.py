@@ -9,14 +9,11 @@ from roam_live.common.text import printable
 from roam_live.frontend import sizes
 from roam_live.frontend.last_row import LastRow
 from roam_live.frontend.outer_terminal import OuterTerminal
+from roam_live.frontend.popup import Popup
 from roam_live.frontend.shown_part import ShownPart
 from roam_live.frontend.status_line import cut
-
-TYPE_CHECKING = False
-if TYPE_CHECKING:
-    from roam_live.frontend.popup import Popup
-    from roam_live.protocol.display_records import DisplayRecord
-    from roam_live.protocol.panes import Rect
+from roam_live.protocol.display_records import DisplayRecord
+from roam_live.protocol.panes import Rect
 
 # A terminal that is drawn larger or smaller by hand is painted anew once in so many seconds at most.
 DRAWN = 0.05

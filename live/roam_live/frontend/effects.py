@@ -5,9 +5,7 @@ these together.
 """
 from __future__ import annotations
 
-TYPE_CHECKING = False
-if TYPE_CHECKING:
-    from roam_live.input.keys import Key
+from roam_live.input.keys import Key
 
 
 class Effect:

@@ -6,16 +6,20 @@ import signal
 import time
 from collections.abc import Callable
 
+from roam_live.common.event_loop import Loop
 from roam_live.config.environment import ESCAPE_TIME, number_of
 from roam_live.config.user_file import OWN
 from roam_live.frontend import effects
 from roam_live.frontend.bindings import OWN as OWN_KEY, PICKS, help_with
 from roam_live.frontend.bindings import FOOT, help_of
-from roam_live.frontend.modes import (GOES, CopyKeysMode, CopyPasteMode, HelpMode, HoldMode, LineMode, PastingMode, PickingMode,
-                                      leaves_paused, under_notice, while_paused)
+from roam_live.frontend.commands import Commands
+from roam_live.frontend.display import Display
+from roam_live.frontend.effects import Effect
+from roam_live.frontend.modes import (CopyKeysMode, CopyPasteMode, GOES, HelpMode, HoldMode, LineMode, Mode, ModeStack, PastingMode,
+                                      PickingMode, leaves_paused, under_notice, while_paused)
 from roam_live.input.extended_keys import ANSWERED
 from roam_live.input.key_names import spelled
-from roam_live.input.keys import Keys
+from roam_live.input.keys import Key, Keys
 from roam_live.input.mouse_reports import MOUSE
 from roam_live.protocol.colours import COLOUR
 from roam_live.protocol.panes import BESIDE
@@ -23,13 +27,7 @@ from roam_live.protocol.window_lines import name_word
 
 TYPE_CHECKING = False
 if TYPE_CHECKING:
-    from roam_live.common.event_loop import Loop
-    from roam_live.frontend.commands import Commands
-    from roam_live.frontend.display import Display
-    from roam_live.frontend.effects import Effect
     from roam_live.frontend.interfaces import OtherWindows
-    from roam_live.frontend.modes import Mode, ModeStack
-    from roam_live.input.keys import Key
 
 # What a wish begins with that changes a window.
 WINDOW = "window "

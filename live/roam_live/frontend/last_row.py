@@ -4,17 +4,14 @@ from __future__ import annotations
 from collections.abc import Callable
 
 from roam_live.common import tty
+from roam_live.common.event_loop import Loop
 from roam_live.config.styled_text import ROW_STYLE, Styled
+from roam_live.frontend.outer_terminal import OuterTerminal
+from roam_live.frontend.popup import Popup
+from roam_live.frontend.shown_part import ShownPart
 from roam_live.frontend.sizes import NO_SIZE
 from roam_live.frontend.status_line import (ALL_PANES, BETWEEN, SYNCHRONIZED, ZOOMED, clipped, columns, fitted, label_at, row_text, said,
                                             tail)
-
-TYPE_CHECKING = False
-if TYPE_CHECKING:
-    from roam_live.common.event_loop import Loop
-    from roam_live.frontend.outer_terminal import OuterTerminal
-    from roam_live.frontend.popup import Popup
-    from roam_live.frontend.shown_part import ShownPart
 
 # So many seconds a line stands in the last row.
 TOLD = 1.0

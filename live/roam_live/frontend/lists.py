@@ -5,18 +5,14 @@ from __future__ import annotations
 from collections.abc import Callable
 
 from roam_live.common.text import printable
-from roam_live.frontend.effects import GoToWindow, PasteBuffer
+from roam_live.frontend.bindings import Keymap
+from roam_live.frontend.effects import Effect, GoToWindow, PasteBuffer
 from roam_live.frontend.modes import HoldMode, ListLine, ListMode
 from roam_live.frontend.popup import Popup
 from roam_live.frontend.status_line import fitted
+from roam_live.frontend.window_acts import WindowActs
 from roam_live.protocol.panes import Rect
-
-TYPE_CHECKING = False
-if TYPE_CHECKING:
-    from roam_live.frontend.bindings import Keymap
-    from roam_live.frontend.effects import Effect
-    from roam_live.frontend.window_acts import WindowActs
-    from roam_live.protocol.scrollback_client import BufferNote
+from roam_live.protocol.scrollback_client import BufferNote
 
 # So many seconds a line stands.
 TOLD = 2.0

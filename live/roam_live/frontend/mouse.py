@@ -6,18 +6,14 @@ from collections.abc import Callable
 
 from roam_live.frontend.resize_keys import BorderDrag
 from roam_live.frontend.borders import border_at
-from roam_live.frontend.copymode.mouse import Clicks
+from roam_live.frontend.copymode.mouse import Clicks, CopyPointing
 from roam_live.frontend.modes import ScrollMode
+from roam_live.frontend.window_acts import WindowActs
 from roam_live.input.mouse_reports import DOWN, UP, MouseReport, is_wanted, report_of, sent, tracking_of
+from roam_live.protocol.panes import Places, Rect
 
-TYPE_CHECKING = False
-if TYPE_CHECKING:
-    from roam_live.frontend.copymode.mouse import CopyPointing
-    from roam_live.frontend.window_acts import WindowActs
-    from roam_live.protocol.panes import Places, Rect
-
-    # A row and a column of the session, from 1.
-    Place = tuple[int, int]
+# A row and a column of the session, from 1.
+Place = tuple[int, int]
 
 # So many seconds lie between two reports of motion, and while so many lines are on their way no other goes: what is dragged over a slow
 # network doesn't lag ever more.

@@ -2,13 +2,13 @@
 from __future__ import annotations
 
 from roam_live.frontend.effects import ClosePane
+from roam_live.frontend.window_acts import WindowActs
+from roam_live.frontend.zoom import Zooming
 from roam_live.session.foreground import told
 
 TYPE_CHECKING = False
 if TYPE_CHECKING:
     from roam_live.frontend.interfaces import OtherWindows
-    from roam_live.frontend.window_acts import WindowActs
-    from roam_live.frontend.zoom import Zooming
 
 # What is told where no pane is known that was in focus before.
 NO_LAST = "no other pane was in focus"

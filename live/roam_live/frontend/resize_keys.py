@@ -5,16 +5,11 @@ from collections import deque
 from collections.abc import Callable
 
 from roam_live.frontend.borders import MOST_GROWTH, Border, begin_of, border_at, end_of, is_told_by_numbers, splits_of
+from roam_live.frontend.session_size import SessionSize
 from roam_live.frontend.split_math import Evened
-from roam_live.frontend.zoom import FOCUS_WAIT
-from roam_live.protocol.panes import BESIDE
-
-TYPE_CHECKING = False
-if TYPE_CHECKING:
-    from roam_live.frontend.session_size import SessionSize
-    from roam_live.frontend.window_acts import WindowActs
-    from roam_live.frontend.zoom import Zooming
-    from roam_live.protocol.panes import Places, Rect
+from roam_live.frontend.window_acts import WindowActs
+from roam_live.frontend.zoom import FOCUS_WAIT, Zooming
+from roam_live.protocol.panes import BESIDE, Places, Rect
 
 # So many keys wait at most until the session has its size again; and even shares take so many lines of acts at most, each once what comes
 # of the one before is told.

@@ -6,10 +6,7 @@ from collections.abc import Callable
 from roam_live.common import tty
 from roam_live.frontend import sizes
 from roam_live.frontend.sizes import NO_SIZE
-
-TYPE_CHECKING = False
-if TYPE_CHECKING:
-    from roam_live.frontend.window_acts import WindowActs
+from roam_live.frontend.window_acts import WindowActs
 
 # So many seconds a line stands that tells how the session is made as large as the terminal, or why it isn't.
 FITS_TOLD = 3.0

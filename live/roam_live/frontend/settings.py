@@ -9,17 +9,17 @@ from collections.abc import Callable
 from roam_live.common.errors import Fault
 from roam_live.common.event_loop import Loop
 from roam_live.config.environment import STATUS_INTERVAL, chosen_prediction, chosen_prefix, number_of, text_of, wants_mouse
+from roam_live.config.styled_text import Styled
 from roam_live.config.user_file import OWN
+from roam_live.frontend.commands import Commands
+from roam_live.frontend.display import Display
+from roam_live.frontend.interpreter import Interpreter
+from roam_live.frontend.windows_client import WindowsState
+from roam_live.protocol.panes_client import PanesSubscriber
 
 TYPE_CHECKING = False
 if TYPE_CHECKING:
     from roam_live.config.formats import Format
-    from roam_live.config.styled_text import Styled
-    from roam_live.frontend.commands import Commands
-    from roam_live.frontend.display import Display
-    from roam_live.frontend.interpreter import Interpreter
-    from roam_live.frontend.windows_client import WindowsState
-    from roam_live.protocol.panes_client import PanesSubscriber
 
 OPTIONS = ("status-left", "status-right")
 

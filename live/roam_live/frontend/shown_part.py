@@ -4,14 +4,11 @@ from __future__ import annotations
 from collections.abc import Callable
 
 from roam_live.common import tty
+from roam_live.common.event_loop import Loop
 from roam_live.frontend import sizes
+from roam_live.frontend.outer_terminal import OuterTerminal
 from roam_live.frontend.sizes import NO_SIZE, has_all
-
-TYPE_CHECKING = False
-if TYPE_CHECKING:
-    from roam_live.common.event_loop import Loop
-    from roam_live.frontend.outer_terminal import OuterTerminal
-    from roam_live.protocol.panes import Rect
+from roam_live.protocol.panes import Rect
 
 # A part that the client chose over an earlier screen is asked for again after so many seconds, and after twice as many each time, until it
 # has the new one.

@@ -7,16 +7,11 @@ from collections.abc import Callable
 from roam_live.common import tty
 from roam_live.config.environment import follows_latest
 from roam_live.frontend import sizes
-from roam_live.frontend.session_size import FITS_TOLD
+from roam_live.frontend.session_size import FITS_TOLD, SessionSize
 from roam_live.frontend.sizes import NO_SIZE
-
-TYPE_CHECKING = False
-if TYPE_CHECKING:
-    from roam_live.frontend.zoom import LeftZoom
-    from roam_live.frontend.session_size import SessionSize
-    from roam_live.frontend.window_acts import WindowActs
-    from roam_live.frontend.zoom import Zooming
-    from roam_live.protocol.panes import Places
+from roam_live.frontend.window_acts import WindowActs
+from roam_live.frontend.zoom import LeftZoom, Zooming
+from roam_live.protocol.panes import Places
 
 # So many seconds later it is looked again whether the panes are told, before the session is fitted to the terminal.
 FITS_AGAIN = 0.3

@@ -8,17 +8,11 @@ from __future__ import annotations
 from roam_live.common import tty
 from roam_live.frontend.borders import splits_of
 from roam_live.frontend.split_math import above, area_of, laid, size_for
-from roam_live.protocol.panes import Rect
-from roam_live.protocol.zoom_record import MOST_ASKED
+from roam_live.protocol.panes import Places, Rect
+from roam_live.protocol.zoom_record import MOST_ASKED, ZoomNote
 
-TYPE_CHECKING = False
-if TYPE_CHECKING:
-    from roam_live.common.tty import Size
-    from roam_live.protocol.panes import Places
-    from roam_live.protocol.zoom_record import ZoomNote
-
-    # A row and a column, both from 0 or both from 1.
-    Place = tuple[int, int]
+# A row and a column, both from 0 or both from 1.
+Place = tuple[int, int]
 
 # An unknown size.
 NO_SIZE = (0, 0)
@@ -34,7 +28,7 @@ ZOOMS, TAKES, KEEPS, WAITS, FOLLOWS = "zooms", "takes", "keeps", "waits", "follo
 IS_NEW, LATER, FITS = "new", "later", "fits"
 
 
-def fit_step(size: Size, own: Size, is_read_only: bool, is_zoomed: bool, is_fresh: bool, awaits_others: bool) -> str:
+def fit_step(size: tty.Size, own: tty.Size, is_read_only: bool, is_zoomed: bool, is_fresh: bool, awaits_others: bool) -> str:
     """Return what fitting a session of a size comes to, `own` being the largest one that the terminal shows whole.
 
     The terminal may only watch, have a zoom, belong to a session launched just now, and hear soon who else is attached.
@@ -53,12 +47,12 @@ def first_step(is_new: bool, is_awaited: bool) -> str:
     return IS_NEW if is_new else LATER if is_awaited else FITS
 
 
-def is_smaller(own: Size, size: Size) -> bool:
+def is_smaller(own: tty.Size, size: tty.Size) -> bool:
     """Return True if a terminal shows fewer rows or fewer columns than the session has."""
     return own[0] < size[0] or own[1] < size[1]
 
 
-def follows(size: Size, own: Size, showed_all: bool, has_others: bool | None, is_told: bool) -> bool:
+def follows(size: tty.Size, own: tty.Size, showed_all: bool, has_others: bool | None, is_told: bool) -> bool:
     """Return True if the session takes this terminal's size.
 
     The session grows if nobody else types. It shrinks only for a terminal that showed all of it, and if the pty host reports that nobody
@@ -69,7 +63,7 @@ def follows(size: Size, own: Size, showed_all: bool, has_others: bool | None, is
     return showed_all and is_told if is_smaller(own, size) else True
 
 
-def takes_latest(size: Size, room: Size) -> bool:
+def takes_latest(size: tty.Size, room: tty.Size) -> bool:
     """Return True if a session of a size takes that of the terminal at which somebody types, by `window-size latest`."""
     return size not in (NO_SIZE, tty.largest(room)) and tty.is_large_enough(room)
 
@@ -77,7 +71,7 @@ def takes_latest(size: Size, room: Size) -> bool:
 # ---- which part a terminal shows
 
 
-def part_for(terminal: Size, has_row: bool, size: Size, zoomed: Rect | None, may_be_whole: bool) -> Size | None:
+def part_for(terminal: tty.Size, has_row: bool, size: tty.Size, zoomed: Rect | None, may_be_whole: bool) -> tty.Size | None:
     """Return the size of the part of a session that a terminal is to show, None for the whole session.
 
     `has_row` is True if the terminal's last row is the front end's own, and `zoomed` the rectangle of a zoomed pane. The session may be
@@ -93,22 +87,22 @@ def part_for(terminal: Size, has_row: bool, size: Size, zoomed: Rect | None, may
     return max(min(rows, most[0]), least[0]) - 1, max(min(cols, most[1]), least[1])
 
 
-def has_all(size: Size, part: Size | None) -> bool:
+def has_all(size: tty.Size, part: tty.Size | None) -> bool:
     """Return True if a part has all rows and columns of the panes: only the session's status row is left out."""
     return size != NO_SIZE and part == (size[0] - 1, size[1])
 
 
-def is_beyond(size: Size, part: Size, place: Place) -> bool:
+def is_beyond(size: tty.Size, part: tty.Size, place: Place) -> bool:
     """Return True if a part that begins at a place, from 0, reaches beyond the panes of a session of a known size."""
     return size != NO_SIZE and (place[0] + part[0] > size[0] - 1 or place[1] + part[1] > size[1])
 
 
-def kept_place(size: Size, part: Size, place: Place) -> Place:
+def kept_place(size: tty.Size, part: tty.Size, place: Place) -> Place:
     """Return where a part begins that stays where it is, as far as the session's size allows."""
     return max(0, min(place[0], size[0] - 1 - part[0])), max(0, min(place[1], size[1] - part[1]))
 
 
-def visible(rect: Rect, place: Place, extent: Size) -> Rect | None:
+def visible(rect: Rect, place: Place, extent: tty.Size) -> Rect | None:
     """Return the rectangle of the terminal that shows a rectangle of the session, None if none does. The terminal shows `extent` rows and
     columns of the session, from a place on."""
     row, col = max(1, rect.row - place[0]), max(1, rect.col - place[1])
@@ -117,7 +111,7 @@ def visible(rect: Rect, place: Place, extent: Size) -> Rect | None:
     return Rect(row, col, end - row + 1, right - col + 1) if row <= end and col <= right else None
 
 
-def place_at(at: Place, place: Place, extent: Size, is_near: bool = False) -> Place | None:
+def place_at(at: Place, place: Place, extent: tty.Size, is_near: bool = False) -> Place | None:
     """Return the cell position of the session that the terminal shows at a row and a column, from 1; None if it shows none there, unless
     the nearest is asked for."""
     rows, cols = extent
@@ -141,7 +135,7 @@ ENDS, LOST, ASKS, STAYS = "ends", "lost", "asks", "stays"
 NOTHING, UNSEEN, GIVES, AWAITS = "nothing", "unseen", "gives", "awaits"
 
 
-def places_at(places: Places, size: Size) -> Places:
+def places_at(places: Places, size: tty.Size) -> Places:
     """Return where the panes are once their session has a size."""
     parts = splits_of(places.rects)
     if not parts or size == places.size():
@@ -150,7 +144,7 @@ def places_at(places: Places, size: Size) -> Places:
     return places._replace(rects=laid(parts, places.rects, box))
 
 
-def zoom_refusal(places: Places | None, area: Size) -> str:
+def zoom_refusal(places: Places | None, area: tty.Size) -> str:
     """Return why the pane in focus is not zoomed to fill an area, "" if it is. The places are those without any zoom."""
     if not places:
         return UNTOLD
@@ -160,12 +154,12 @@ def zoom_refusal(places: Places | None, area: Size) -> str:
     return LARGER.format(places.focus, rect.rows, rect.cols) if rect.rows > area[0] or rect.cols > area[1] else ""
 
 
-def unzoomed_size(size: Size, note: ZoomNote | None) -> Size:
+def unzoomed_size(size: tty.Size, note: ZoomNote | None) -> tty.Size:
     """Return the session's size without anybody's zoom, which the end of the noted one gives back."""
     return note.size if note and size in note.asked else size
 
 
-def zoom_size(places: Places, pane: int, area: Size, note: ZoomNote) -> Size | None:
+def zoom_size(places: Places, pane: int, area: tty.Size, note: ZoomNote) -> tty.Size | None:
     """Return the size to ask the session for, so that a pane fills an area; None if the pane is shown as it is."""
     parts = splits_of(places.rects)
     size = size_for(area, note.size, above(pane, parts, places.rects)) if parts else places.size()
@@ -189,7 +183,7 @@ def zoom_step(pane: int, before: Places | None, note: ZoomNote, awaited: Places 
     return ASKS if awaited else STAYS if places.rects == rects else ENDS
 
 
-def left_zoom(note: ZoomNote | None, size: Size, was_unseen: bool, has_others: bool | None, is_late: bool) -> str:
+def left_zoom(note: ZoomNote | None, size: tty.Size, was_unseen: bool, has_others: bool | None, is_late: bool) -> str:
     """Return what becomes of a zoom that a front end left behind.
 
     What that front end typed last may not have been taken, so a session without a size of the zoom may still get one. If somebody else

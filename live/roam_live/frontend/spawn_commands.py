@@ -6,14 +6,14 @@ from collections.abc import Callable
 
 from roam_live.common.text import printable
 from roam_live.config.command_table import BadCommand
+from roam_live.frontend.window_acts import WindowActs
+from roam_live.frontend.zoom import Zooming
 from roam_live.protocol.paste_text import random_name
 from roam_live.protocol.spawn_request import LATE, RAN, READY, REFUSED, WAITS, Begins
 
 TYPE_CHECKING = False
 if TYPE_CHECKING:
     from roam_live.frontend.interfaces import OtherWindows
-    from roam_live.frontend.window_acts import WindowActs
-    from roam_live.frontend.zoom import Zooming
 
 NOBODY = "not run: the pty host isn't there just now"
 SILENT = "not run: the pty host is silent"

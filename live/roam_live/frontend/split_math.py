@@ -4,14 +4,9 @@ from __future__ import annotations
 
 from collections import namedtuple
 
-from roam_live.common.tty import MOST
+from roam_live.common import tty
 from roam_live.frontend.borders import MOST_GROWTH, PaneSplit, around, box_of, least_of, panes_of
 from roam_live.protocol.panes import Rect
-
-TYPE_CHECKING = False
-if TYPE_CHECKING:
-    from roam_live.common.tty import Size
-    from roam_live.frontend.borders import Parts
 
 
 class Above(namedtuple("Above", "way is_first shift least_first least_second")):
@@ -52,7 +47,7 @@ def shift_of(split: PaneSplit, rects: dict[int, Rect]) -> int:
     return length_of(box_of(split.first, rects), split.way) - (length_of(box_of(split, rects), split.way) - 1) // 2
 
 
-def above(pane: int, parts: Parts, rects: dict[int, Rect]) -> list[Above]:
+def above(pane: int, parts: int | PaneSplit, rects: dict[int, Rect]) -> list[Above]:
     """The splits above a pane, from the outermost inwards."""
     found: list[Above] = []
     while isinstance(parts, PaneSplit):
@@ -70,16 +65,16 @@ def length_at(whole: int, splits: list[Above], way: str) -> int:
     return whole
 
 
-def size_at(size: Size, splits: list[Above]) -> Size:
+def size_at(size: tty.Size, splits: list[Above]) -> tty.Size:
     """A pane's rows and columns where the session has a size."""
     return length_at(size[0] - 1, splits, "down"), length_at(size[1], splits, "right")
 
 
-def size_for(wanted: Size, least: Size, splits: list[Above]) -> Size:
+def size_for(wanted: tty.Size, least: tty.Size, splits: list[Above]) -> tty.Size:
     """The smallest size of a session, from a least one on, at which a pane has so many rows and columns; the largest one, where none gives
     it as many."""
-    rows = next((rows for rows in range(least[0], MOST[0]) if length_at(rows - 1, splits, "down") >= wanted[0]), MOST[0])
-    return rows, next((cols for cols in range(least[1], MOST[1]) if length_at(cols, splits, "right") >= wanted[1]), MOST[1])
+    rows = next((rows for rows in range(least[0], tty.MOST[0]) if length_at(rows - 1, splits, "down") >= wanted[0]), tty.MOST[0])
+    return rows, next((cols for cols in range(least[1], tty.MOST[1]) if length_at(cols, splits, "right") >= wanted[1]), tty.MOST[1])
 
 
 def cut_at(rect: Rect, way: str, first: int) -> tuple[Rect, Rect]:
@@ -89,7 +84,7 @@ def cut_at(rect: Rect, way: str, first: int) -> tuple[Rect, Rect]:
     return rect._replace(rows=first), rect._replace(row=rect.row + first + 1, rows=rect.rows - first - 1)
 
 
-def laid(parts: Parts, rects: dict[int, Rect], box: Rect) -> dict[int, Rect]:
+def laid(parts: int | PaneSplit, rects: dict[int, Rect], box: Rect) -> dict[int, Rect]:
     """The rectangles of panes that have rectangles now, once they fill another box."""
     if isinstance(parts, int):
         return {parts: box}
@@ -101,7 +96,7 @@ def laid(parts: Parts, rects: dict[int, Rect], box: Rect) -> dict[int, Rect]:
 # ---- even shares
 
 
-def row_of(parts: Parts, way: str) -> list[Parts]:
+def row_of(parts: int | PaneSplit, way: str) -> list[int | PaneSplit]:
     """What stands side by side along a way: the parts of a split, and of splits that way among these."""
     if isinstance(parts, PaneSplit) and parts.way == way:
         return row_of(parts.first, way) + row_of(parts.second, way)
@@ -135,12 +130,12 @@ class Evened:
     """Even shares for panes: the acts that give them, as far as a pane's own split has the border; where the panes are then; and whether a
     border can't be moved."""
 
-    def __init__(self, parts: Parts, rects: dict[int, Rect]) -> None:
+    def __init__(self, parts: int | PaneSplit, rects: dict[int, Rect]) -> None:
         self.before, self.acts, self.is_stuck = rects, list[str](), False
         self.rects: dict[int, Rect] = {}
         self.even(parts, area_of(rects))
 
-    def even(self, parts: Parts, box: Rect) -> None:
+    def even(self, parts: int | PaneSplit, box: Rect) -> None:
         """Gives parts that fill a box even shares, from the outermost split inwards: what is inside goes by what is outside."""
         if isinstance(parts, int):
             self.rects[parts] = box

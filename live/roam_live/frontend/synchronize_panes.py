@@ -7,13 +7,10 @@ from functools import partial
 
 from roam_live.config.environment import text_of
 from roam_live.frontend.status_line import ALL_PANES
+from roam_live.frontend.window_acts import WindowActs
 
-TYPE_CHECKING = False
-if TYPE_CHECKING:
-    from roam_live.frontend.window_acts import WindowActs
-
-    # What a key types in a pane.
-    Typed = Callable[[int], list[str]]
+# What a key types in a pane.
+Typed = Callable[[int], list[str]]
 
 # The option, by tmux's name.
 OPTION = "synchronize-panes"

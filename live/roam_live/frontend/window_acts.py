@@ -3,23 +3,21 @@ from __future__ import annotations
 
 from collections.abc import Callable
 
+from roam_live.common.event_loop import Loop
 from roam_live.frontend.bindings import NEWEST
+from roam_live.frontend.display import Display
+from roam_live.frontend.effects import Effect
+from roam_live.frontend.line_editor import AskedLine
 from roam_live.frontend.modes import ConfirmMode, CopyPasteMode, LineMode, ModeStack, PastingMode, ScrollMode
 from roam_live.frontend.paste import Pastes
 from roam_live.frontend.paste import PasteIntake
-from roam_live.protocol.client_link import TYPES
-from roam_live.protocol.panes import MOVES
+from roam_live.protocol.client_link import ClientLink, TYPES
+from roam_live.protocol.host_client import HostClient
+from roam_live.protocol.panes import MOVES, Places
+from roam_live.protocol.panes_client import PanesSubscriber
 
 TYPE_CHECKING = False
 if TYPE_CHECKING:
-    from roam_live.common.event_loop import Loop
-    from roam_live.frontend.display import Display
-    from roam_live.frontend.effects import Effect
-    from roam_live.frontend.line_editor import AskedLine
-    from roam_live.protocol.client_link import ClientLink
-    from roam_live.protocol.host_client import HostClient
-    from roam_live.protocol.panes import Places
-    from roam_live.protocol.panes_client import PanesSubscriber
     from roam_live.protocol.session_interface import AnySession
 
 # So many seconds a line stands that tells what became of a paste.

@@ -5,13 +5,10 @@ from collections.abc import Callable
 
 from roam_live.common.tty import LEAST, is_large_enough, largest
 from roam_live.frontend.modes import HoldMode
+from roam_live.frontend.window_views import WindowViews
+from roam_live.input.keys import Key
 from roam_live.input.mouse_reports import MOUSE
 from roam_live.protocol.window_lines import MOST_WINDOWS
-
-TYPE_CHECKING = False
-if TYPE_CHECKING:
-    from roam_live.frontend.window_views import WindowViews
-    from roam_live.input.keys import Key
 
 # So many seconds a window has until it is opened, so often it is looked whether it is there, and after so many a person is told that it
 # takes long: what is typed meanwhile is for it, so many keys and characters at most.

@@ -5,25 +5,25 @@ from __future__ import annotations
 import os
 from collections.abc import Callable
 
+from roam_live.common import tty
 from roam_live.common.errors import Fault
 from roam_live.common.event_loop import Loop
 from roam_live.common.process import opened_process
 from roam_live.frontend.commands import Commands
+from roam_live.frontend.interpreter import Interpreter
+from roam_live.frontend.lists import Lists
+from roam_live.frontend.settings import FrontSettings
 from roam_live.frontend.sizes import NO_SIZE
+from roam_live.frontend.window_acts import WindowActs
 from roam_live.protocol.client_link import ClientLink, Reconnector
 from roam_live.protocol.host_client import HostClient
+from roam_live.protocol.host_link import HostLink
+from roam_live.protocol.panes import Places
 from roam_live.protocol.panes_client import AWAITED, PanesSubscriber
 
 TYPE_CHECKING = False
 if TYPE_CHECKING:
-    from roam_live.common.tty import Size
     from roam_live.frontend.interfaces import OtherWindows
-    from roam_live.frontend.interpreter import Interpreter
-    from roam_live.frontend.lists import Lists
-    from roam_live.frontend.settings import FrontSettings
-    from roam_live.frontend.window_acts import WindowActs
-    from roam_live.protocol.host_link import HostLink
-    from roam_live.protocol.panes import Places
     from roam_live.protocol.session_interface import AnySession
 
 # So many seconds a line stands that tells what a person has lost.
@@ -223,7 +223,7 @@ class WindowViews:
         self.maker, self.loop, self.display = maker, maker.loop, maker.display
         self.draining = DrainingViews(maker.loop)
         # The sizes of the windows of which all was shown as they were left, by their numbers.
-        self.shown_whole: dict[int, Size] = {}
+        self.shown_whole: dict[int, tty.Size] = {}
         self.windows: OtherWindows | None = None
         self.server_ends: Callable[[WindowView], object] = lambda view: None
         self.shows: Callable[[], object] = lambda: None

@@ -10,15 +10,12 @@ from roam_live.common.text import printable
 from roam_live.frontend.effects import SendRequest
 from roam_live.frontend.line_editor import AskedLine
 from roam_live.frontend.window_opening import SAID, WindowOpening
+from roam_live.frontend.window_views import WindowViews
 from roam_live.frontend.windows_client import WindowsState
 from roam_live.protocol.host_lines import SESSION
+from roam_live.protocol.host_link import HostLink
 from roam_live.protocol.window_lines import BELL, LONGEST_BYTES, LONGEST_NAME
 from roam_live.session.foreground import told
-
-TYPE_CHECKING = False
-if TYPE_CHECKING:
-    from roam_live.frontend.window_views import WindowViews
-    from roam_live.protocol.host_link import HostLink
 
 # What is told to who had a window opened.
 OPENED = re.compile(r"opened (?:(?P<window>[1-9]\d?)|none (?P<why>.{1,200}))", re.ASCII)

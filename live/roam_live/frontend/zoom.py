@@ -6,15 +6,11 @@ from collections.abc import Callable
 
 from roam_live.common import tty
 from roam_live.frontend import sizes
+from roam_live.frontend.session_size import SessionSize
 from roam_live.frontend.sizes import NO_SIZE, places_at
+from roam_live.frontend.window_acts import WindowActs
+from roam_live.protocol.panes import Places, Rect
 from roam_live.protocol.zoom_record import LEFT, ZoomNote
-
-TYPE_CHECKING = False
-if TYPE_CHECKING:
-    from roam_live.common.tty import Size
-    from roam_live.frontend.session_size import SessionSize
-    from roam_live.frontend.window_acts import WindowActs
-    from roam_live.protocol.panes import Places, Rect
 
 # So many seconds after a larger size was taken, of which nothing is told, it was refused.
 REFUSES = 2.5
@@ -52,11 +48,11 @@ class Zooming:
         """Whether a pane is zoomed, or will be soon."""
         return self.pane > 0
 
-    def awaited_size(self) -> Size | None:
+    def awaited_size(self) -> tty.Size | None:
         """The size that the session was asked for, while it may come."""
         return self.note.asked[-1] if self.awaited else None
 
-    def area(self) -> Size:
+    def area(self) -> tty.Size:
         """The rows and columns that a pane has to fill."""
         rows, cols = tty.largest(self.acts.display.part.room())
         return rows - 1, cols
@@ -98,7 +94,7 @@ class Zooming:
         self.waits = False
         self.loop.drop("zoom waits")
 
-    def own_size(self, places: Places | None) -> Size:
+    def own_size(self, places: Places | None) -> tty.Size:
         """The session's size where nobody has a zoom: that which another's end gives back."""
         host, size = self.acts.host, self.size.requested or (places.size() if places else NO_SIZE)
         return sizes.unzoomed_size(size, host.zoomed[1] if host else None)

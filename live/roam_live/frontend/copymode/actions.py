@@ -6,14 +6,10 @@ from collections.abc import Callable
 
 from roam_live.frontend.copymode import motions
 from roam_live.frontend.copymode.keys import EMACS, VI, Count, Prompt, bounded
-from roam_live.frontend.copymode.search import Finds, matches, next_match
+from roam_live.frontend.copymode.rows import Position, Rows
+from roam_live.frontend.copymode.search import Finds, Match, matches, next_match
 from roam_live.frontend.copymode.selection import CHARACTERS, Columns, CopiedText, Selection, lines_at, word_at
 from roam_live.frontend.copymode.viewport import CopyView
-
-TYPE_CHECKING = False
-if TYPE_CHECKING:
-    from roam_live.frontend.copymode.rows import Position, Rows
-    from roam_live.frontend.copymode.search import Match
 
 NOTHING_FOUND = "{!r} isn't found"
 

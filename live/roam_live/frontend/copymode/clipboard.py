@@ -2,11 +2,8 @@
 from __future__ import annotations
 
 from roam_live.config.environment import may_set_clipboard
-
-TYPE_CHECKING = False
-if TYPE_CHECKING:
-    from roam_live.frontend.window_acts import WindowActs
-    from roam_live.protocol.scrollback_client import BufferNote, ScrollbackClient
+from roam_live.frontend.window_acts import WindowActs
+from roam_live.protocol.scrollback_client import BufferNote, ScrollbackClient
 
 # A text has so many bytes at most, also where it is put behind another.
 MOST_COPIED = 1 << 20

@@ -4,13 +4,9 @@ from __future__ import annotations
 from collections.abc import Callable
 
 from roam_live.frontend.copymode import motions
-from roam_live.frontend.copymode.actions import LEAVE, REFRESH, CopyWish
-
-TYPE_CHECKING = False
-if TYPE_CHECKING:
-    from roam_live.frontend.copymode.actions import CopyActions
-    from roam_live.frontend.copymode.rows import Position
-    from roam_live.frontend.copymode.viewport import CopyView
+from roam_live.frontend.copymode.actions import CopyActions, CopyWish, LEAVE, REFRESH
+from roam_live.frontend.copymode.rows import Position
+from roam_live.frontend.copymode.viewport import CopyView
 
 # Where keys move the cursor to, from a place.
 MOVES: dict[str, Callable[[CopyActions, Position], Position]] = {

@@ -9,15 +9,15 @@ from roam_live.frontend.copymode.popup import CopyScreen
 from roam_live.frontend.copymode.row_requests import GONE, CopyAsking, SnapshotAsking
 from roam_live.frontend.copymode.state import CopyEvent, CopyState, nothing
 from roam_live.frontend.modes import CopyKeysMode
+from roam_live.frontend.window_acts import WindowActs
+from roam_live.input.keys import Key
 from roam_live.protocol.panes import MOVES
+from roam_live.protocol.scrollback_client import ScrollbackClient, Snapshot
 
 TYPE_CHECKING = False
 if TYPE_CHECKING:
     from roam_live.frontend.copymode.actions import CopyWish
     from roam_live.frontend.copymode.mode import CopyMode
-    from roam_live.frontend.window_acts import WindowActs
-    from roam_live.input.keys import Key
-    from roam_live.protocol.scrollback_client import ScrollbackClient, Snapshot
 
 # So many keys and reports wait at most.
 MOST_WAITING = 4096

@@ -11,10 +11,7 @@ from roam_live.frontend.copymode.commands import COMMANDS, MOVES, SEARCHES, STEP
 from roam_live.frontend.copymode.keys import Prompt
 from roam_live.frontend.copymode.rows import LEAST_COLS, Missing
 from roam_live.frontend.line_editor import LEAVES, TAKES
-
-TYPE_CHECKING = False
-if TYPE_CHECKING:
-    from roam_live.input.keys import Key
+from roam_live.input.keys import Key
 
 
 class CopyMode(CopyActions):

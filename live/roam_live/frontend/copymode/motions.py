@@ -1,12 +1,9 @@
 """How a place moves over rows: by characters, words, paragraphs, brackets and to a character, as tmux's copy mode has it. A place is a row
 and a column, which may be that behind the row's last character."""
 from __future__ import annotations
+from collections.abc import Callable
 
-TYPE_CHECKING = False
-if TYPE_CHECKING:
-    from collections.abc import Callable
-
-    from roam_live.frontend.copymode.rows import Position, Rows
+from roam_live.frontend.copymode.rows import Position, Rows
 
 # What parts words, beside a blank.
 SEPARATORS = "!\"#$%&'()*+,-./:;<=>?@[\\]^`{|}~"

@@ -2,12 +2,12 @@
 a triple one."""
 from __future__ import annotations
 
+from roam_live.frontend.copymode.controller import Copying
 from roam_live.frontend.copymode.state import CopyEvent
 from roam_live.input.mouse_reports import DOWN, UP, MouseReport
 
 TYPE_CHECKING = False
 if TYPE_CHECKING:
-    from roam_live.frontend.copymode.controller import Copying
     from roam_live.frontend.copymode.mode import CopyMode
 
 # A notch of the wheel is so many rows.

@@ -1,12 +1,9 @@
 """Where copy mode is drawn at a person's terminal, and what stands there: the lines of its view, its cursor, and a line in the last row."""
 from __future__ import annotations
 
+from roam_live.frontend.copymode.state import CopyState
 from roam_live.frontend.popup import Popup
-
-TYPE_CHECKING = False
-if TYPE_CHECKING:
-    from roam_live.frontend.copymode.state import CopyState
-    from roam_live.protocol.panes import Rect
+from roam_live.protocol.panes import Rect
 
 # No wide character has room in fewer columns.
 LEAST_COLS = 2

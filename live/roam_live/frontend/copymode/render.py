@@ -4,14 +4,10 @@ from __future__ import annotations
 import functools
 import itertools
 
-from roam_live.frontend.copymode.search import matches
+from roam_live.frontend.copymode.mode import CopyMode
+from roam_live.frontend.copymode.rows import Line, ScrollbackRow
+from roam_live.frontend.copymode.search import Match, matches
 from roam_live.protocol.screen_cells import FLAGS, Colour, Style
-
-TYPE_CHECKING = False
-if TYPE_CHECKING:
-    from roam_live.frontend.copymode.mode import CopyMode
-    from roam_live.frontend.copymode.rows import Line, ScrollbackRow
-    from roam_live.frontend.copymode.search import Match
 
 NUMBERS = {name: number for number, name in FLAGS.items()}
 

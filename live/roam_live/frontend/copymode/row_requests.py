@@ -4,12 +4,13 @@ from __future__ import annotations
 
 from collections.abc import Callable
 
+from roam_live.frontend.copymode.state import CopyState
+from roam_live.protocol.scrollback_client import ScrollbackClient, Snapshot
+
 TYPE_CHECKING = False
 if TYPE_CHECKING:
     from roam_live.frontend.copymode.rows import Missing
     from roam_live.frontend.copymode.search import MissingFind
-    from roam_live.frontend.copymode.state import CopyState
-    from roam_live.protocol.scrollback_client import ScrollbackClient, Snapshot
 
 # So many rows are asked for at once at most, and so many pages at first: the one that is needed, and one ahead.
 MOST_ASKED = 2000

@@ -7,11 +7,9 @@ from collections.abc import Iterable
 
 from roam_live.protocol.screen_cells import Style, styled
 
-TYPE_CHECKING = False
-if TYPE_CHECKING:
-    # A row by its number, and a column from 0; and a line: a row, and which of the lines that it takes.
-    Position = tuple[int, int]
-    Line = tuple[int, int]
+# A row by its number, and a column from 0; and a line: a row, and which of the lines that it takes.
+Position = tuple[int, int]
+Line = tuple[int, int]
 
 # How a row begins that goes on in the next.
 GOES_ON = "+"

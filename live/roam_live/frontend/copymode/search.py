@@ -1,14 +1,10 @@
 """What is searched for in copy mode: where a text stands in rows that go on in one another, and which place is next."""
 from __future__ import annotations
 
-from roam_live.frontend.copymode.rows import Missing
+from roam_live.frontend.copymode.rows import Missing, Position, Rows
 
-TYPE_CHECKING = False
-if TYPE_CHECKING:
-    from roam_live.frontend.copymode.rows import Position, Rows
-
-    # A match: its first place, and that behind its last character.
-    Match = tuple[Position, Position]
+# A match: its first place, and that behind its last character.
+Match = tuple[Position, Position]
 
 # So many rows that go on in one another are looked at together, before one and behind it.
 MOST_JOINED_ROWS = 64

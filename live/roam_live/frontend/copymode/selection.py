@@ -4,10 +4,7 @@ from __future__ import annotations
 import copy
 
 from roam_live.frontend.copymode.motions import BLANK, SEPARATORS, is_in, last_of_word, line_begin, line_end, previous_word, right, word_end
-
-TYPE_CHECKING = False
-if TYPE_CHECKING:
-    from roam_live.frontend.copymode.rows import Position, Rows
+from roam_live.frontend.copymode.rows import Position, Rows
 
 # What is selected at once: characters, or whole words or lines round the place where that began.
 CHARACTERS, WORDS, LINES = "characters", "words", "lines"

@@ -4,11 +4,8 @@ from __future__ import annotations
 import copy
 
 from roam_live.frontend.copymode.motions import line_end
-
-TYPE_CHECKING = False
-if TYPE_CHECKING:
-    from roam_live.frontend.copymode.rows import Line, Position, Rows
-    from roam_live.frontend.copymode.selection import Selection
+from roam_live.frontend.copymode.rows import Line, Position, Rows
+from roam_live.frontend.copymode.selection import Selection
 
 
 class CopyView:
