@@ -18,6 +18,27 @@ class Effect:
         return f"{type(self).__name__}({', '.join(f'{name}={value!r}' for name, value in self.__dict__.items())})"
 
 
+class KeyEffect(Effect):
+    """An effect of a key."""
+
+    def __init__(self, key: Key) -> None:
+        self.key = key
+
+
+class TextEffect(Effect):
+    """An effect of a text."""
+
+    def __init__(self, text: str = "") -> None:
+        self.text = text
+
+
+class NumberEffect(Effect):
+    """An effect on what a number names."""
+
+    def __init__(self, number: int) -> None:
+        self.number = number
+
+
 # ---- which mode takes a key
 
 
@@ -25,18 +46,12 @@ class PopMode(Effect):
     """The mode that asks for this ends."""
 
 
-class PassKey(Effect):
+class PassKey(KeyEffect):
     """The modes below take a key."""
 
-    def __init__(self, key: Key) -> None:
-        self.key = key
 
-
-class SendLiteral(Effect):
+class SendLiteral(KeyEffect):
     """The modes below take a key as itself: the prefix that is typed twice."""
-
-    def __init__(self, key: Key) -> None:
-        self.key = key
 
 
 # ---- the session
@@ -56,43 +71,28 @@ class TypeActs(Effect):
         self.acts = list(acts)
 
 
-class ClosePane(Effect):
+class ClosePane(NumberEffect):
     """The pane in focus of a window is closed, 0 for a session without windows."""
 
-    def __init__(self, window: int) -> None:
-        self.window = window
 
-
-class SendRequest(Effect):
+class SendRequest(TextEffect):
     """The front end sends the pty host a line about windows."""
 
-    def __init__(self, line: str) -> None:
-        self.line = line
 
-
-class BeginPaste(Effect):
+class BeginPaste(TextEffect):
     """A paste begins, of which nothing is typed if there is a reason against it."""
 
-    def __init__(self, why: str = "") -> None:
-        self.why = why
 
-
-class AddPaste(Effect):
+class AddPaste(TextEffect):
     """A part of a paste arrives."""
-
-    def __init__(self, text: str) -> None:
-        self.text = text
 
 
 class EndPaste(Effect):
     """A paste is whole."""
 
 
-class PasteBuffer(Effect):
+class PasteBuffer(NumberEffect):
     """A paste buffer is pasted, by its number."""
-
-    def __init__(self, number: int) -> None:
-        self.number = number
 
 
 # ---- the front end
@@ -105,11 +105,8 @@ class Perform(Effect):
         self.wish = wish
 
 
-class TellUnbound(Effect):
+class TellUnbound(KeyEffect):
     """The last row says that a key is not bound."""
-
-    def __init__(self, key: Key) -> None:
-        self.key = key
 
 
 class ShowStatus(Effect):
@@ -123,11 +120,8 @@ class ClearStatus(Effect):
     """Such a line ends."""
 
 
-class ShowPrompt(Effect):
+class ShowPrompt(TextEffect):
     """A line that is being typed stands in the last row."""
-
-    def __init__(self, line: str) -> None:
-        self.line = line
 
 
 class HidePrompt(Effect):
@@ -141,18 +135,8 @@ class EnterLine(Effect):
         self.purpose, self.text = purpose, text
 
 
-class GoToWindow(Effect):
-    """The front end goes to a window."""
-
-    def __init__(self, number: int) -> None:
-        self.number = number
-
-
-class HoldKey(Effect):
+class HoldKey(KeyEffect):
     """A key waits for a window that isn't there yet, or for a list of windows."""
-
-    def __init__(self, key: Key) -> None:
-        self.key = key
 
 
 class ScrollHelp(Effect):
@@ -180,22 +164,13 @@ class CloseList(Effect):
 # ---- copy mode
 
 
-class CopyKey(Effect):
+class CopyKey(KeyEffect):
     """Copy mode takes a key."""
 
-    def __init__(self, key: Key) -> None:
-        self.key = key
 
-
-class CopyText(Effect):
+class CopyText(TextEffect):
     """Copy mode takes a part of a paste, for a line that it asks for."""
 
-    def __init__(self, text: str) -> None:
-        self.text = text
 
-
-class OfferPaste(Effect):
+class OfferPaste(KeyEffect):
     """Copy mode takes a paste if it asks for a line; else it ends, and the modes below take the key."""
-
-    def __init__(self, key: Key) -> None:
-        self.key = key

@@ -33,20 +33,11 @@ class OtherWindows(Protocol):
     def why_one(self) -> str:
         """Return why no other window can be had here, "" if one can."""
 
-    def ask_shut(self) -> None:
-        """Shut the window where the person is."""
-
     def grant(self, wish: str) -> None:
         """Do what a person asks for of windows."""
 
-    def go_to(self, number: int) -> None:
-        """Go to a window."""
-
     def go_to_shown(self, place: int) -> None:
         """Go to the window whose label stands at a place in the last row."""
-
-    def go_asked(self, text: str) -> None:
-        """Go to the window of a number that was typed."""
 
     def say(self, line: str) -> bool:
         """Say a line to the host, and return True if it is there."""

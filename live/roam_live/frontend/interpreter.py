@@ -73,8 +73,8 @@ class Interpreter:
             effects.TypeKey: lambda asked: now().type_key(asked.acts, asked.key),
             effects.TypeActs: lambda asked: now().acts.act(*asked.acts),
             effects.ClosePane: self.close_pane,
-            effects.SendRequest: lambda asked: self.windows and self.windows.say(asked.line),
-            effects.BeginPaste: lambda asked: now().acts.intake.begin(asked.why),
+            effects.SendRequest: lambda asked: self.windows and self.windows.say(asked.text),
+            effects.BeginPaste: lambda asked: now().acts.intake.begin(asked.text),
             effects.AddPaste: lambda asked: now().acts.intake.add(asked.text),
             effects.EndPaste: lambda asked: now().end_paste(),
             effects.PasteBuffer: lambda asked: now().acts.intake.paste_buffer(asked.number),
@@ -82,10 +82,9 @@ class Interpreter:
             effects.TellUnbound: self.tell_unbound,
             effects.ShowStatus: lambda asked: display.row.tell(asked.line, asked.seconds),
             effects.ClearStatus: lambda asked: display.row.end_told(),
-            effects.ShowPrompt: lambda asked: display.row.ask(asked.line, is_typed=True),
+            effects.ShowPrompt: lambda asked: display.row.ask(asked.text, is_typed=True),
             effects.HidePrompt: lambda asked: display.row.end_prompt(),
             effects.EnterLine: self.enter,
-            effects.GoToWindow: self.go_to_window,
             effects.HoldKey: lambda asked: self.windows and self.windows.waiting.hold(asked.key),
             effects.ScrollHelp: self.scroll_help,
             effects.CloseHelp: self.close_help,
@@ -218,7 +217,7 @@ class Interpreter:
     def close_pane(self, asked: effects.ClosePane) -> None:
         """Close the pane in focus of a window, also of one that the person has left since he was asked."""
         here = self.commands()
-        commands = here if here.session.number == asked.window else self.left_window(asked.window)
+        commands = here if here.session.number == asked.number else self.left_window(asked.number)
         if commands:
             commands.acts.act("close")
 
@@ -227,18 +226,13 @@ class Interpreter:
         prefix = self.modes.keymap.name
         self.display.row.tell(f"{prefix} {spelled(asked.key)} is not bound; {prefix} ? shows the keys")
 
-    def go_to_window(self, asked: effects.GoToWindow) -> None:
-        """Go to a window."""
-        if self.windows:
-            self.windows.go_to(asked.number)
-
     def enter(self, asked: effects.EnterLine) -> None:
         """Take a line that was typed."""
         word, _, number = asked.purpose.partition(" ")
         if word == "command":
             self.enters(asked.text)
-        elif word == "window" and self.windows:
-            self.windows.go_asked(asked.text)
+        elif word == "window" and asked.text:
+            self.grant(f"{GOES}{asked.text}")
         elif word == "name" and self.windows:
             self.windows.say(f"name {number} {name_word(asked.text)}")
 

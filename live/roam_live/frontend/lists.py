@@ -6,7 +6,7 @@ from collections.abc import Callable
 
 from roam_live.common.text import printable
 from roam_live.frontend.bindings import Keymap
-from roam_live.frontend.effects import Effect, GoToWindow, PasteBuffer
+from roam_live.frontend.effects import Effect, PasteBuffer, Perform
 from roam_live.frontend.modes import HoldMode, ListLine, ListMode
 from roam_live.frontend.popup import Popup
 from roam_live.frontend.status_line import fitted
@@ -40,8 +40,8 @@ def read_list(keymap: Keymap, lines: list[str]) -> ListMode:
 
 def window_list(keymap: Keymap, described: dict[int, str], chosen: int) -> ListMode:
     """Return a list of windows, by their numbers, of which one is chosen at first. A digit goes to a window at once."""
-    lines = [ListLine(text, WINDOWS_LINE.format(number, len(described)), GoToWindow(number)) for number, text in described.items()]
-    digits: dict[str, Effect] = {str(number % 10): GoToWindow(number) for number in range(1, 11)}
+    lines = [ListLine(text, WINDOWS_LINE.format(number, len(described)), Perform(f"go {number}")) for number, text in described.items()]
+    digits: dict[str, Effect] = {str(number % 10): Perform(f"go {number}") for number in range(1, 11)}
     return ListMode(keymap, lines, list(described).index(chosen) if chosen in described else 0, digits)
 
 

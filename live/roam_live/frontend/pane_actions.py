@@ -53,7 +53,7 @@ class PaneActions:
         places, busy = self.acts.places(), self.acts.session.busy()
         pane = places.focus if places else 0
         if places and pane and len(places.rects) == 1 and self.windows and not self.windows.why_one():
-            self.windows.ask_shut()
+            self.windows.grant("window shut")
         elif places and pane and len(places.rects) == 1:
             self.acts.display.row.tell("the last pane goes with its shell, and the session with it")
         elif busy == {} or busy and pane and pane not in busy:

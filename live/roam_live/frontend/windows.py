@@ -184,11 +184,6 @@ class WindowWishes:
             number = int(what) if what.isascii() and what.isdigit() else 0
             self.go_to(number if number in numbers else 0, f"there is no window {what}")
 
-    def go_asked(self, text: str) -> None:
-        """Goes to the window of a number that was typed."""
-        if text:
-            self.go_by(str(int(text)) if text.isascii() and text.isdigit() else text)
-
     def go_to(self, number: int, why: str = "") -> None:
         """Goes to a window, 0 for none, of which it is told why."""
         here = self.here()
