@@ -207,10 +207,9 @@ class Person:
         self.panes = PlayedPanes(self.place)
         self.host = host
         self.modes = ModeStack(Keymap())
-        self.commands = Commands(self.place, self.panes, self.link, self.display, self.loop, self.leave, self.modes, lambda places: is_new,
-                                 is_whole, host)
+        self.commands = Commands(self.place, self.panes, self.link, self.display, self.loop, self.leave, self.modes,
+                                 lambda key: self.keyboard.take_back(key), lambda places: is_new, is_whole, host)
         self.keyboard = Interpreter(self.modes, self.display, self.loop, lambda: self.commands)
-        self.commands.copying.gives_back = self.keyboard.take_back
         self.keyboard.choose("C-b")
         self.display.begin()
         self.commands.show_known()

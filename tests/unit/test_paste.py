@@ -56,7 +56,7 @@ class Handed(Case):
         self.loop, self.link, self.host, self.said = StillLoop(lambda: self.now), Line(), PlayedHost(), []
         self.panes = PlayedPanes(mock.Mock(told=None))
         self.why = ""
-        self.pastes = Pastes(self.link, self.host, self.loop, self.said.append)
+        self.pastes = Pastes(self.link, self.host, self.loop, self.said.append, lambda: False)
         self.intake = PasteIntake(self.pastes, self.panes, lambda: self.why)
         self.names = iter(f"{number:016x}" for number in range(1, 1000))
         self.patch_of(paste, "random_name", side_effect=lambda: next(self.names))
@@ -300,7 +300,7 @@ class Handed(Case):
         """Where no host takes texts a long one goes as acts too."""
         self.panes.brackets, self.host.takes = True, False
         self.paste(LONG)
-        alone = PasteIntake(Pastes(self.link, None, self.loop, self.said.append), self.panes, lambda: "")
+        alone = PasteIntake(Pastes(self.link, None, self.loop, self.said.append, lambda: False), self.panes, lambda: "")
         alone.begin()
         alone.add(LONG)
         alone.end()

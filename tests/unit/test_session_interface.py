@@ -193,7 +193,7 @@ class Close(Folder):
         with mock.patch.object(display, "OuterTerminal", OuterTerminal):
             shown = Display(loop, lambda line: None)
         modes = ModeStack(Keymap())
-        commands = Commands(session, PlayedPanes(mock.Mock(told=places)), link, shown, loop, lambda line: None, modes)
+        commands = Commands(session, PlayedPanes(mock.Mock(told=places)), link, shown, loop, lambda line: None, modes, lambda key: None)
         keyboard = Interpreter(modes, shown, loop, lambda: commands)
         keyboard.fed(b"\x02x")
         return keyboard, link, shown

@@ -55,40 +55,31 @@ class Commands:
     """What one person does in a window of a session."""
 
     def __init__(self, session: AnySession, panes: PanesSubscriber, link: ClientLink, display: Display, loop: Loop,
-                 leave: Callable[[str | None], None], modes: ModeStack, is_new: Callable[[Places | None], bool] = lambda places: False,
-                 is_whole: bool = False, host: HostClient | None = None) -> None:
+                 leave: Callable[[str | None], None], modes: ModeStack, gives_back: Callable[[Key], object],
+                 is_new: Callable[[Places | None], bool] = lambda places: False, is_whole: bool = False,
+                 host: HostClient | None = None) -> None:
         self.session, self.link, self.display, self.loop, self.leave, self.modes = session, link, display, loop, leave, modes
         # Whether the session is shown whole where it has room, with its own status row.
         self.is_whole = is_whole
         self.acts = acts = WindowActs(session, panes, link, display, loop, modes, host)
-        self.size = SessionSize(acts)
+        self.size = SessionSize(acts, self.size_given, self.size_refused)
         self.zooming = Zooming(acts, self.size)
-        self.left_zoom = LeftZoom(acts, self.size, self.zooming.is_on)
+        self.left_zoom = LeftZoom(acts, self.size, self.zooming.is_on, lambda: self.follower.mend(is_late=True))
         self.follower = SizeFollower(acts, self.size, self.zooming, self.left_zoom, is_new)
         self.panes, self.border_keys = PaneActions(acts, self.zooming), BorderKeys(acts, self.size, self.zooming)
-        self.copying = Copying(acts)
+        self.copying = Copying(acts, gives_back, lambda: self.lists.close(), lambda: self.copy_pointing.end())
         self.copy_pointing = CopyPointing(self.copying)
-        self.pointing = Pointing(acts, self.copy_pointing)
+        self.pointing = Pointing(acts, self.copy_pointing, self.show_metadata)
         self.lists, self.handing = Lists(acts, self.copying.state.is_on), Handing(acts, self.zooming)
-        self.synchronizing = Synchronizing(acts, self.zooming.is_on)
+        self.synchronizing = Synchronizing(acts, self.zooming.is_on, self.show_known)
         # The windows of the session, where it may have several.
         self.windows: OtherWindows | None = None
         # The session's size and the labels of its panes, as they were told last.
         self.known: tuple[tty.Size, str] = (NO_SIZE, "")
-        self.join_parts()
-
-    def join_parts(self) -> None:
-        """Tell each part what others do before it, or behind it."""
-        acts = self.acts
         acts.settles = lambda: self.synchronizing.settle(is_last=True)
         acts.ends_zoom, acts.focus_moves, acts.borders_move = self.zooming.ended_by, self.focus_moves, self.borders_move
         acts.intake.spreads = self.synchronizing.pasted_in
-        self.size.is_given, self.size.is_refused = self.size_given, self.size_refused
-        self.left_zoom.mends_late = lambda: self.follower.mend(is_late=True)
-        self.copying.opens, self.copying.closed = self.lists.close, self.copy_pointing.end
-        self.pointing.asks = self.show_metadata
-        self.synchronizing.shows = self.show_known
-        self.display.moved = self.fit_drawn
+        display.moved = self.fit_drawn
 
     # ---- what parts do behind one another
 

@@ -33,8 +33,7 @@ class Display:
 
     def __init__(self, loop: Loop, says: Callable[[str], object]) -> None:
         self.outer, self.loop, self.says = OuterTerminal(), loop, says
-        self.part = ShownPart(self.outer, loop, says)
-        self.part.chooses = self.choose
+        self.part = ShownPart(self.outer, loop, says, self.choose)
         self.row = LastRow(self.outer, loop, self.part, lambda: bool(self.notice) or self.is_entering)
         # What stands in place of the session, the first of its lines that is shown and the last that may be, and what its last row tells of
         # that.

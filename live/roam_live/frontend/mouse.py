@@ -36,12 +36,11 @@ def inside(rect: Rect, place: Place) -> Place:
 
 
 class Pointing:
-    """The mouse of one person."""
+    """The mouse of one person. A call asks the terminal for reports anew."""
 
-    def __init__(self, acts: WindowActs, copying: CopyPointing) -> None:
-        self.acts, self.copying, self.loop = acts, copying, acts.loop
-        # What asks the terminal for reports anew; and what goes to the window whose label has a place in the last row, if it may.
-        self.asks: Callable[[], object] = lambda: None
+    def __init__(self, acts: WindowActs, copying: CopyPointing, asks: Callable[[], object]) -> None:
+        self.acts, self.copying, self.asks, self.loop = acts, copying, asks, acts.loop
+        # What goes to the window whose label has a place in the last row, if it may.
         self.goes_to: Callable[[int], object] | None = None
         # Whether roam has the mouse itself; and the border that is dragged.
         self.is_on = False

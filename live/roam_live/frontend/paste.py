@@ -96,17 +96,16 @@ class Paste:
 
 class Pastes:
     """Pastes and acts, in the order in which they come: a short paste as acts, a longer one as a placeholder, of which the text is handed
-    to the host. A call tells a person something."""
+    to the host. Calls tell a person something, and return True during an outage, as while the server is silent."""
 
-    def __init__(self, link: ClientLink, host: HostClient | None, loop: Loop, tells: Callable[[str], object]) -> None:
-        self.link, self.host, self.loop, self.tells = link, host, loop, tells
+    def __init__(self, link: ClientLink, host: HostClient | None, loop: Loop, tells: Callable[[str], object],
+                 is_cut: Callable[[], object]) -> None:
+        self.link, self.host, self.loop, self.tells, self.is_cut = link, host, loop, tells, is_cut
         self.waiting: deque[Behind | Paste] = deque()
         # How many acts wait among them.
         self.behind = 0
         # Until when keys are dropped since a paste wasn't typed, and why that wasn't.
         self.drops_until, self.drops_why = 0.0, ""
-        # Return True during an outage, as while the server is silent.
-        self.is_cut: Callable[[], object] = lambda: False
         if host:
             host.answers = self.answered
 

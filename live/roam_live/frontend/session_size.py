@@ -16,17 +16,13 @@ REFUSES = 2.5
 
 
 class SessionSize:
-    """The size that a session has, and the one that this terminal gave it last.
+    """The size that a session has, and the one that this terminal gave it last. Calls are told once a size is given, and once one is
+    refused."""
 
-    Its owner sets the calls `is_given`, once a size is given, and `is_refused`, once one is refused.
-    """
-
-    def __init__(self, acts: WindowActs) -> None:
-        self.acts = acts
+    def __init__(self, acts: WindowActs, given: Callable[[], object], refused: Callable[[], object]) -> None:
+        self.acts, self.is_given, self.is_refused = acts, given, refused
         # The size that the session was given last, while it may still get it.
         self.requested: tty.Size | None = None
-        self.is_given: Callable[[], object] = lambda: None
-        self.is_refused: Callable[[], object] = lambda: None
 
     def now(self) -> tty.Size:
         """Return the session's rows and columns, as they are reported or were painted; NO_SIZE if they are unknown."""

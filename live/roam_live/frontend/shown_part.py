@@ -17,11 +17,10 @@ MOST_CHOSEN = 8
 
 
 class ShownPart:
-    """The part of one terminal. A call says a line to the client; its owner sets `chooses`, which asks for a part anew."""
+    """The part of one terminal. Calls say a line to the client, and choose what is shown, asking for it anew where that is so."""
 
-    def __init__(self, outer: OuterTerminal, loop: Loop, says: Callable[[str], object]) -> None:
-        self.outer, self.loop, self.says = outer, loop, says
-        self.chooses: Callable[..., object] = lambda is_anew=False: None
+    def __init__(self, outer: OuterTerminal, loop: Loop, says: Callable[[str], object], chooses: Callable[[bool], object]) -> None:
+        self.outer, self.loop, self.says, self.chooses = outer, loop, says, chooses
         # The session's size, as it is told where its panes are, and as it was painted whole; NO_SIZE where that isn't known.
         self.told_size = self.whole_size = NO_SIZE
         # Whether the whole is shown where there is room for it; what was asked for, where that is a part; the size of what is painted next,
@@ -134,7 +133,7 @@ class ShownPart:
         if not self.asked or self.corner or self.is_held or not self.is_beyond(self.asked):
             self.chosen = 0
         elif has_all(self.size(), self.asked):
-            self.chooses()
+            self.chooses(False)
         elif "part" not in self.loop.due and self.chosen < MOST_CHOSEN:
             self.loop.later("part", CHOSEN_AGAIN * 2 ** self.chosen, self.choose_again)
 
@@ -146,7 +145,7 @@ class ShownPart:
         """Have the client choose the part again, if it still has to."""
         if self.asked and not self.corner and not self.is_held and self.is_beyond(self.asked):
             self.chosen += 1
-            self.chooses(is_anew=True)
+            self.chooses(True)
 
     def hold(self) -> None:
         """Show nothing new until the session has the size that it is to have: what stands there stays."""

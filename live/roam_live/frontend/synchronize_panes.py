@@ -69,12 +69,11 @@ def lines_of(panes: list[int], keys: list[Typed]) -> list[list[str]]:
 
 
 class Synchronizing:
-    """Whether one person's keys go to all panes of a window, and those that are on their way there."""
+    """Whether one person's keys go to all panes of a window, and those that are on their way there. Calls tell whether a pane is zoomed,
+    and show whether it is on."""
 
-    def __init__(self, acts: WindowActs, is_zoomed: Callable[[], bool]) -> None:
-        self.acts, self.is_zoomed, self.loop = acts, is_zoomed, acts.loop
-        # What shows whether it is on.
-        self.shows: Callable[[], object] = lambda: None
+    def __init__(self, acts: WindowActs, is_zoomed: Callable[[], bool], shows: Callable[[], object]) -> None:
+        self.acts, self.is_zoomed, self.shows, self.loop = acts, is_zoomed, shows, acts.loop
         # For which windows of this front end that was switched, by their numbers, and the number of this one; and which predictions are
         # shown else.
         self.switched: dict[int, bool] = {}

@@ -48,9 +48,8 @@ class WindowActs:
         self.moved_from: Places | None = None
         # The making of the pane to which this person's last key went, where that is known.
         self.typed_in = ""
-        self.pastes = Pastes(link, host, loop, lambda line: display.row.tell(line, PASTE_TOLD))
+        self.pastes = Pastes(link, host, loop, lambda line: display.row.tell(line, PASTE_TOLD), self.is_cut)
         self.intake = PasteIntake(self.pastes, panes, self.unpasted)
-        self.pastes.is_cut = self.is_cut
         self.settles: Callable[[], object] = nothing
         self.ends_zoom: Callable[[tuple[str, ...]], tuple[str, ...]] = lambda acts: acts
         self.focus_moves: Callable[[tuple[str, ...]], object] = lambda acts: None

@@ -206,8 +206,8 @@ class ViewMaker:
         link, panes = ClientLink(session.terminals, self.is_read_only, self.settings.prediction), self.followed(session)
         host = HostClient(self.host_link, session.number, lambda: commands.follower.others_told())
         host.notices = lambda words: display.row.tell(words, LOSS_TOLD)
-        commands = Commands(session, panes, link, display, loop, self.leave, self.keyboard.modes, is_new, self.is_whole, host)
-        commands.copying.gives_back = self.keyboard.take_back
+        commands = Commands(session, panes, link, display, loop, self.leave, self.keyboard.modes, self.keyboard.take_back, is_new,
+                            self.is_whole, host)
         commands.synchronizing.remember(self.synchronized, session.number, lambda: self.settings.prediction)
         return WindowView(session, link, Reconnector(session, link, panes.is_full), panes, host, commands)
 

@@ -229,14 +229,11 @@ class Zooming:
 
 
 class LeftZoom:
-    """The zoom of another, as the host reports it. A call returns True while this person has a zoom.
+    """The zoom of another, as the host reports it. Calls return True while this person has a zoom, and mend a zoom once nothing else can
+    have asked for its size."""
 
-    Its owner sets `mends_late`, which mends a zoom once nothing else can have asked for its size.
-    """
-
-    def __init__(self, acts: WindowActs, size: SessionSize, is_zoomed: Callable[[], bool]) -> None:
-        self.acts, self.size, self.is_zoomed, self.loop = acts, size, is_zoomed, acts.loop
-        self.mends_late: Callable[[], object] = lambda: None
+    def __init__(self, acts: WindowActs, size: SessionSize, is_zoomed: Callable[[], bool], mends_late: Callable[[], object]) -> None:
+        self.acts, self.size, self.is_zoomed, self.mends_late, self.loop = acts, size, is_zoomed, mends_late, acts.loop
         # The one that was looked after, and one without whose sizes the session was seen since.
         self.mended: ZoomNote | None = None
         self.unseen: ZoomNote | None = None

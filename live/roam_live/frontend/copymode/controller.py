@@ -32,18 +32,17 @@ INTERRUPTS = (INTERRUPT, f"M-{INTERRUPT}")
 
 
 class Copying:
-    """The copy mode of one person, where one is open."""
+    """The copy mode of one person, where one is open. Calls take a key that it gives back, end what else is drawn over panes before keys
+    are its, and do what is left to do once it is closed."""
 
-    def __init__(self, acts: WindowActs) -> None:
+    def __init__(self, acts: WindowActs, gives_back: Callable[[Key], object], opens: Callable[[], object],
+                 closed: Callable[[], object]) -> None:
         self.acts, self.loop, self.state = acts, acts.loop, CopyState(acts)
+        self.gives_back, self.opens, self.closed = gives_back, opens, closed
         # What is done where no snapshot is lent; it tells whether what was typed meanwhile is for that.
         self.instead: Callable[[], object] = nothing
-        # What takes its keys; what takes those that it gives back; and what is called once it is closed.
+        # What takes its keys.
         self.keys: CopyKeysMode | None = None
-        self.gives_back: Callable[[Key], object] = lambda key: None
-        self.closed: Callable[[], object] = nothing
-        # What is called before keys are its: another that is drawn over panes ends.
-        self.opens: Callable[[], object] = nothing
         # What was searched for last, and which way, which stays when it is closed.
         self.sought = "", False
         self.screen, self.asking = CopyScreen(self.state), CopyAsking(self.state, self.go_on, self.close)
