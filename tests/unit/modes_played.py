@@ -46,3 +46,25 @@ def in_words(effects):
     words = {TellUnbound: "unknown", ShowStatus: "scroll", ClearStatus: "over", BeginPaste: "paste"}
     rest = [effect.wish if isinstance(effect, Perform) else words.get(type(effect), "") for effect in effects]
     return acts, " ".join(filter(None, rest))
+
+
+class NoWindows:
+    """The windows of a session that can have no others, as what asks for them."""
+
+    @property
+    def waiting(self):
+        """Nothing waits for a window."""
+        return self
+
+    def why_one(self):
+        """Return why there is no other window."""
+        return "no other window can be had here"
+
+    def is_full(self):
+        """Return False: no key waits."""
+        return False
+
+    def told_panes(self, *_):
+        """Do nothing, whatever is asked for."""
+
+    grant = say = hold = told_panes

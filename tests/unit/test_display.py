@@ -7,6 +7,7 @@ from unittest import mock
 
 from aids import Case
 from emulated import Emulated
+from modes_played import NoWindows
 from roam_live.common import tty
 from roam_live.common.event_loop import Loop
 from roam_live.config import environment
@@ -206,10 +207,10 @@ class Person:
             self.display = Display(self.loop, self.link.say)
         self.panes = PlayedPanes(self.place)
         self.host = host
-        self.modes = ModeStack(Keymap())
+        self.modes, self.windows = ModeStack(Keymap()), NoWindows
         self.commands = Commands(self.place, self.panes, self.link, self.display, self.loop, self.leave, self.modes,
-                                 lambda key: self.keyboard.take_back(key), lambda places: is_new, is_whole, host)
-        self.keyboard = Interpreter(self.modes, self.display, self.loop, lambda: self.commands)
+                                 lambda key: self.keyboard.take_back(key), self.windows, lambda places: is_new, is_whole, host)
+        self.keyboard = Interpreter(self.modes, self.display, self.loop, lambda: self.commands, self.windows)
         self.keyboard.choose("C-b")
         self.display.begin()
         self.commands.show_known()

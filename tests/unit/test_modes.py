@@ -364,4 +364,4 @@ class Values(unittest.TestCase):
         known = {effect for effect in vars(effects).values() if isinstance(effect, type) and issubclass(effect, effects.Effect)
                  and not effect.__subclasses__()}
         inside = {PopMode, PassKey, SendLiteral}
-        self.assertEqual(set(Interpreter(ModeStack(Keymap()), None, None, None).does), known - inside)
+        self.assertEqual(set(Interpreter(ModeStack(Keymap()), None, None, None, None).does), known - inside)

@@ -11,6 +11,7 @@ import time
 import unittest
 from unittest import mock
 
+from modes_played import NoWindows
 from roam_live.common.event_loop import Loop
 from roam_live.common.process import TOOLS
 from roam_live.frontend import display
@@ -193,8 +194,8 @@ class Close(Folder):
         with mock.patch.object(display, "OuterTerminal", OuterTerminal):
             shown = Display(loop, lambda line: None)
         modes = ModeStack(Keymap())
-        commands = Commands(session, PlayedPanes(mock.Mock(told=places)), link, shown, loop, lambda line: None, modes, lambda key: None)
-        keyboard = Interpreter(modes, shown, loop, lambda: commands)
+        commands = Commands(session, PlayedPanes(mock.Mock(told=places)), link, shown, loop, lambda line: None, modes, lambda key: None, NoWindows)
+        keyboard = Interpreter(modes, shown, loop, lambda: commands, NoWindows)
         keyboard.fed(b"\x02x")
         return keyboard, link, shown
 

@@ -124,10 +124,9 @@ class AtFrontEnd(Case):
         self.acts.awaits_focus.return_value = self.acts.host.is_connecting.return_value = False
         self.acts.places.return_value = self.commands.zooming.unzoomed.return_value = Places({1: FIRST}, 1)
         self.acts.panes.making.return_value = "1 7"
-        self.commands.windows.why_one.return_value = ""
+        self.windows = mock.Mock(**{"why_one.return_value": ""})
         self.patch_of(spawn_commands, "random_name", return_value=NAME)
-        self.commands.handing = Handing(self.acts, self.commands.zooming)
-        self.commands.handing.windows = self.commands.windows
+        self.commands.handing = Handing(self.acts, self.commands.zooming, lambda: self.windows)
         self.runner = CommandRunner(mock.Mock(loop=self.loop, **{"commands.return_value": self.commands}), mock.Mock())
 
     def told(self):
@@ -159,10 +158,10 @@ class AtFrontEnd(Case):
 
     def test_window(self):
         for line, stays in (("neww -n logs htop", False), ("neww -d", True)):
-            self.commands.windows.waiting.open.reset_mock()
+            self.windows.waiting.open.reset_mock()
             self.runner.typed(line)
             self.acts.host.ran(f"{NAME} ready")
-            self.commands.windows.waiting.open.assert_called_once_with(NAME, stays)
+            self.windows.waiting.open.assert_called_once_with(NAME, stays)
 
     def test_awaited(self):
         """Where it isn't known yet which pane is in focus, or no connection is there, that is waited for, no longer than two seconds."""

@@ -52,7 +52,7 @@ class FrontEnd:
         self.wakeup = woken(signal.SIGWINCH, signal.SIGCONT, signal.SIGTSTP, *LEAVING)
         self.watchdog = HostWatchdog(session, self.loop, lambda line: self.display.row.tell(line, LOSS_TOLD))
         self.display = Display(self.loop, lambda line: self.connection.say(line))
-        self.keyboard = Interpreter(ModeStack(Keymap()), self.display, self.loop, lambda: self.views.commands)
+        self.keyboard = Interpreter(ModeStack(Keymap()), self.display, self.loop, lambda: self.views.commands, lambda: self.windows)
         self.settings = FrontSettings(self.keyboard, StatusRow(self.display, self.loop, self.values), prefix, prediction)
         self.host_link = HostLink(session.common, self.loop, self.display.outer.size, is_read_only)
         self.host_link.environment = environment_lines(session, is_read_only)
@@ -70,12 +70,11 @@ class FrontEnd:
     def join_parts(self) -> None:
         """Tell each part what others do."""
         views, keyboard, windows = self.views, self.keyboard, self.windows
-        views.windows, views.server_ends, views.shows = windows, self.server_ended, self.connection.show
-        views.commands.has_windows(windows)
+        views.server_ends, views.shows = self.server_ended, self.connection.show
         self.host_link.leaves = lambda: self.leave(DETACHED)
         self.host_link.others_left = lambda count: views.commands.others_left(count)
         windows.waiting.types = keyboard.typed
-        keyboard.windows, keyboard.left_window = windows, views.left_commands
+        keyboard.left_window = views.left_commands
         keyboard.enters, keyboard.runs = self.runner.typed, self.runner.run_wish
         self.settings.all_commands, self.settings.runs = views.all_commands, self.runner.run_all
 

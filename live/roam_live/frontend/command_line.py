@@ -202,10 +202,10 @@ class CommandRunner:
         commands = self.keyboard.commands()
         if not text:
             self.keyboard.grant("window name")
-        elif not commands.windows or not commands.session.number:
+        elif not commands.session.number:
             raise BadCommand(ELSEWHERE)
         elif not commands.link.is_read_only:
-            commands.windows.say(f"name {commands.session.number} {name_word(text)}")
+            commands.windows().say(f"name {commands.session.number} {name_word(text)}")
 
     def set_option(self, words: list[str]) -> None:
         """Sets an option, at this terminal and until the settings are read anew."""

@@ -56,9 +56,11 @@ class Commands:
 
     def __init__(self, session: AnySession, panes: PanesSubscriber, link: ClientLink, display: Display, loop: Loop,
                  leave: Callable[[str | None], None], modes: ModeStack, gives_back: Callable[[Key], object],
+                 windows: Callable[[], OtherWindows],
                  is_new: Callable[[Places | None], bool] = lambda places: False, is_whole: bool = False,
                  host: HostClient | None = None) -> None:
         self.session, self.link, self.display, self.loop, self.leave, self.modes = session, link, display, loop, leave, modes
+        self.windows = windows
         # Whether the session is shown whole where it has room, with its own status row.
         self.is_whole = is_whole
         self.acts = acts = WindowActs(session, panes, link, display, loop, modes, host)
@@ -66,14 +68,12 @@ class Commands:
         self.zooming = Zooming(acts, self.size)
         self.left_zoom = LeftZoom(acts, self.size, self.zooming.is_on, lambda: self.follower.mend(is_late=True))
         self.follower = SizeFollower(acts, self.size, self.zooming, self.left_zoom, is_new)
-        self.panes, self.border_keys = PaneActions(acts, self.zooming), BorderKeys(acts, self.size, self.zooming)
+        self.panes, self.border_keys = PaneActions(acts, self.zooming, windows), BorderKeys(acts, self.size, self.zooming)
         self.copying = Copying(acts, gives_back, lambda: self.lists.close(), lambda: self.copy_pointing.end())
         self.copy_pointing = CopyPointing(self.copying)
-        self.pointing = Pointing(acts, self.copy_pointing, self.show_metadata)
-        self.lists, self.handing = Lists(acts, self.copying.state.is_on), Handing(acts, self.zooming)
+        self.pointing = Pointing(acts, self.copy_pointing, self.show_metadata, lambda place: windows().go_to_shown(place))
+        self.lists, self.handing = Lists(acts, self.copying.state.is_on), Handing(acts, self.zooming, windows)
         self.synchronizing = Synchronizing(acts, self.zooming.is_on, self.show_known)
-        # The windows of the session, where it may have several.
-        self.windows: OtherWindows | None = None
         # The session's size and the labels of its panes, as they were told last.
         self.known: tuple[tty.Size, str] = (NO_SIZE, "")
         acts.settles = lambda: self.synchronizing.settle(is_last=True)
@@ -146,7 +146,7 @@ class Commands:
     def is_full(self) -> bool:
         """Return True if so much waits for rows, for the focus or for a window that nothing more is to come. What waits behind a paste
         keeps nothing back: C-c and the prefix are read in any case."""
-        return self.synchronizing.is_full() or self.copying.is_full() or self.windows is not None and self.windows.waiting.is_full()
+        return self.synchronizing.is_full() or self.copying.is_full() or self.windows().waiting.is_full()
 
     # ---- what is reported
 
@@ -164,8 +164,7 @@ class Commands:
         self.show_known()
         self.show_metadata()
         self.synchronizing.settle()
-        if self.windows:
-            self.windows.waiting.told_panes()
+        self.windows().waiting.told_panes()
 
     def show_metadata(self) -> None:
         """Give the terminal the title and the cursor's shape of the pane in focus, and ask it for what its program wants of the mouse."""
@@ -225,11 +224,6 @@ class Commands:
         return False
 
     # ---- from window to window
-
-    def has_windows(self, windows: OtherWindows) -> None:
-        """Know the windows of the session."""
-        self.windows = self.panes.windows = self.handing.windows = windows
-        self.pointing.goes_to = windows.go_to_shown
 
     def left(self) -> None:
         """Do what is left to do where the person leaves."""

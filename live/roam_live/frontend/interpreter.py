@@ -55,14 +55,14 @@ EDITORS: dict[str, Callable[[Commands], object]] = {
 
 
 class Interpreter:
-    """Carries out what the modes of one person ask for, in the window where the person is, which a call returns."""
+    """Carries out what the modes of one person ask for. Calls return what is done in the window where the person is, and all windows."""
 
-    def __init__(self, modes: ModeStack, display: Display, loop: Loop, commands: Callable[[], Commands]) -> None:
-        self.modes, self.display, self.loop, self.commands = modes, display, loop, commands
+    def __init__(self, modes: ModeStack, display: Display, loop: Loop, commands: Callable[[], Commands],
+                 windows: Callable[[], OtherWindows]) -> None:
+        self.modes, self.display, self.loop, self.commands, self.windows = modes, display, loop, commands, windows
         self.keys = Keys()
         # The list of keys as it is shown, or was last.
         self.help = ""
-        self.windows: OtherWindows | None = None
         # What does the commands of a person's own keys; what takes a command that was typed; and what returns the commands of a window
         # that the person left, None if nothing of it goes on.
         self.runs: Callable[[str], object] = lambda wish: None
@@ -73,7 +73,7 @@ class Interpreter:
             effects.TypeKey: lambda asked: now().type_key(asked.acts, asked.key),
             effects.TypeActs: lambda asked: now().acts.act(*asked.acts),
             effects.ClosePane: self.close_pane,
-            effects.SendRequest: lambda asked: self.windows and self.windows.say(asked.text),
+            effects.SendRequest: lambda asked: windows().say(asked.text),
             effects.BeginPaste: lambda asked: now().acts.intake.begin(asked.text),
             effects.AddPaste: lambda asked: now().acts.intake.add(asked.text),
             effects.EndPaste: lambda asked: now().end_paste(),
@@ -85,7 +85,7 @@ class Interpreter:
             effects.ShowPrompt: lambda asked: display.row.ask(asked.text, is_typed=True),
             effects.HidePrompt: lambda asked: display.row.end_prompt(),
             effects.EnterLine: self.enter,
-            effects.HoldKey: lambda asked: self.windows and self.windows.waiting.hold(asked.key),
+            effects.HoldKey: lambda asked: windows().waiting.hold(asked.key),
             effects.ScrollHelp: self.scroll_help,
             effects.CloseHelp: self.close_help,
             effects.DrawList: lambda asked: now().lists.draw(),
@@ -192,8 +192,7 @@ class Interpreter:
         elif wish.startswith(RUN):
             self.runs(wish)
         elif wish.startswith((GOES, WINDOW)):
-            if self.windows:
-                self.windows.grant(wish)
+            self.windows().grant(wish)
         elif not commands.link.is_read_only:
             self.change(commands, wish, word)
 
@@ -233,8 +232,8 @@ class Interpreter:
             self.enters(asked.text)
         elif word == "window" and asked.text:
             self.grant(f"{GOES}{asked.text}")
-        elif word == "name" and self.windows:
-            self.windows.say(f"name {number} {name_word(asked.text)}")
+        elif word == "name":
+            self.windows().say(f"name {number} {name_word(asked.text)}")
 
     # ---- the list of keys, and pastes in copy mode
 

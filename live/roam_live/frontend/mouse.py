@@ -36,12 +36,10 @@ def inside(rect: Rect, place: Place) -> Place:
 
 
 class Pointing:
-    """The mouse of one person. A call asks the terminal for reports anew."""
+    """The mouse of one person. Calls ask the terminal for reports anew, and go to the window whose label has a place in the last row."""
 
-    def __init__(self, acts: WindowActs, copying: CopyPointing, asks: Callable[[], object]) -> None:
-        self.acts, self.copying, self.asks, self.loop = acts, copying, asks, acts.loop
-        # What goes to the window whose label has a place in the last row, if it may.
-        self.goes_to: Callable[[int], object] | None = None
+    def __init__(self, acts: WindowActs, copying: CopyPointing, asks: Callable[[], object], goes_to: Callable[[int], object]) -> None:
+        self.acts, self.copying, self.asks, self.goes_to, self.loop = acts, copying, asks, goes_to, acts.loop
         # Whether roam has the mouse itself; and the border that is dragged.
         self.is_on = False
         self.border: BorderDrag | None = None
@@ -108,7 +106,7 @@ class Pointing:
         acts = self.acts
         is_press = not report.is_release and not report.moves() and report.number() == 0
         place = acts.display.row.window_at(report.row, report.col) if is_press and acts.modes.is_typing() else None
-        if place is None or not self.goes_to:
+        if place is None:
             return False
         self.end_drag()
         self.goes_to(place)

@@ -1,6 +1,8 @@
 """What a person does with panes: splits and closes one, and puts another in focus."""
 from __future__ import annotations
 
+from collections.abc import Callable
+
 from roam_live.frontend.effects import ClosePane
 from roam_live.frontend.window_acts import WindowActs
 from roam_live.frontend.zoom import Zooming
@@ -15,12 +17,10 @@ NO_LAST = "no other pane was in focus"
 
 
 class PaneActions:
-    """The panes of a window, as one person has them."""
+    """The panes of a window, as one person has them. A call returns the windows of the session."""
 
-    def __init__(self, acts: WindowActs, zooming: Zooming) -> None:
-        self.acts, self.zooming = acts, zooming
-        # The windows of the session, if it may have several.
-        self.windows: OtherWindows | None = None
+    def __init__(self, acts: WindowActs, zooming: Zooming, windows: Callable[[], OtherWindows]) -> None:
+        self.acts, self.zooming, self.windows = acts, zooming, windows
         # The panes that were in focus, the newest first, each by its making: another pane of the number is another.
         self.makings: list[str] = []
 
@@ -52,8 +52,8 @@ class PaneActions:
         """Close the pane in focus, once that is confirmed if something else than a shell may run there."""
         places, busy = self.acts.places(), self.acts.session.busy()
         pane = places.focus if places else 0
-        if places and pane and len(places.rects) == 1 and self.windows and not self.windows.why_one():
-            self.windows.grant("window shut")
+        if places and pane and len(places.rects) == 1 and not self.windows().why_one():
+            self.windows().grant("window shut")
         elif places and pane and len(places.rects) == 1:
             self.acts.display.row.tell("the last pane goes with its shell, and the session with it")
         elif busy == {} or busy and pane and pane not in busy:

@@ -31,10 +31,8 @@ SAID = 4.0
 class Handing:
     """What is handed over at one window, while it isn't known what becomes of it: by its name, what is done once it waits there."""
 
-    def __init__(self, acts: WindowActs, zooming: Zooming) -> None:
-        self.acts, self.zooming = acts, zooming
-        # The windows of the session, if it may have several.
-        self.windows: OtherWindows | None = None
+    def __init__(self, acts: WindowActs, zooming: Zooming, windows: Callable[[], OtherWindows]) -> None:
+        self.acts, self.zooming, self.windows = acts, zooming, windows
         self.waits: dict[str, Callable[[str], object]] = {}
 
     def begin(self, wish: str, begins: Begins, goes_on: Callable[[], object], until: float = 0.0) -> None:
@@ -76,13 +74,12 @@ class Handing:
 
     def open(self, begins: Begins, goes_on: Callable[[], object]) -> None:
         """Has a window opened for a command; then goes on."""
-        windows = self.windows
-        if not windows or windows.why_one():
-            raise BadCommand(windows.why_one() if windows else NOBODY)
-        opens = windows
+        why = self.windows().why_one()
+        if why:
+            raise BadCommand(why)
 
         def open_named(name: str) -> None:
-            opens.waiting.open(name, begins.is_aside)
+            self.windows().waiting.open(name, begins.is_aside)
             goes_on()
         self.hand(begins, "window", open_named)
 

@@ -23,7 +23,6 @@ from roam_live.protocol.panes_client import AWAITED, PanesSubscriber
 
 TYPE_CHECKING = False
 if TYPE_CHECKING:
-    from roam_live.frontend.interfaces import OtherWindows
     from roam_live.protocol.session_interface import AnySession
 
 # So many seconds a line stands that tells what a person has lost.
@@ -206,8 +205,8 @@ class ViewMaker:
         link, panes = ClientLink(session.terminals, self.is_read_only, self.settings.prediction), self.followed(session)
         host = HostClient(self.host_link, session.number, lambda: commands.follower.others_told())
         host.notices = lambda words: display.row.tell(words, LOSS_TOLD)
-        commands = Commands(session, panes, link, display, loop, self.leave, self.keyboard.modes, self.keyboard.take_back, is_new,
-                            self.is_whole, host)
+        commands = Commands(session, panes, link, display, loop, self.leave, self.keyboard.modes, self.keyboard.take_back,
+                            self.keyboard.windows, is_new, self.is_whole, host)
         commands.synchronizing.remember(self.synchronized, session.number, lambda: self.settings.prediction)
         return WindowView(session, link, Reconnector(session, link, panes.is_full), panes, host, commands)
 
@@ -224,7 +223,6 @@ class WindowViews:
         self.draining = DrainingViews(maker.loop)
         # The sizes of the windows of which all was shown as they were left, by their numbers.
         self.shown_whole: dict[int, tty.Size] = {}
-        self.windows: OtherWindows | None = None
         self.server_ends: Callable[[WindowView], object] = lambda view: None
         self.shows: Callable[[], object] = lambda: None
         server = opened_server(session)
@@ -305,8 +303,6 @@ class WindowViews:
             view.take_up(self.maker.followed(session))
         else:
             view = self.maker.begun(session)
-            if self.windows:
-                view.commands.has_windows(self.windows)
         self.view = view
         self.maker.host_link.go(view.host)
         self.watch_server(server)
