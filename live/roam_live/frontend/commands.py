@@ -5,9 +5,6 @@ from collections.abc import Callable
 
 from roam_live.common import tty
 from roam_live.common.event_loop import Loop
-from roam_live.frontend.copymode.controller import INTERRUPT, Copying
-from roam_live.frontend.copymode.mouse import CopyPointing
-from roam_live.frontend.copymode.state import CopyEvent
 from roam_live.frontend.display import Display
 from roam_live.frontend.zoom import LeftZoom
 from roam_live.frontend.lists import Lists
@@ -24,7 +21,7 @@ from roam_live.frontend.synchronize_panes import Synchronizing
 from roam_live.frontend.window_acts import WindowActs
 from roam_live.frontend.zoom import Zooming
 from roam_live.input.extended_keys import form_for
-from roam_live.input.keys import Key, acts_of
+from roam_live.input.keys import INTERRUPT, Key, acts_of
 from roam_live.protocol.client_link import ClientLink, TYPES
 from roam_live.protocol.host_client import HostClient
 from roam_live.protocol.panes import Places
@@ -33,6 +30,7 @@ from roam_live.protocol.presence import LEAVE_OTHERS
 
 TYPE_CHECKING = False
 if TYPE_CHECKING:
+    from roam_live.frontend.copymode.controller import Copying
     from roam_live.frontend.interfaces import OtherWindows
     from roam_live.protocol.session_interface import AnySession
 
@@ -60,7 +58,7 @@ class Commands:
                  is_new: Callable[[Places | None], bool] = lambda places: False, is_whole: bool = False,
                  host: HostClient | None = None) -> None:
         self.session, self.link, self.display, self.loop, self.leave, self.modes = session, link, display, loop, leave, modes
-        self.windows = windows
+        self.windows, self.gives_back = windows, gives_back
         # Whether the session is shown whole where it has room, with its own status row.
         self.is_whole = is_whole
         self.acts = acts = WindowActs(session, panes, link, display, loop, modes, host)
@@ -69,10 +67,11 @@ class Commands:
         self.left_zoom = LeftZoom(acts, self.size, self.zooming.is_on, lambda: self.follower.mend(is_late=True))
         self.follower = SizeFollower(acts, self.size, self.zooming, self.left_zoom, is_new)
         self.panes, self.border_keys = PaneActions(acts, self.zooming, windows), BorderKeys(acts, self.size, self.zooming)
-        self.copying = Copying(acts, gives_back, lambda: self.lists.close(), lambda: self.copy_pointing.end())
-        self.copy_pointing = CopyPointing(self.copying)
-        self.pointing = Pointing(acts, self.copy_pointing, self.show_metadata, lambda place: windows().go_to_shown(place))
-        self.lists, self.handing = Lists(acts, self.copying.state.is_on), Handing(acts, self.zooming, windows)
+        # Copy mode, once it was opened here.
+        self.copy_mode: Copying | None = None
+        self.pointing = Pointing(acts, lambda: self.copying.pointing, self.is_copying, self.show_metadata,
+                                 lambda place: windows().go_to_shown(place))
+        self.lists, self.handing = Lists(acts, self.is_copying), Handing(acts, self.zooming, windows)
         self.synchronizing = Synchronizing(acts, self.zooming.is_on, self.show_known)
         # The session's size and the labels of its panes, as they were told last.
         self.known: tuple[tty.Size, str] = (NO_SIZE, "")
@@ -80,6 +79,26 @@ class Commands:
         acts.ends_zoom, acts.focus_moves, acts.borders_move = self.zooming.ended_by, self.focus_moves, self.borders_move
         acts.intake.spreads = self.synchronizing.pasted_in
         display.moved = self.fit_drawn
+
+    # ---- copy mode
+
+    @property
+    def copying(self) -> Copying:
+        """Return copy mode, which is loaded as it is first used: few who attach wait for it."""
+        if not self.copy_mode:
+            from roam_live.frontend.copymode.controller import Copying
+
+            self.copy_mode = Copying(self.acts, self.gives_back, self.lists.close)
+        return self.copy_mode
+
+    def is_copying(self) -> bool:
+        """Return True if copy mode is open, or will be soon."""
+        return self.copy_mode is not None and self.copy_mode.state.is_on()
+
+    def end_copying(self) -> None:
+        """Close copy mode, if it is open."""
+        if self.copy_mode:
+            self.copy_mode.close()
 
     # ---- what parts do behind one another
 
@@ -95,7 +114,8 @@ class Commands:
 
     def focus_moves(self, acts: tuple[str, ...]) -> None:
         """Go by acts of this person that move the focus."""
-        self.copying.focus_moved(acts)
+        if self.copy_mode:
+            self.copy_mode.focus_moved(acts)
         self.lists.close()
 
     def borders_move(self) -> bool:
@@ -105,12 +125,14 @@ class Commands:
     def fit_drawn(self) -> None:
         """Have what is drawn over a pane go by where that is now."""
         if not self.display.part.is_held:
-            self.copying.fit()
+            if self.copy_mode:
+                self.copy_mode.fit()
             self.lists.fit()
 
     def tell_replaced(self) -> None:
         """Tell that a module of this roam can't be imported any more, and go on without what needs it."""
-        self.copying.give_up()
+        if self.copy_mode:
+            self.copy_mode.give_up()
         self.display.row.tell(REPLACED, REPLACED_TOLD)
 
     # ---- what is typed
@@ -146,7 +168,7 @@ class Commands:
     def is_full(self) -> bool:
         """Return True if so much waits for rows, for the focus or for a window that nothing more is to come. What waits behind a paste
         keeps nothing back: C-c and the prefix are read in any case."""
-        return self.synchronizing.is_full() or self.copying.is_full() or self.windows().waiting.is_full()
+        return self.synchronizing.is_full() or self.copy_mode is not None and self.copy_mode.is_full() or self.windows().waiting.is_full()
 
     # ---- what is reported
 
@@ -203,18 +225,8 @@ class Commands:
     def copy(self, wish: str) -> None:
         """Open copy mode in the pane in focus, a page up or in its search on request; if no rows are kept the view that all share
         scrolls."""
-        begins = {"copy page": [CopyEvent(lambda mode: mode.perform("page-up"))],
-                  "copy search": [CopyEvent(lambda mode: mode.ask_search())]}.get(wish, [])
-        focus = self.acts.focus()
         self.lists.close()
-        if self.copying.state.is_on():
-            self.copying.add(*begins)
-        elif focus:
-            self.copying.open(focus, lambda: self.scroll_back(wish), *begins)
-        elif self.acts.awaits_focus():
-            self.copying.await_focus(lambda: self.scroll_back(wish), *begins)
-        else:
-            self.scroll_back(wish)
+        self.copying.start(wish, lambda: self.scroll_back(wish))
 
     def scroll_back(self, wish: str) -> bool:
         """Scroll the view that all share, and return True if that is possible."""
@@ -235,7 +247,7 @@ class Commands:
     def part(self) -> None:
         """Do what is left to do where the person goes to another window: what was drawn, and waited for, is this window's."""
         self.left()
-        self.copying.close()
+        self.end_copying()
         self.lists.close()
         self.pointing.end_drag()
         self.acts.intake.break_off()

@@ -208,7 +208,7 @@ class Interpreter:
             self.display.row.tell(f"{self.display.row.labels}: a digit goes to the pane of this number", PICKS)
             self.modes.push(PickingMode(time.monotonic()))
         elif wish in ("paste", "choose"):
-            commands.copying.close()
+            commands.end_copying()
             commands.lists.ask_buffers(is_newest=wish == "paste")
         elif wish in BESIDE:
             commands.panes.go(wish)

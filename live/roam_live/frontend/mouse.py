@@ -6,11 +6,14 @@ from collections.abc import Callable
 
 from roam_live.frontend.resize_keys import BorderDrag
 from roam_live.frontend.borders import border_at
-from roam_live.frontend.copymode.mouse import Clicks, CopyPointing
 from roam_live.frontend.modes import ScrollMode
 from roam_live.frontend.window_acts import WindowActs
-from roam_live.input.mouse_reports import DOWN, UP, MouseReport, is_wanted, report_of, sent, tracking_of
+from roam_live.input.mouse_reports import DOWN, UP, Clicks, MouseReport, is_wanted, report_of, sent, tracking_of
 from roam_live.protocol.panes import Places, Rect
+
+TYPE_CHECKING = False
+if TYPE_CHECKING:
+    from roam_live.frontend.copymode.mouse import CopyPointing
 
 # A row and a column of the session, from 1.
 Place = tuple[int, int]
@@ -36,10 +39,12 @@ def inside(rect: Rect, place: Place) -> Place:
 
 
 class Pointing:
-    """The mouse of one person. Calls ask the terminal for reports anew, and go to the window whose label has a place in the last row."""
+    """The mouse of one person. Calls return the mouse in copy mode, return True if that is open, ask the terminal for reports anew, and go
+    to the window whose label has a place in the last row."""
 
-    def __init__(self, acts: WindowActs, copying: CopyPointing, asks: Callable[[], object], goes_to: Callable[[int], object]) -> None:
-        self.acts, self.copying, self.asks, self.goes_to, self.loop = acts, copying, asks, goes_to, acts.loop
+    def __init__(self, acts: WindowActs, copying: Callable[[], CopyPointing], is_copying: Callable[[], bool], asks: Callable[[], object],
+                 goes_to: Callable[[int], object]) -> None:
+        self.acts, self.copying, self.is_copying, self.asks, self.goes_to, self.loop = acts, copying, is_copying, asks, goes_to, acts.loop
         # Whether roam has the mouse itself; and the border that is dragged.
         self.is_on = False
         self.border: BorderDrag | None = None
@@ -118,7 +123,7 @@ class Pointing:
         pane = holder or places.pane_at(*place)
         if self.grasped and report.moves() and report.number() == 0:
             (pane, pressed), self.grasped = self.grasped, None
-            self.copying.open_by_drag(pane, pressed, (report.row, report.col))
+            self.copying().open_by_drag(pane, pressed, (report.row, report.col))
         elif not pane and self.is_on and report.button == 0 and not report.is_release:
             self.grip(places, place)
         elif pane == 0 or report.is_release and not holder or pane != places.focus and (not self.is_on or report.moves() or holder):
@@ -150,9 +155,9 @@ class Pointing:
     def copies(self, report: MouseReport) -> bool:
         """Whether copy mode takes a report."""
         acts = self.acts
-        if not self.copying.is_on() or acts.paused or acts.display.notice or not acts.modes.is_typing():
+        if not self.is_copying() or acts.paused or acts.display.notice or not acts.modes.is_typing():
             return False
-        return self.copying.take(report)
+        return self.copying().take(report)
 
     def grasp(self, pane: int, place: Place) -> None:
         """Takes note of where the first button is held, at a place of the terminal: what is dragged from there is selected, and a word by a
@@ -160,7 +165,7 @@ class Pointing:
         self.grasped = pane, place
         if self.clicks.press(place, self.loop.clock()) == 2:
             self.grasped = None
-            self.copying.open_by_click(pane, place)
+            self.copying().open_by_click(pane, place)
 
     # ---- where roam has the mouse
 
@@ -173,7 +178,7 @@ class Pointing:
         if OTHER in self.acts.panes.modes(pane):
             self.acts.act_together(f"focus {pane}", *[f"key {way}"] * NOTCH)
         elif way == "up":
-            self.copying.open_by_wheel(pane)
+            self.copying().open_by_wheel(pane)
 
     def point_back(self, report: MouseReport, places: Places, place: Place) -> None:
         """Goes by a report while rows are shown that scrolled off: the wheel scrolls, and where roam has the mouse what another pane is

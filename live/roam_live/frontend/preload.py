@@ -9,8 +9,9 @@ MODULES = (
     "roam_live.frontend.copymode.keys", "roam_live.frontend.copymode.rows", "roam_live.protocol.screen_cells",
     "roam_live.frontend.copymode.motions", "roam_live.frontend.copymode.search", "roam_live.frontend.copymode.selection",
     "roam_live.frontend.copymode.viewport", "roam_live.frontend.copymode.actions", "roam_live.frontend.copymode.commands",
-    "roam_live.frontend.copymode.mode", "roam_live.frontend.copymode.render", "roam_live.config.parser", "roam_live.config.loader",
-    "roam_live.config.formats", "base64", "shlex", "traceback",
+    "roam_live.frontend.copymode.mode", "roam_live.frontend.copymode.render", "roam_live.frontend.copymode.state",
+    "roam_live.frontend.copymode.mouse", "roam_live.frontend.copymode.row_requests", "base64", "roam_live.frontend.copymode.controller",
+    "roam_live.config.parser", "roam_live.config.loader", "roam_live.config.formats", "shlex", "traceback",
 )
 
 # So many seconds after the first painting they begin, and so many lie between two: a key isn't kept waiting by more than one.

@@ -6,7 +6,7 @@ from collections.abc import Callable
 from roam_live.common.tty import LEAST, is_large_enough, largest
 from roam_live.frontend.modes import HoldMode
 from roam_live.frontend.window_views import WindowViews
-from roam_live.input.keys import Key
+from roam_live.input.keys import INTERRUPT, Key
 from roam_live.input.mouse_reports import MOUSE
 from roam_live.protocol.window_lines import MOST_WINDOWS
 
@@ -17,7 +17,6 @@ COMES = 0.02
 TAKES_LONG = 0.5
 MOST_KEYS = 4096
 MOST_TEXT = 1 << 20
-INTERRUPT = "\x03"
 
 # So many seconds a list of windows waits until it is told where the panes are, over one of which it stands.
 LISTS = 1.0

@@ -36,6 +36,9 @@ SPELLINGS = {
     **{f"\x1b[1;5{letter}": name for letter, name in CONTROLLED.items()},
     **{f"\x1bO{letter.lower()}": name for letter, name in CONTROLLED.items()},
 }
+# The key that interrupts a program, and by which a person waits no longer.
+INTERRUPT = "\x03"
+
 # A paste begins and ends so; what stands between is one key of the name `text`, or several, as it comes.
 PASTE, PASTED = "\x1b[200~", "\x1b[201~"
 SPELLINGS.update({PASTE: "paste", PASTED: "pasted"})

@@ -18,6 +18,9 @@ KEYS, MOVES, WHEEL, FURTHER = 0x1C, 0x20, 0x40, 0x80
 NONE = 3
 UP, DOWN = 64, 65
 
+# So many seconds after a double click what it selects is copied, unless a third click follows.
+CLICKED = 0.3
+
 # The modes in which a program has the mouse, by the words of `panes`, and that in which it has the form of 1006.
 TRACKING = ("buttons", "drags", "motion")
 SGR = "sgr"
@@ -84,3 +87,17 @@ def sent(report: MouseReport, modes: list[str]) -> str:
     button = report.button & (KEYS | MOVES) | NONE if report.is_release else report.button
     numbers = [OLD_FROM + number for number in (button, report.col, report.row)]
     return OLD_BEGIN + "".join(map(chr, numbers)) if max(numbers) <= OLD_MOST else ""
+
+
+class Clicks:
+    """How often a button was pressed at one place in a row."""
+
+    def __init__(self) -> None:
+        self.place: tuple[int, int] | None = None
+        self.at, self.count = 0.0, 0
+
+    def press(self, place: tuple[int, int], now: float) -> int:
+        """Takes a press, and tells how many those in a row are: three at most."""
+        is_again = place == self.place and now < self.at + CLICKED and self.count < 3
+        self.place, self.at, self.count = place, now, self.count + 1 if is_again else 1
+        return self.count

@@ -1,6 +1,8 @@
 """What becomes of a text that is copied: a buffer of the host's, and the terminal's clipboard."""
 from __future__ import annotations
 
+from base64 import b64encode
+
 from roam_live.config.environment import may_set_clipboard
 from roam_live.frontend.window_acts import WindowActs
 from roam_live.protocol.scrollback_client import BufferNote, ScrollbackClient
@@ -60,8 +62,6 @@ class CopiedTexts:
             self.tell(TOO_LONG)
             return
         if may_set_clipboard():
-            from base64 import b64encode
-
             acts.display.outer.set_clip(b64encode(text).decode())
         if scrollback and not acts.link.is_read_only:
             told = COPIED.format(counted(text), acts.modes.keymap.name)

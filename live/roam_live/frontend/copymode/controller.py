@@ -4,20 +4,21 @@ from __future__ import annotations
 
 from collections.abc import Callable
 
+from roam_live.config.environment import wants_vi
+from roam_live.frontend.copymode.actions import LEAVE, REFRESH, CopyWish
 from roam_live.frontend.copymode.clipboard import CopiedTexts
+from roam_live.frontend.copymode.keys import KeyPairs
+from roam_live.frontend.copymode.mode import CopyMode
+from roam_live.frontend.copymode.mouse import CopyPointing
 from roam_live.frontend.copymode.popup import CopyScreen
 from roam_live.frontend.copymode.row_requests import GONE, CopyAsking, SnapshotAsking
+from roam_live.frontend.copymode.rows import MOST_SCREEN_ROWS, Missing, Rows
 from roam_live.frontend.copymode.state import CopyEvent, CopyState, nothing
 from roam_live.frontend.modes import CopyKeysMode
 from roam_live.frontend.window_acts import WindowActs
-from roam_live.input.keys import Key
+from roam_live.input.keys import INTERRUPT, Key
 from roam_live.protocol.panes import MOVES
 from roam_live.protocol.scrollback_client import ScrollbackClient, Snapshot
-
-TYPE_CHECKING = False
-if TYPE_CHECKING:
-    from roam_live.frontend.copymode.actions import CopyWish
-    from roam_live.frontend.copymode.mode import CopyMode
 
 # So many keys and reports wait at most.
 MOST_WAITING = 4096
@@ -27,18 +28,15 @@ TOLD = 2.0
 NO_ROOM = "nothing of the pane is shown here"
 
 # The key that leaves it while an answer is awaited, whatever waits before that; and with an escape before it.
-INTERRUPT = "\x03"
 INTERRUPTS = (INTERRUPT, f"M-{INTERRUPT}")
 
 
 class Copying:
-    """The copy mode of one person, where one is open. Calls take a key that it gives back, end what else is drawn over panes before keys
-    are its, and do what is left to do once it is closed."""
+    """The copy mode of one person, where one is open. Calls take a key that it gives back, and end what else is drawn over panes before
+    keys are its."""
 
-    def __init__(self, acts: WindowActs, gives_back: Callable[[Key], object], opens: Callable[[], object],
-                 closed: Callable[[], object]) -> None:
-        self.acts, self.loop, self.state = acts, acts.loop, CopyState(acts)
-        self.gives_back, self.opens, self.closed = gives_back, opens, closed
+    def __init__(self, acts: WindowActs, gives_back: Callable[[Key], object], opens: Callable[[], object]) -> None:
+        self.acts, self.loop, self.state, self.gives_back, self.opens = acts, acts.loop, CopyState(acts), gives_back, opens
         # What is done where no snapshot is lent; it tells whether what was typed meanwhile is for that.
         self.instead: Callable[[], object] = nothing
         # What takes its keys.
@@ -46,6 +44,7 @@ class Copying:
         # What was searched for last, and which way, which stays when it is closed.
         self.sought = "", False
         self.screen, self.asking = CopyScreen(self.state), CopyAsking(self.state, self.go_on, self.close)
+        self.pointing = CopyPointing(self.state, self.open, self.add)
         self.texts, self.snapshots = CopiedTexts(acts), SnapshotAsking(self.state, self.asking.tell_later, self.lent)
 
     def is_full(self) -> bool:
@@ -53,6 +52,20 @@ class Copying:
         return len(self.state.events) >= MOST_WAITING
 
     # ---- opening and closing
+
+    def start(self, wish: str, instead: Callable[[], object]) -> None:
+        """Open it in the pane in focus, a page up or in its search on request; if no rows are lent something else is done instead."""
+        begins = {"copy page": [CopyEvent(lambda mode: mode.perform("page-up"))],
+                  "copy search": [CopyEvent(lambda mode: mode.ask_search())]}.get(wish, [])
+        focus = self.acts.focus()
+        if self.state.is_on():
+            self.add(*begins)
+        elif focus:
+            self.open(focus, instead, *begins)
+        elif self.acts.awaits_focus():
+            self.await_focus(instead, *begins)
+        else:
+            instead()
 
     def open(self, pane: int, instead: Callable[[], object], *begins: CopyEvent) -> None:
         """Opens it in a pane, with what is done first; where no rows are lent something else is done instead, which tells whether what was
@@ -78,8 +91,6 @@ class Copying:
 
     def take_keys(self) -> None:
         """Has the keys be copy mode's."""
-        from roam_live.frontend.copymode.keys import KeyPairs
-
         self.opens()
         self.keys = self.acts.modes.drawn = CopyKeysMode(self.acts.modes.keymap, KeyPairs())
 
@@ -103,8 +114,6 @@ class Copying:
             self.loop.drop(name)
         self.state.is_opening = False
         self.asking.settle()
-        from roam_live.frontend.copymode.rows import MOST_SCREEN_ROWS
-
         scrollback = self.state.scrollback()
         if scrollback and snapshot and 0 < len(snapshot.screen) <= MOST_SCREEN_ROWS:
             self.begin(snapshot, scrollback)
@@ -119,10 +128,6 @@ class Copying:
 
     def begin(self, snapshot: Snapshot, scrollback: ScrollbackClient) -> None:
         """Shows a snapshot, and does what was typed meanwhile."""
-        from roam_live.config.environment import wants_vi
-        from roam_live.frontend.copymode.mode import CopyMode
-        from roam_live.frontend.copymode.rows import MOST_SCREEN_ROWS, Rows
-
         places = self.acts.panes.places
         pane_cols = places.rects[self.state.pane].cols if places and self.state.pane in places.rects else self.state.rect.cols
         rows = Rows(snapshot.first, snapshot.end + len(snapshot.screen), self.state.rect.cols, pane_cols)
@@ -155,7 +160,7 @@ class Copying:
         for name in ("copy opens", "copy connects"):
             self.loop.drop(name)
         self.asking.end()
-        self.closed()
+        self.pointing.end()
         if was_shown:
             display.lift()
             display.row.change()
@@ -222,8 +227,6 @@ class Copying:
 
     def go_on(self) -> None:
         """Does what waits, as far as the rows for it are here, and shows what comes of it."""
-        from roam_live.frontend.copymode.rows import Missing
-
         try:
             while self.state.mode and self.state.events and not self.asking.is_waiting and not self.state.is_opening:
                 self.do(self.state.mode, self.state.events[0])
@@ -251,8 +254,6 @@ class Copying:
 
     def grant(self, asked: CopyWish) -> None:
         """Does what a key asked for beside what is shown."""
-        from roam_live.frontend.copymode.actions import LEAVE, REFRESH
-
         scrollback = self.state.scrollback()
         if asked.word == LEAVE:
             self.close()

@@ -2,21 +2,17 @@
 a triple one."""
 from __future__ import annotations
 
-from roam_live.frontend.copymode.controller import Copying
-from roam_live.frontend.copymode.state import CopyEvent
-from roam_live.input.mouse_reports import DOWN, UP, MouseReport
+from collections.abc import Callable
 
-TYPE_CHECKING = False
-if TYPE_CHECKING:
-    from roam_live.frontend.copymode.mode import CopyMode
+from roam_live.frontend.copymode.mode import CopyMode
+from roam_live.frontend.copymode.state import CopyEvent, CopyState
+from roam_live.input.mouse_reports import CLICKED, DOWN, UP, Clicks, MouseReport
 
 # A notch of the wheel is so many rows.
 NOTCH = 3
 
-# While what is dragged is out of the pane a row more is shown each so many seconds. So many after a double click what it selects is copied,
-# unless a third follows.
+# While what is dragged is out of the pane a row more is shown each so many seconds.
 DRAGGED = 0.05
-CLICKED = 0.3
 
 
 def scroll(mode: CopyMode, rows: int, closes: bool) -> None:
@@ -48,25 +44,11 @@ def select_at(mode: CopyMode, row: int, col: int, what: str) -> None:
     mode.perform(what)
 
 
-class Clicks:
-    """How often a button was pressed at one place in a row."""
-
-    def __init__(self) -> None:
-        self.place: tuple[int, int] | None = None
-        self.at, self.count = 0.0, 0
-
-    def press(self, place: tuple[int, int], now: float) -> int:
-        """Takes a press, and tells how many those in a row are: three at most."""
-        is_again = place == self.place and now < self.at + CLICKED and self.count < 3
-        self.place, self.at, self.count = place, now, self.count + 1 if is_again else 1
-        return self.count
-
-
 class CopyPointing:
-    """The mouse of one person in copy mode."""
+    """The mouse of one person in copy mode. Calls open copy mode in a pane, and have something be done there."""
 
-    def __init__(self, copying: Copying) -> None:
-        self.copying, self.state, self.acts, self.loop = copying, copying.state, copying.acts, copying.acts.loop
+    def __init__(self, state: CopyState, opens: Callable[..., object], adds: Callable[[CopyEvent], object]) -> None:
+        self.state, self.opens, self.adds, self.acts, self.loop = state, opens, adds, state.acts, state.acts.loop
         # Whether the wheel opened it; where the first button is held since it was pressed, whether it was dragged, and where to.
         self.is_wheeled = False
         self.pressed: tuple[int, int] | None = None
@@ -80,10 +62,6 @@ class CopyPointing:
         self.loop.drop("copy drag")
         self.loop.drop("copy click")
 
-    def is_on(self) -> bool:
-        """Return True if copy mode is open, or will be soon."""
-        return self.state.is_on()
-
     def wheel(self, rows: int) -> CopyEvent:
         """Scrolling by so many rows."""
         return CopyEvent(lambda mode: scroll(mode, rows, self.is_wheeled), lambda: self.acts.scroll(self.state.pane, rows))
@@ -96,21 +74,21 @@ class CopyPointing:
             self.acts.scroll(pane, NOTCH)
             return True
 
-        self.copying.open(pane, instead, CopyEvent(lambda mode: scroll(mode, NOTCH, True)))
+        self.opens(pane, instead, CopyEvent(lambda mode: scroll(mode, NOTCH, True)))
         self.is_wheeled = self.state.is_on()
         if self.is_wheeled and pane != self.acts.focus():
             self.acts.act_together(f"focus {pane}")
 
     def open_by_drag(self, pane: int, pressed: tuple[int, int], place: tuple[int, int]) -> None:
         """Opens copy mode in a pane, by what is dragged from a place of the terminal to another."""
-        self.copying.open(pane, lambda: None)
+        self.opens(pane, lambda: None)
         if self.state.is_on():
             self.pressed = self.within(pressed)
             self.drag(self.within(place))
 
     def open_by_click(self, pane: int, place: tuple[int, int]) -> None:
         """Opens copy mode in a pane, by a double click on a place of the terminal."""
-        self.copying.open(pane, lambda: None)
+        self.opens(pane, lambda: None)
         if self.state.is_on():
             self.click(self.within(place), 2)
 
@@ -137,7 +115,7 @@ class CopyPointing:
         if not self.is_within(place):
             return False
         if report.number() in (UP, DOWN):
-            self.copying.add(self.wheel(NOTCH if report.number() == UP else -NOTCH))
+            self.adds(self.wheel(NOTCH if report.number() == UP else -NOTCH))
         elif report.number() == 0 and not report.moves() and not report.is_release:
             self.pressed, self.is_dragged = place, False
             self.click(place, self.clicks.press(place, self.loop.clock()))
@@ -147,16 +125,16 @@ class CopyPointing:
         """Goes by so many clicks at a place: the second selects a word and the third a line, which is copied a moment later."""
         self.loop.drop("copy click")
         if count < 2:
-            self.copying.add(CopyEvent(lambda mode: point_at(mode, *place)))
+            self.adds(CopyEvent(lambda mode: point_at(mode, *place)))
             return
         self.clicks.place, self.clicks.at, self.clicks.count = place, self.loop.clock(), count
         what = "select-word" if count == 2 else "select-line"
-        self.copying.add(CopyEvent(lambda mode: select_at(mode, *place, what)))
+        self.adds(CopyEvent(lambda mode: select_at(mode, *place, what)))
         self.loop.later("copy click", CLICKED, self.copy)
 
     def copy(self) -> None:
         """Copies what is selected, and leaves."""
-        self.copying.add(CopyEvent(lambda mode: mode.copy(True)))
+        self.adds(CopyEvent(lambda mode: mode.copy(True)))
 
     def drag(self, place: tuple[int, int]) -> None:
         """Selects from where the button was pressed to a place."""
@@ -165,9 +143,9 @@ class CopyPointing:
         if begin and not self.is_dragged:
             self.is_dragged = True
             row, col = begin
-            self.copying.add(CopyEvent(lambda mode: select_from(mode, row, col)))
+            self.adds(CopyEvent(lambda mode: select_from(mode, row, col)))
         self.place = place
-        self.copying.add(CopyEvent(lambda mode: point_at(mode, *place)))
+        self.adds(CopyEvent(lambda mode: point_at(mode, *place)))
         if 0 <= place[0] < self.state.rect.rows:
             self.loop.drop("copy drag")
         else:
@@ -178,7 +156,7 @@ class CopyPointing:
         self.loop.drop("copy drag")
         was_dragged, self.pressed, self.is_dragged = self.is_dragged, None, False
         if was_dragged:
-            self.copying.add(CopyEvent(lambda mode: point_at(mode, max(0, min(place[0], mode.view.height - 1)), place[1])))
+            self.adds(CopyEvent(lambda mode: point_at(mode, max(0, min(place[0], mode.view.height - 1)), place[1])))
             self.copy()
 
 

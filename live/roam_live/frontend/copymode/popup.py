@@ -1,12 +1,11 @@
 """Where copy mode is drawn at a person's terminal, and what stands there: the lines of its view, its cursor, and a line in the last row."""
 from __future__ import annotations
 
+from roam_live.frontend.copymode.render import LinePainter
+from roam_live.frontend.copymode.rows import LEAST_COLS, Missing, width_of
 from roam_live.frontend.copymode.state import CopyState
 from roam_live.frontend.popup import Popup
 from roam_live.protocol.panes import Rect
-
-# No wide character has room in fewer columns.
-LEAST_COLS = 2
 
 
 class CopyScreen:
@@ -29,9 +28,6 @@ class CopyScreen:
 
     def lines(self) -> list[bytes]:
         """The text of each row of its rectangle."""
-        from roam_live.frontend.copymode.render import LinePainter
-        from roam_live.frontend.copymode.rows import Missing
-
         mode, blank = self.state.mode, b"\x1b[0m" + b" " * self.state.rect.cols
         try:
             found = LinePainter(mode, self.state.rect.col, self.state.rect.cols).lines(self.state.rect.rows) if mode else []
@@ -42,8 +38,6 @@ class CopyScreen:
 
     def cursor(self) -> tuple[int, int]:
         """Where the terminal's cursor stands: in the last row while a line is asked for there."""
-        from roam_live.frontend.copymode.rows import Missing, width_of
-
         mode, (rows, cols) = self.state.mode, self.display.outer.size()
         if mode and mode.prompt:
             return rows, min(sum(map(width_of, mode.prompt.line())) + 1, cols)
@@ -56,8 +50,6 @@ class CopyScreen:
     def line(self) -> str:
         """The line in the last row: what is asked for; or how many rows lie below those that are shown, of how many, how many came since, a
         count, and what is told of the last key."""
-        from roam_live.frontend.copymode.rows import Missing
-
         mode = self.state.mode
         if not mode or mode.prompt:
             return mode.prompt.line() if mode and mode.prompt else ""

@@ -4,13 +4,10 @@ from __future__ import annotations
 
 from collections.abc import Callable
 
+from roam_live.frontend.copymode.rows import Missing, MissingRows
+from roam_live.frontend.copymode.search import MissingFind
 from roam_live.frontend.copymode.state import CopyState
 from roam_live.protocol.scrollback_client import ScrollbackClient, Snapshot
-
-TYPE_CHECKING = False
-if TYPE_CHECKING:
-    from roam_live.frontend.copymode.rows import Missing
-    from roam_live.frontend.copymode.search import MissingFind
 
 # So many rows are asked for at once at most, and so many pages at first: the one that is needed, and one ahead.
 MOST_ASKED = 2000
@@ -60,9 +57,6 @@ class CopyAsking:
 
     def ask(self, lack: Missing) -> None:
         """Asks for what isn't here."""
-        from roam_live.frontend.copymode.rows import MissingRows
-        from roam_live.frontend.copymode.search import MissingFind
-
         scrollback = self.state.scrollback()
         if not scrollback:
             return

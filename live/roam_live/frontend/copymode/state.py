@@ -4,13 +4,10 @@ from __future__ import annotations
 from collections import deque, namedtuple
 from collections.abc import Callable
 
+from roam_live.frontend.copymode.mode import CopyMode
 from roam_live.frontend.window_acts import WindowActs
 from roam_live.protocol.panes import Rect
 from roam_live.protocol.scrollback_client import ScrollbackClient
-
-TYPE_CHECKING = False
-if TYPE_CHECKING:
-    from roam_live.frontend.copymode.mode import CopyMode
 
 
 def nothing() -> None:
