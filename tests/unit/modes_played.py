@@ -1,6 +1,6 @@
 """A stack of modes without a front end: what each key of a text asks for, as effects, or told in words."""
 from roam_live.frontend.bindings import Keymap
-from roam_live.frontend.effects import (BeginPaste, ClearStatus, Perform, ShowStatus, TellUnbound, TypeActs, TypeKey)
+from roam_live.frontend.effects import BeginPaste, ClearStatus, Perform, ShowStatus, TellUnbound, TypeActs, TypeKey
 from roam_live.frontend.modes import ModeStack, PickingMode
 from roam_live.input.keys import Keys
 

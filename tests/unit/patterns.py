@@ -30,9 +30,9 @@ BEGIN = "the reset with which the start itself begins a record `anew`; another c
 
 # Each use: the file, the name that it is assigned to or the function that it stands in, and whether it is of `re` or of an escape.
 KNOWN = {
-    ("roam_live/frontend/outer_modes.py", "", "ESC"): WRITES,
-    ("roam_live/frontend/outer_modes.py", "shaped", "ESC"): WRITES,
-    ("roam_live/frontend/outer_modes.py", "titled", "ESC"): WRITES,
+    ("roam_live/frontend/outer_terminal.py", "", "ESC"): WRITES,
+    ("roam_live/frontend/outer_terminal.py", "shaped", "ESC"): WRITES,
+    ("roam_live/frontend/outer_terminal.py", "titled", "ESC"): WRITES,
     ("roam_live/frontend/line_editor.py", "LEAVES", "ESC"): TYPED,
     ("roam_live/session/survey.py", "CLIENT_COUNT", "re"): LINES,
     ("roam_live/protocol/host_client.py", "KEYPAD", "re"): LINES,
@@ -47,7 +47,7 @@ KNOWN = {
     ("roam_live/frontend/copymode/render.py", "LinePainter.text", "ESC"): WRITES,
     ("roam_live/frontend/copymode/render.py", "sgr_of", "ESC"): WRITES,
     ("roam_live/frontend/copymode/rows.py", "RowReader.read", "ESC"): LENT,
-    ("roam_live/frontend/copymode/popup.py", "CopyScreen.lines", "ESC"): WRITES,
+    ("roam_live/frontend/copymode/render.py", "CopyScreen.lines", "ESC"): WRITES,
     ("roam_live/protocol/colours.py", "ANSWER", "re"): COLOURS,
     ("roam_live/protocol/colours.py", "ANSWER", "ESC"): COLOURS,
     ("roam_live/protocol/colours.py", "ASKED", "ESC"): WRITES,

@@ -15,8 +15,7 @@ from roam_live.frontend import app, command_line, window_views
 from roam_live.frontend.app import FrontEnd
 from roam_live.frontend.lists import WINDOWS_LINE
 from roam_live.frontend.modes import CopyPasteMode
-from roam_live.frontend.window_opening import DROPPED, LATE, LISTS, NOT_AWAITED, NO_ROOM, OPENING, OPENS, SMALL, TAKES_LONG
-from roam_live.frontend.windows import BY_HAND, FAR
+from roam_live.frontend.windows import BY_HAND, DROPPED, FAR, LATE, LISTS, NOT_AWAITED, NO_ROOM, OPENING, OPENS, SMALL, TAKES_LONG
 from roam_live.input.keys import acts_of_bytes
 from roam_live.protocol.panes import Places, Rect
 from test_display import PlayedPanes, painting, places

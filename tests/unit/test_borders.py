@@ -3,8 +3,8 @@ import random
 import unittest
 
 from aids import Case
-from roam_live.frontend.resize_keys import NO_PANE
 from roam_live.frontend.borders import LEAST, PaneSplit, border_at, end_of, least_of, panes_of, splits_of, way_between
+from roam_live.frontend.resize_keys import NO_PANE
 from roam_live.input.mouse_reports import MouseReport, is_wanted, report_of
 from roam_live.protocol.panes import Places, Rect
 from test_mouse import Pointed

@@ -9,11 +9,10 @@ from aids import Case
 from copied import CASES, KNOWN, TEXT, answer_all, copied_by_roam, found_row, mode_of, rows_of, typed
 from emulated import Emulated
 from roam_live.config.environment import wants_vi
-from roam_live.frontend.copymode import clipboard, motions, selection
+from roam_live.frontend.copymode import controller, motions, selection
 from roam_live.frontend.copymode.actions import COPY, LEAVE, REFRESH
-from roam_live.frontend.copymode.commands import COMMANDS, MOVES, STEPS
 from roam_live.frontend.copymode.keys import EMACS, VI, Count, KeyPairs, Prompt
-from roam_live.frontend.copymode.mode import CopyMode
+from roam_live.frontend.copymode.mode import COMMANDS, MOVES, STEPS, CopyMode
 from roam_live.frontend.copymode.render import LinePainter, sgr_of
 from roam_live.frontend.copymode.rows import (MOST_BYTES, MOST_COLS, MOST_JOINED, MOST_ROW_BYTES, ROW_BYTES, Missing, MissingRows, Rows,
                                               row_of, width_of)
@@ -177,7 +176,7 @@ class Asked(unittest.TestCase):
             with mock.patch.object(selection, "MOST_COPIED", most):
                 found = typed(mode_of(text, False, SIZE), [b"\x1b<", b"\x00", b"\x1b>", b"\x1bw"])[-1].text.gather()
             self.assertEqual(found and len(found), length)
-        self.assertEqual((selection.MOST_COPIED, clipboard.MOST_COPIED), (1 << 20, 1 << 20))
+        self.assertEqual((selection.MOST_COPIED, controller.MOST_COPIED), (1 << 20, 1 << 20))
 
     def test_prompt(self):
         """The line that is asked for is edited; what is pasted into it is a line of it, and it has a bound."""

@@ -7,9 +7,8 @@ from aids import Case
 from scrollback_played import PlayedScrollback
 from roam_live.frontend import lists
 from roam_live.frontend.copymode import selection
-from roam_live.frontend.copymode.clipboard import MOST_COPIED
-from roam_live.frontend.copymode.controller import MOST_WAITING, NO_ROOM
-from roam_live.frontend.copymode.row_requests import LENDS, GONE, MOST_ASKED, WAITING, WAITS
+from roam_live.frontend.copymode.controller import MOST_COPIED, MOST_WAITING, NO_ROOM
+from roam_live.frontend.copymode.state import GONE, LENDS, MOST_ASKED, WAITING, WAITS
 from roam_live.frontend.line_editor import AskedLine
 from roam_live.protocol.display_records import DisplayRecord
 from roam_live.protocol.panes import Places, Rect

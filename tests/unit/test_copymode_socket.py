@@ -1,6 +1,6 @@
 """Copy mode at the host's socket `host`: what it asks and what it makes of the answers, with a filter that is played."""
 from aids import Case, LinkedClient
-from roam_live.frontend.copymode.row_requests import GONE
+from roam_live.frontend.copymode.state import GONE
 from roam_live.protocol.panes import Places, Rect
 from test_display import Person
 from test_scrollback_queries import Rows

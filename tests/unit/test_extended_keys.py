@@ -6,7 +6,7 @@ from lived import Attached, Lived
 from modes_played import PlayedModes
 from roam_live.config.environment import choose_by_file
 from roam_live.config.loader import Binding
-from roam_live.frontend.outer_modes import OuterModes
+from roam_live.frontend.outer_terminal import OuterModes
 from roam_live.input.extended_keys import ANSWERED, BACK_TAB, QUERY, WANTED, answered, extended_key, form_for
 from roam_live.input.key_names import named, named_key, names_of_key
 from roam_live.input.keys import Key, Keys, acts_of, key_of

@@ -4,8 +4,7 @@ import unittest
 from aids import Case
 from roam_live.config.command_table import DEFAULT_KEYS
 from roam_live.config.loader import Binding
-from roam_live.frontend.bindings import help_with
-from roam_live.frontend.bindings import help_of
+from roam_live.frontend.bindings import help_of, help_with
 from test_display import Person
 
 OWN = {

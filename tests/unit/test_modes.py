@@ -10,12 +10,11 @@ from roam_live.frontend import effects, modes
 from roam_live.frontend.bindings import NEWEST, Keymap, help_with
 from roam_live.frontend.copymode.keys import KeyPairs
 from roam_live.frontend.effects import (AddPaste, BeginPaste, ClearStatus, CloseHelp, CloseList, ClosePane, CopyKey, CopyText, DrawList,
-                                        EndPaste, EnterLine, HidePrompt, HoldKey, OfferPaste, PassKey, Perform, PopMode,
-                                        ScrollHelp,
+                                        EndPaste, EnterLine, HidePrompt, HoldKey, OfferPaste, PassKey, Perform, PopMode, ScrollHelp,
                                         SendLiteral, SendRequest, ShowPrompt, ShowStatus, TellUnbound, TypeActs, TypeKey)
 from roam_live.frontend.line_editor import AskedLine
-from roam_live.frontend.modes import (ConfirmMode, CopyKeysMode, CopyPasteMode, HelpMode, HoldMode, LineMode, ListLine, ListMode, ModeStack,
-                                      PastingMode, PickingMode, PlainMode, PrefixMode, PushMode, ScrollMode)
+from roam_live.frontend.modes import (ConfirmMode, CopyKeysMode, CopyPasteMode, HelpMode, HoldMode, LineMode, ListLine, ListMode,
+                                      ModeStack, PastingMode, PickingMode, PlainMode, PrefixMode, PushMode, ScrollMode)
 from roam_live.input.keys import Key, Keys
 
 MAN = pathlib.Path(__file__).resolve().parents[2] / "docs/man/roam-mux.1"

@@ -2,7 +2,7 @@
 import unittest
 from unittest import mock
 
-from roam_live.frontend.outer_modes import OuterModes
+from roam_live.frontend.outer_terminal import OuterModes
 from roam_live.input.keys import Key, Keys, acts_of_bytes
 from roam_live.input.mouse_reports import ASKED, MOUSE, OFF, MouseReport, is_wanted, report_of, sent, tracking_of
 

@@ -4,7 +4,7 @@ import unittest
 from unittest import mock
 
 from aids import Case, read_now
-from roam_live.frontend.outer_modes import CLIP_BEGIN, CLIP_END, TITLE_BACK, TITLE_KEPT, ClipboardWriter, OuterModes, shaped, titled
+from roam_live.frontend.outer_terminal import CLIP_BEGIN, CLIP_END, TITLE_BACK, TITLE_KEPT, ClipboardWriter, OuterModes, shaped, titled
 
 
 class Given(unittest.TestCase):

@@ -5,9 +5,8 @@ from unittest import mock
 from aids import Case, LinkedClient, StillLoop
 from roam_live.frontend import paste
 from roam_live.frontend.effects import ClosePane
-from roam_live.frontend.paste import (BEHIND_IT, COUNTS, DROPPED, DROPS, FULL_BEHIND, HANDING, LOST_WORDS, MOST_BEHIND, NOT_TAKEN,
-                                      TOO_LONG, Pastes, weight)
-from roam_live.frontend.paste import ENDS, NO_ROOM, SHORT, PasteIntake
+from roam_live.frontend.paste import (BEHIND_IT, COUNTS, DROPPED, DROPS, ENDS, FULL_BEHIND, HANDING, LOST_WORDS, MOST_BEHIND, NOT_TAKEN,
+                                      NO_ROOM, SHORT, TOO_LONG, PasteIntake, Pastes, weight)
 from roam_live.input.keys import BRACKETS
 from roam_live.protocol.host_link import LATER, MOST_UNSENT, NO_HOST, STORES_AGAIN
 from roam_live.protocol.panes_client import PAUSES

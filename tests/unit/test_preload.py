@@ -6,13 +6,14 @@ import sys
 from unittest import mock
 
 from aids import Case, StillLoop, record
-from roam_live.frontend import preload, status_line
+from roam_live.frontend import connection, status_line
+from roam_live.frontend.commands import REPLACED
+from roam_live.frontend.connection import BEGINS, MODULES, STEP, Preloading
 from roam_live.frontend.copymode import controller
-from roam_live.frontend.preload import BEGINS, MODULES, REPLACED, STEP, Preloading
 from test_display import painting
 from test_app import Fronts
 
-LIVE = pathlib.Path(preload.__file__).resolve().parents[2]
+LIVE = pathlib.Path(connection.__file__).resolve().parents[2]
 
 # What a process has loaded in which a front end runs: `mux`, or `attach`.
 ROOTS = ("roam_live.frontend.app", "roam_live.session.lookup", "roam_live.session.port_session")

@@ -4,9 +4,8 @@ import unittest
 
 from lived import Attached, Lived, by_chance
 from roam_live.frontend import resize_keys
+from roam_live.frontend.borders import Evened, PaneSplit, border_at, end_of, panes_of, splits_of
 from roam_live.frontend.resize_keys import NO_PANE
-from roam_live.frontend.borders import PaneSplit, border_at, end_of, panes_of, splits_of
-from roam_live.frontend.split_math import Evened
 from roam_live.protocol.panes import Places, Rect
 
 KEYS = {"up": b"\x02\x1b[1;5A", "down": b"\x02\x1b[1;5B", "right": b"\x02\x1b[1;5C", "left": b"\x02\x1b[1;5D"}

@@ -3,8 +3,8 @@ import unittest
 
 from lived import Lived, by_chance
 from roam_live.common.tty import MOST
-from roam_live.frontend.borders import least_of, splits_of
-from roam_live.frontend.split_math import Evened, above, area_of, growths, laid, length_of, row_of, size_at, size_for, split_sizes
+from roam_live.frontend.borders import (Evened, above, area_of, growths, laid, least_of, length_of, row_of, size_at, size_for,
+                                        split_sizes, splits_of)
 from roam_live.protocol.panes import Rect
 
 SIZES = ((24, 80), (50, 160))

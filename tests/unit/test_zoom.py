@@ -5,8 +5,8 @@ import unittest
 from lived import Attached, Lived, by_chance
 from roam_live.common.tty import MOST
 from roam_live.frontend import sizes, zoom
+from roam_live.frontend.borders import above, size_at, size_for
 from roam_live.frontend.session_size import REFUSES
-from roam_live.frontend.split_math import above, size_at, size_for
 from roam_live.protocol.display_records import DisplayRecord
 from roam_live.protocol.panes import Places, Rect
 from roam_live.protocol.zoom_record import MOST_ASKED, NO_ZOOM, NotedZoom, ZoomNote, note_in, zoomed_in

@@ -16,8 +16,7 @@ from roam_live.frontend.connection import PROBES, SIZES, Connecting
 from roam_live.frontend.display import Display
 from roam_live.frontend.interpreter import Interpreter
 from roam_live.frontend.modes import ModeStack
-from roam_live.frontend.settings import FrontSettings
-from roam_live.frontend.settings import StatusRow, format_values
+from roam_live.frontend.settings import FrontSettings, StatusRow, format_values
 from roam_live.frontend.window_views import LOSS_TOLD, ViewMaker, WindowView, WindowViews
 from roam_live.frontend.windows import WindowWishes
 from roam_live.protocol.client_link import LAST_WAIT

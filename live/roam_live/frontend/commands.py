@@ -6,23 +6,20 @@ from collections.abc import Callable
 from roam_live.common import tty
 from roam_live.common.event_loop import Loop
 from roam_live.frontend.display import Display
-from roam_live.frontend.zoom import LeftZoom
 from roam_live.frontend.lists import Lists
 from roam_live.frontend.modes import CopyPasteMode, ModeStack, PastingMode, ScrollMode
 from roam_live.frontend.mouse import Pointing
-from roam_live.frontend.pane_actions import PaneActions
-from roam_live.frontend.preload import REPLACED
+from roam_live.frontend.pane_actions import Handing, PaneActions
 from roam_live.frontend.resize_keys import BorderKeys
 from roam_live.frontend.session_size import SessionSize
 from roam_live.frontend.size_follower import SizeFollower
 from roam_live.frontend.sizes import NO_SIZE
-from roam_live.frontend.spawn_commands import Handing
 from roam_live.frontend.synchronize_panes import Synchronizing
 from roam_live.frontend.window_acts import WindowActs
-from roam_live.frontend.zoom import Zooming
+from roam_live.frontend.zoom import LeftZoom, Zooming
 from roam_live.input.extended_keys import form_for
 from roam_live.input.keys import INTERRUPT, Key, acts_of
-from roam_live.protocol.client_link import ClientLink, TYPES
+from roam_live.protocol.client_link import TYPES, ClientLink
 from roam_live.protocol.host_client import HostClient
 from roam_live.protocol.panes import Places
 from roam_live.protocol.panes_client import PanesSubscriber
@@ -45,7 +42,8 @@ OTHERS_STAY = "the others can't be detached: the pty host doesn't answer"
 OF_WINDOW = ("fit", "others", "size", "requested size", "motion", "border", "untold", "even", "zoom", "zoom left", "zoom comes",
              "synchronize")
 
-# So many seconds a line stands that tells that roam was replaced.
+# What is told if a module can't be imported, and for how many seconds.
+REPLACED = "roam was replaced; detach and attach"
 REPLACED_TOLD = 3.0
 
 

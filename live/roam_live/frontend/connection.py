@@ -1,5 +1,5 @@
 """A front end's connection to the client process of the window where the person is: it is had again where it is lost, and a person is told
-where lines that were typed aren't taken."""
+where lines that were typed aren't taken. While nothing else is to be done it imports what may be needed later."""
 from __future__ import annotations
 
 import os
@@ -9,10 +9,50 @@ from roam_live.common.event_loop import Loop
 from roam_live.frontend.bindings import NEWEST
 from roam_live.frontend.last_row import LastRow
 from roam_live.frontend.modes import ScrollMode
-from roam_live.frontend.preload import Preloading
 from roam_live.frontend.window_views import WindowViews
 from roam_live.protocol.client_link import ClientLink
 from roam_live.protocol.display_records import DisplayRecord
+
+# What the modules of a front end import inside of functions, in an order in which none brings many others.
+MODULES = (
+    "roam_live.frontend.copymode.keys", "roam_live.frontend.copymode.rows", "roam_live.protocol.screen_cells",
+    "roam_live.frontend.copymode.motions", "roam_live.frontend.copymode.search", "roam_live.frontend.copymode.selection",
+    "roam_live.frontend.copymode.viewport", "roam_live.frontend.copymode.actions", "roam_live.frontend.copymode.mode",
+    "roam_live.frontend.copymode.state", "roam_live.frontend.copymode.render", "roam_live.frontend.copymode.mouse", "base64",
+    "roam_live.frontend.copymode.controller", "roam_live.config.parser", "roam_live.config.loader", "roam_live.config.formats", "shlex",
+    "traceback",
+)
+
+# So many seconds after the first painting they begin, and so many lie between two: a key isn't kept waiting by more than one.
+BEGINS = 0.2
+STEP = 0.01
+
+
+class Preloading:
+    """The imports of one front end, each in a turn of its loop."""
+
+    def __init__(self, loop: Loop) -> None:
+        self.loop = loop
+        self.left = list(MODULES)
+        self.has_begun = False
+
+    def begin(self) -> None:
+        """Begin, if that wasn't done before."""
+        if not self.has_begun:
+            self.has_begun = True
+            self.loop.later("import", BEGINS, self.step)
+
+    def step(self) -> None:
+        """Import the next module that isn't there yet. ImportError where it can't be imported: the rest is left then."""
+        if self.left:
+            name, *self.left = self.left
+            try:
+                __import__(name)
+            except ImportError:
+                self.left = []
+                raise
+            self.loop.later("import", STEP, self.step)
+
 
 # What the moment is called at which it is looked again, and how many seconds lie between two looks.
 MOMENT = "untaken"

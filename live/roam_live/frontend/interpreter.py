@@ -10,12 +10,11 @@ from roam_live.common.event_loop import Loop
 from roam_live.config.environment import ESCAPE_TIME, number_of
 from roam_live.config.user_file import OWN
 from roam_live.frontend import effects
-from roam_live.frontend.bindings import OWN as OWN_KEY, PICKS, help_with
-from roam_live.frontend.bindings import FOOT, help_of
+from roam_live.frontend.bindings import FOOT, OWN as OWN_KEY, PICKS, help_of, help_with
 from roam_live.frontend.commands import Commands
 from roam_live.frontend.display import Display
 from roam_live.frontend.effects import Effect
-from roam_live.frontend.modes import (CopyKeysMode, CopyPasteMode, GOES, HelpMode, HoldMode, LineMode, Mode, ModeStack, PastingMode,
+from roam_live.frontend.modes import (GOES, CopyKeysMode, CopyPasteMode, HelpMode, HoldMode, LineMode, Mode, ModeStack, PastingMode,
                                       PickingMode, leaves_paused, under_notice, while_paused)
 from roam_live.input.extended_keys import ANSWERED
 from roam_live.input.key_names import spelled

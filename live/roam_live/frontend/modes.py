@@ -4,11 +4,11 @@ No mode knows the front end, a socket or a terminal. A mode may change only itse
 """
 from __future__ import annotations
 
-from roam_live.frontend.bindings import BINDINGS, BORDERS, DIGITS, Keymap, MOST_VIEW, NEWEST, PICKS, REPEATS, WISHES, with_meta
+from roam_live.frontend.bindings import BINDINGS, BORDERS, DIGITS, MOST_VIEW, NEWEST, PICKS, REPEATS, WISHES, Keymap, with_meta
 from roam_live.frontend.effects import (AddPaste, BeginPaste, ClearStatus, CloseHelp, CloseList, CopyKey, CopyText, DrawList, Effect,
                                         EndPaste, EnterLine, HidePrompt, HoldKey, OfferPaste, PassKey, Perform, PopMode, ScrollHelp,
                                         SendLiteral, ShowPrompt, ShowStatus, TellUnbound, TypeActs, TypeKey)
-from roam_live.frontend.line_editor import AskedLine, LEAVES, TAKES
+from roam_live.frontend.line_editor import LEAVES, TAKES, AskedLine
 from roam_live.input.keys import Key, acts_of
 
 TYPE_CHECKING = False

@@ -4,9 +4,9 @@ from __future__ import annotations
 
 from collections.abc import Callable
 
-from roam_live.frontend.resize_keys import BorderDrag
 from roam_live.frontend.borders import border_at
 from roam_live.frontend.modes import ScrollMode
+from roam_live.frontend.resize_keys import BorderDrag
 from roam_live.frontend.window_acts import WindowActs
 from roam_live.input.mouse_reports import DOWN, UP, Clicks, MouseReport, is_wanted, report_of, sent, tracking_of
 from roam_live.protocol.panes import Places, Rect

@@ -6,7 +6,7 @@ from collections.abc import Callable, Iterable, Sequence
 
 from roam_live.common.event_loop import Loop
 from roam_live.input.keys import pasted_acts
-from roam_live.protocol.client_link import ClientLink, TYPES
+from roam_live.protocol.client_link import TYPES, ClientLink
 from roam_live.protocol.host_client import HostClient
 from roam_live.protocol.host_link import INSERTED, LATER, LOST, NO_HOST, STORED
 from roam_live.protocol.panes import MOVES

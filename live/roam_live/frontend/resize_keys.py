@@ -4,9 +4,8 @@ from __future__ import annotations
 from collections import deque
 from collections.abc import Callable
 
-from roam_live.frontend.borders import MOST_GROWTH, Border, begin_of, border_at, end_of, is_told_by_numbers, splits_of
+from roam_live.frontend.borders import MOST_GROWTH, Border, Evened, begin_of, border_at, end_of, is_told_by_numbers, splits_of
 from roam_live.frontend.session_size import SessionSize
-from roam_live.frontend.split_math import Evened
 from roam_live.frontend.window_acts import WindowActs
 from roam_live.frontend.zoom import FOCUS_WAIT, Zooming
 from roam_live.protocol.panes import BESIDE, Places, Rect

@@ -6,8 +6,7 @@ Nothing here knows a terminal, a socket or a clock, so each decision is tested a
 from __future__ import annotations
 
 from roam_live.common import tty
-from roam_live.frontend.borders import splits_of
-from roam_live.frontend.split_math import above, area_of, laid, size_for
+from roam_live.frontend.borders import above, area_of, laid, size_for, splits_of
 from roam_live.protocol.panes import Places, Rect
 from roam_live.protocol.zoom_record import MOST_ASKED, ZoomNote
 

@@ -9,9 +9,8 @@ from roam_live.frontend.display import Display
 from roam_live.frontend.effects import Effect
 from roam_live.frontend.line_editor import AskedLine
 from roam_live.frontend.modes import ConfirmMode, CopyPasteMode, LineMode, ModeStack, PastingMode, ScrollMode
-from roam_live.frontend.paste import Pastes
-from roam_live.frontend.paste import PasteIntake
-from roam_live.protocol.client_link import ClientLink, TYPES
+from roam_live.frontend.paste import PasteIntake, Pastes
+from roam_live.protocol.client_link import TYPES, ClientLink
 from roam_live.protocol.host_client import HostClient
 from roam_live.protocol.panes import MOVES, Places
 from roam_live.protocol.panes_client import PanesSubscriber

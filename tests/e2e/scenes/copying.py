@@ -6,7 +6,7 @@ import time
 
 from copied import CASES, KNOWN, TEXT, copied_by_roam
 from tried import SESSION, WAIT, Outer, check, comes, is_part_of, noted, said, scene, told_cells, tool
-from roam_live.frontend.outer_modes import CLIP_BEGIN, CLIP_END
+from roam_live.frontend.outer_terminal import CLIP_BEGIN, CLIP_END
 from scenes.machines import ssh_words
 from scenes.mouse import points
 

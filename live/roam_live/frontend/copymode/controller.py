@@ -2,23 +2,83 @@
 while the session goes on below. Nobody else sees of it. What is typed waits in order for the rows that it needs."""
 from __future__ import annotations
 
+from base64 import b64encode
 from collections.abc import Callable
 
-from roam_live.config.environment import wants_vi
+from roam_live.config.environment import may_set_clipboard, wants_vi
 from roam_live.frontend.copymode.actions import LEAVE, REFRESH, CopyWish
-from roam_live.frontend.copymode.clipboard import CopiedTexts
 from roam_live.frontend.copymode.keys import KeyPairs
 from roam_live.frontend.copymode.mode import CopyMode
 from roam_live.frontend.copymode.mouse import CopyPointing
-from roam_live.frontend.copymode.popup import CopyScreen
-from roam_live.frontend.copymode.row_requests import GONE, CopyAsking, SnapshotAsking
+from roam_live.frontend.copymode.render import CopyScreen
 from roam_live.frontend.copymode.rows import MOST_SCREEN_ROWS, Missing, Rows
-from roam_live.frontend.copymode.state import CopyEvent, CopyState, nothing
+from roam_live.frontend.copymode.state import GONE, CopyAsking, CopyEvent, CopyState, SnapshotAsking, nothing
 from roam_live.frontend.modes import CopyKeysMode
 from roam_live.frontend.window_acts import WindowActs
 from roam_live.input.keys import INTERRUPT, Key
 from roam_live.protocol.panes import MOVES
-from roam_live.protocol.scrollback_client import ScrollbackClient, Snapshot
+from roam_live.protocol.scrollback_client import BufferNote, ScrollbackClient, Snapshot
+
+# A text has so many bytes at most, also where it is put behind another.
+MOST_COPIED = 1 << 20
+
+TOO_LONG = "nothing is copied: it has more than 1 MB"
+NOT_KEPT = "{} copied for the clipboard alone: no buffer is kept"
+COPIED = "{} copied; {} ] pastes"
+COPIED_HERE = "{} copied for the clipboard"
+
+
+def counted(text: bytes) -> str:
+    """How much a text is, in words."""
+    lines, letters = text.count(b"\n") + (not text.endswith(b"\n")), len(text.decode("utf-8", "replace"))
+    return f"{lines} lines" if lines > 1 else f"{letters} character{'s' * (letters != 1)}"
+
+
+class CopiedTexts:
+    """Where what one person copies goes."""
+
+    def __init__(self, acts: WindowActs) -> None:
+        self.acts = acts
+
+    def tell(self, line: str) -> None:
+        """Tells a person what became of it."""
+        self.acts.display.row.tell(line, TOLD)
+
+    def take(self, text: bytes | None, is_appended: bool = False) -> None:
+        """Takes a text, to be put behind the newest buffer or to be one; None stands for one that is too long."""
+        scrollback = self.acts.host.scrollback if self.acts.host else None
+        if text is None:
+            self.tell(TOO_LONG)
+        elif text and is_appended and scrollback and not self.acts.link.is_read_only:
+            self.append(scrollback, text)
+        elif text:
+            self.put(text)
+
+    def append(self, scrollback: ScrollbackClient, text: bytes) -> None:
+        """Has a text be put behind the newest buffer."""
+
+        def listed(notes: list[BufferNote] | None) -> None:
+            if notes:
+                scrollback.buffer(notes[0].number, lambda before: self.put((before or b"") + text))
+            else:
+                self.put(text)
+
+        scrollback.buffers(listed)
+
+    def put(self, text: bytes) -> None:
+        """Has a text be a buffer, of who doesn't only watch, and be on the clipboard."""
+        scrollback, acts = self.acts.host.scrollback if self.acts.host else None, self.acts
+        if len(text) > MOST_COPIED:
+            self.tell(TOO_LONG)
+            return
+        if may_set_clipboard():
+            acts.display.outer.set_clip(b64encode(text).decode())
+        if scrollback and not acts.link.is_read_only:
+            told = COPIED.format(counted(text), acts.modes.keymap.name)
+            scrollback.add_buffer(text, lambda number: self.tell(NOT_KEPT.format(counted(text)) if number is None else told))
+        else:
+            self.tell(COPIED_HERE.format(counted(text)))
+
 
 # So many keys and reports wait at most.
 MOST_WAITING = 4096

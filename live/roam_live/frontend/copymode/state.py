@@ -1,13 +1,16 @@
-"""What one person's copy mode is open in, and what was typed there and isn't done yet: the state that its parts share."""
+"""What one person's copy mode is open in, what was typed there and isn't done yet, and what it asks the pty host for: rows of its snapshot
+that aren't here, and where a text is next. One question at a time is on its way; what needs the answer is done again once that is there."""
 from __future__ import annotations
 
 from collections import deque, namedtuple
 from collections.abc import Callable
 
 from roam_live.frontend.copymode.mode import CopyMode
+from roam_live.frontend.copymode.rows import Missing, MissingRows
+from roam_live.frontend.copymode.search import MissingFind
 from roam_live.frontend.window_acts import WindowActs
 from roam_live.protocol.panes import Rect
-from roam_live.protocol.scrollback_client import ScrollbackClient
+from roam_live.protocol.scrollback_client import ScrollbackClient, Snapshot
 
 
 def nothing() -> None:
@@ -47,3 +50,149 @@ class CopyState:
     def is_connecting(self) -> bool:
         """Return True if the host isn't connected, and may be soon."""
         return self.acts.host is not None and self.acts.host.is_connecting()
+
+
+# So many rows are asked for at once at most, and so many pages at first: the one that is needed, and one ahead.
+MOST_ASKED = 2000
+PAGES_ASKED = 2
+
+# Where the connection was lost it is asked again after so many seconds.
+ASKS_AGAIN = 0.1
+
+# So many seconds a host has for lending a snapshot: where it is stopped the view that all share scrolls.
+LENDS = 2.0
+
+# So often it is looked whether the host is connected meanwhile.
+CONNECTS = 0.05
+
+# What is awaited for longer than so many seconds is told.
+WAITS = 0.5
+WAITING = "waiting for rows; C-c leaves"
+GONE = "the rows that were shown aren't kept any more"
+
+
+class CopyAsking:
+    """The questions of one person's copy mode. Two calls go on with what waited for an answer, and close copy mode for a reason."""
+
+    def __init__(self, state: CopyState, goes_on: Callable[[], object], closes: Callable[[str], object]) -> None:
+        self.state, self.goes_on, self.closes = state, goes_on, closes
+        self.loop, self.display = state.acts.loop, state.acts.display
+        # Whether an answer is awaited, and how many rows were asked for last for what is to be done.
+        self.is_waiting = False
+        self.asks = 0
+
+    def end(self) -> None:
+        """Awaits nothing."""
+        self.is_waiting, self.asks = False, 0
+        self.loop.drop("copy asks again")
+        self.settle()
+
+    def tell_later(self) -> None:
+        """Has it be told that an answer is awaited, once that takes long."""
+        if "copy waits" not in self.loop.due:
+            self.loop.later("copy waits", WAITS, lambda: self.display.row.tell(WAITING, None))
+
+    def settle(self) -> None:
+        """Tells no more that an answer is awaited."""
+        self.loop.drop("copy waits")
+        if self.display.row.told == WAITING:
+            self.display.row.end_told()
+
+    def ask(self, lack: Missing) -> None:
+        """Asks for what isn't here."""
+        scrollback = self.state.scrollback()
+        if not scrollback:
+            return
+        self.is_waiting = True
+        self.tell_later()
+        if isinstance(lack, MissingFind):
+            self.ask_find(scrollback, lack)
+        elif isinstance(lack, MissingRows):
+            self.ask_rows(scrollback, lack.row)
+
+    def ask_find(self, scrollback: ScrollbackClient, lack: MissingFind) -> None:
+        """Asks where a text is next."""
+        state, opening = self.state, self.state.opening
+
+        def take(row: int | None) -> None:
+            if not state.mode or opening != state.opening:
+                return
+            if row is None and state.is_connecting():
+                self.loop.later("copy asks again", ASKS_AGAIN, self.answered)
+                return
+            state.mode.finds.put(lack, row)
+            self.answered()
+
+        scrollback.find(state.pane, state.generation, lack.first, lack.is_back, lack.text, take)
+
+    def ask_rows(self, scrollback: ScrollbackClient, row: int) -> None:
+        """Asks for a row and those behind it, or before it where those behind it are here: ever more while one thing needs them."""
+        state, opening = self.state, self.state.opening
+        if not state.mode:
+            return
+        rows = state.mode.rows
+        self.asks = min(MOST_ASKED, max(PAGES_ASKED * state.rect.rows, 2 * self.asks))
+        is_back = rows.has(row + 1)
+        first = max(rows.first, row - self.asks + 1) if is_back else row
+        count = min(self.asks, (row + 1 if is_back else rows.end) - first)
+
+        def take(at: int, lines: list[bytes]) -> None:
+            if not state.mode or opening != state.opening:
+                return
+            rows.put(at, lines[:MOST_ASKED])
+            rows.forget_far(row)
+            if rows.has(row):
+                self.answered()
+            elif lines and first <= at and at + len(lines) <= row:
+                # Fewer came than were asked for.
+                scrollback.rows(state.pane, state.generation, at + len(lines), row - at - len(lines) + 1, take)
+            elif not lines and state.is_connecting():
+                # Rows keep their numbers: they are asked for again once there is another connection.
+                self.loop.later("copy asks again", ASKS_AGAIN, self.answered)
+            else:
+                self.closes(GONE)
+
+        scrollback.rows(state.pane, state.generation, first, count, take)
+
+    def answered(self) -> None:
+        """Goes on with what waited for an answer."""
+        self.is_waiting = False
+        self.settle()
+        self.goes_on()
+
+
+class SnapshotAsking:
+    """Asks for a snapshot of a pane's rows. Calls tell a person later that it is awaited, and take it by the number of the question; None
+    where none is lent."""
+
+    def __init__(self, state: CopyState, tells_later: Callable[[], object], lent: Callable[[int, Snapshot | None], object]) -> None:
+        self.state, self.tells_later, self.lent, self.loop = state, tells_later, lent, state.acts.loop
+
+    def begin(self) -> int:
+        """Waits for what opens it, no longer than for a snapshot; tells its number."""
+        self.state.opening += 1
+        opening, self.state.is_opening = self.state.opening, True
+        self.loop.later("copy opens", LENDS, lambda: self.lent(opening, None))
+        self.tells_later()
+        return opening
+
+    def ask(self, scrollback: ScrollbackClient) -> None:
+        """Asks for a snapshot."""
+        self.ask_connected(self.begin(), scrollback)
+
+    def ask_connected(self, opening: int, scrollback: ScrollbackClient) -> None:
+        """Asks for it once the host is connected, where that may be soon."""
+        if opening != self.state.opening or not self.state.is_opening:
+            return
+        if self.state.is_connecting():
+            self.loop.later("copy connects", CONNECTS, lambda: self.ask_connected(opening, scrollback))
+        else:
+            scrollback.snapshot(self.state.pane, self.state.generation, lambda snapshot: self.answered(opening, scrollback, snapshot))
+
+    def answered(self, opening: int, scrollback: ScrollbackClient, snapshot: Snapshot | None) -> None:
+        """Takes what the host answers. Where the connection was lost instead, as by a relay that goes another way, it is asked again once
+        there is another."""
+        if snapshot is None and self.state.is_connecting():
+            self.ask_connected(opening, scrollback)
+        else:
+            self.lent(opening, snapshot)
