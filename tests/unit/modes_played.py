@@ -2,7 +2,7 @@
 from roam_live.frontend.bindings import Keymap
 from roam_live.frontend.effects import BeginPaste, ClearStatus, Perform, ShowStatus, TellUnbound, TypeActs, TypeKey
 from roam_live.frontend.modes import ModeStack, PickingMode
-from roam_live.input.keys import Keys
+from roam_live.input.keys import Keys, acts_of
 
 
 class PlayedModes:
@@ -68,3 +68,9 @@ class NoWindows:
         """Do nothing, whatever is asked for."""
 
     grant = say = hold = told_panes
+
+
+def acts_of_bytes(text):
+    """Return the acts of bytes that come at once and nothing after them."""
+    keys = Keys()
+    return [act for key in keys.fed(text) + keys.ended() for act in acts_of(key)]

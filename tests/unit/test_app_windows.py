@@ -6,6 +6,7 @@ from unittest import mock
 
 from aids import Case, StillLoop, closed, read_now, record, unled
 from emulated import Emulated
+from modes_played import acts_of_bytes
 from roam_live.common import tty
 from roam_live.common.errors import Fault
 from roam_live.common.event_loop import comes
@@ -16,7 +17,6 @@ from roam_live.frontend.app import FrontEnd
 from roam_live.frontend.lists import WINDOWS_LINE
 from roam_live.frontend.modes import CopyPasteMode
 from roam_live.frontend.windows import BY_HAND, DROPPED, FAR, LATE, LISTS, NOT_AWAITED, NO_ROOM, OPENING, OPENS, SMALL, TAKES_LONG
-from roam_live.input.keys import acts_of_bytes
 from roam_live.protocol.panes import Places, Rect
 from test_display import PlayedPanes, painting, places
 from test_app import AnySession

@@ -1,7 +1,8 @@
 """Keys of bytes: the spellings of xterm and the VT220."""
 import unittest
 
-from roam_live.input.keys import Key, Keys, acts_of, acts_of_bytes
+from modes_played import acts_of_bytes
+from roam_live.input.keys import Key, Keys, acts_of
 
 KEYS = (
     (b"a", "char 61"), (b"\xc3\xa9", "char e9"), (b"\xe2\x82\xac", "char 20ac"), (b"\xf0\x9f\x98\x80", "char 1f600"), (b"\x00", "char 0"),

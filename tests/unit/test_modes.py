@@ -123,7 +123,7 @@ class Each(unittest.TestCase):
         self.check(lambda: PlainMode(keymap), (("x", [TypeKey(["char 78"], Key("x", "x"))]), ("\x02", [PrefixMode]),
                                                (UP, [TypeKey(["key up"], key_in(UP))]),
                                                ("\x1b[200~", [PastingMode, BeginPaste()]), ("\x1b[201~", [])))
-        self.assertEqual(PlainMode(keymap).literal(Key("\x02", "\x02")), [TypeKey(["char 2"], Key("\x02", "\x02"))])
+        self.assertEqual(ModeStack(keymap).literal(Key("\x02", "\x02"), False), [TypeKey(["char 2"], Key("\x02", "\x02"))])
 
     def test_repeats(self):
         """For half a second the next move of a border needs no prefix; each move begins that anew."""
@@ -218,7 +218,7 @@ class Each(unittest.TestCase):
                             ("\x02", [PrefixMode]),
                             ("\x1b[200~", [OfferPaste(paste)]), ("\x1b[1;5A", [CopyKey(key_in("\x1b[1;5A"))])):
             self.assertEqual(kinds(mode.takes(key_in(text), 1.0)), found, text)
-        self.assertEqual(mode.literal(Key("\x02", "\x02")), [CopyKey(Key("\x02", "\x02"))])
+        self.assertEqual(mode.fed(Key("\x02", "\x02")), [CopyKey(Key("\x02", "\x02"))])
         mode.takes(Key("\x1b", "\x1b"), 1.0)
         self.assertEqual([mode.ended(), mode.ended()], [[CopyKey(Key("\x1b", "\x1b"))], []])
         keymap.repeats_until = 2.0

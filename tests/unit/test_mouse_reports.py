@@ -2,8 +2,9 @@
 import unittest
 from unittest import mock
 
+from modes_played import acts_of_bytes
 from roam_live.frontend.outer_terminal import OuterModes
-from roam_live.input.keys import Key, Keys, acts_of_bytes
+from roam_live.input.keys import Key, Keys
 from roam_live.input.mouse_reports import ASKED, MOUSE, OFF, MouseReport, is_wanted, report_of, sent, tracking_of
 
 REPORTS = {

@@ -3,7 +3,7 @@ import unittest
 
 from lived import Lived, by_chance
 from roam_live.common.tty import MOST
-from roam_live.frontend.borders import (Evened, above, area_of, growths, laid, least_of, length_of, row_of, size_at, size_for,
+from roam_live.frontend.borders import (Evened, above, area_of, growths, laid, least_of, length_at, length_of, row_of, size_for,
                                         split_sizes, splits_of)
 from roam_live.protocol.panes import Rect
 
@@ -22,6 +22,11 @@ def is_pushed(parts, rects):
 def row_of_panes(parts):
     """The panes of parts."""
     return [parts] if isinstance(parts, int) else row_of_panes(parts.first) + row_of_panes(parts.second)
+
+
+def size_at(size, splits):
+    """Return a pane's rows and columns if the session has a size."""
+    return length_at(size[0] - 1, splits, "down"), length_at(size[1], splits, "right")
 
 
 class Rule(unittest.TestCase):

@@ -5,7 +5,7 @@ import unittest
 from lived import Attached, Lived, by_chance
 from roam_live.common.tty import MOST
 from roam_live.frontend import sizes, zoom
-from roam_live.frontend.borders import above, size_at, size_for
+from roam_live.frontend.borders import above, size_for
 from roam_live.frontend.session_size import REFUSES
 from roam_live.protocol.display_records import DisplayRecord
 from roam_live.protocol.panes import Places, Rect

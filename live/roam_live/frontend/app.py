@@ -80,7 +80,7 @@ class FrontEnd:
     def values(self) -> dict[str, str]:
         """Return what the words of formats stand for."""
         views, is_zoomed = self.views, self.display.part.zoomed is not None
-        return format_values(self.session.name, views.number, self.windows.told, views.panes, is_zoomed)
+        return format_values(self.session.name, views.number, self.windows.told, views.view.panes, is_zoomed)
 
     def server_ended(self, view: WindowView) -> None:
         """Go on in another window where the server of this one has ended; if there is none the session has."""

@@ -193,11 +193,6 @@ def length_at(whole: int, splits: list[Above], way: str) -> int:
     return whole
 
 
-def size_at(size: tty.Size, splits: list[Above]) -> tty.Size:
-    """A pane's rows and columns where the session has a size."""
-    return length_at(size[0] - 1, splits, "down"), length_at(size[1], splits, "right")
-
-
 def size_for(wanted: tty.Size, least: tty.Size, splits: list[Above]) -> tty.Size:
     """The smallest size of a session, from a least one on, at which a pane has so many rows and columns; the largest one, where none gives
     it as many."""

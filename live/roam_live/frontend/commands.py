@@ -147,7 +147,7 @@ class Commands:
             return
         self.acts.act(*acts[: -len(keys)])
         if key.extended:
-            self.synchronizing.add_key(lambda pane: self.formed(keys, key, pane))
+            self.synchronizing.keys.append(lambda pane: self.formed(keys, key, pane))
         else:
             self.synchronizing.add(keys)
 

@@ -247,4 +247,4 @@ class Connecting:
     def ask_server(self) -> None:
         """Ask the server for a sign of life, if it runs on this machine: a relay would answer in its place."""
         if self.views.view.session.served != "relay":
-            self.views.panes.probe(self.untaken.answered)
+            self.views.view.panes.probe(self.untaken.answered)

@@ -69,7 +69,8 @@ class Display:
         """Ask for what is to be shown if that isn't what was asked for; else if it has to be asked for anew, or be painted."""
         rows, cols = self.outer.size()
         if rows < tty.LEAST_SHOWN[0] or cols < tty.LEAST_SHOWN[1]:
-            self.show("\n".join(filter(None, (too_small(rows, cols), self.row.leaves_line))))
+            line = "{}: {} by {} of {} by {}".format(TOO_SMALL, rows, cols, *tty.LEAST_SHOWN)
+            self.show("\n".join(filter(None, (line, self.row.leaves_line))))
             return
         if self.notice.startswith(TOO_SMALL):
             self.notice, is_painted = "", True
@@ -128,7 +129,7 @@ class Display:
         if record.word == "size":
             self.take_size((record.numbers[0], record.numbers[1]))
         elif record.word == "part":
-            self.part.take_place((record.numbers[0], record.numbers[1]))
+            self.part.place, self.part.is_placed = (record.numbers[0], record.numbers[1]), True
             self.moved()
             self.part.mend_place()
         elif record.word in ("paint", "anew"):
@@ -185,7 +186,7 @@ class Display:
         else:
             self.part.ask_again()
         self.is_masked = self.part.is_stale = True
-        self.says(popup.masks())
+        self.says("mask {} {} {} {}".format(popup.rect.row - 1, popup.rect.col - 1, popup.rect.rows, popup.rect.cols))
 
     def draw(self) -> None:
         """Go by other lines, or another cursor, of what is drawn."""
@@ -251,11 +252,6 @@ def notice_page(text: str, size: tty.Size, first: int, foot: str) -> tuple[list[
         return lines[: max(1, rows)], first, most
     shown = lines[first : first + rows - 1]
     return [*shown, cut(foot.format(first + 1, first + len(shown), len(lines)), cols - 1)], first, most
-
-
-def too_small(rows: int, cols: int) -> str:
-    """What is told of a terminal on which no part of a session has room."""
-    return "{}: {} by {} of {} by {}".format(TOO_SMALL, rows, cols, *tty.LEAST_SHOWN)
 
 
 def wrapped(line: str, width: int) -> list[str]:

@@ -28,6 +28,9 @@ TYPE_CHECKING = False
 if TYPE_CHECKING:
     from roam_live.frontend.interfaces import OtherWindows
 
+# What is told of a key that is not bound.
+UNBOUND = "{0} {1} is not bound; {0} ? shows the keys"
+
 # What a wish begins with that changes a window.
 WINDOW = "window "
 
@@ -78,7 +81,7 @@ class Interpreter:
             effects.EndPaste: lambda asked: now().end_paste(),
             effects.PasteBuffer: lambda asked: now().acts.intake.paste_buffer(asked.number),
             effects.Perform: lambda asked: self.grant(asked.wish),
-            effects.TellUnbound: self.tell_unbound,
+            effects.TellUnbound: lambda asked: display.row.tell(UNBOUND.format(modes.keymap.name, spelled(asked.key))),
             effects.ShowStatus: lambda asked: display.row.tell(asked.line, asked.seconds),
             effects.ClearStatus: lambda asked: display.row.end_told(),
             effects.ShowPrompt: lambda asked: display.row.ask(asked.text, is_typed=True),
@@ -218,11 +221,6 @@ class Interpreter:
         commands = here if here.session.number == asked.number else self.left_window(asked.number)
         if commands:
             commands.acts.act("close")
-
-    def tell_unbound(self, asked: effects.TellUnbound) -> None:
-        """Tell that a key is not bound."""
-        prefix = self.modes.keymap.name
-        self.display.row.tell(f"{prefix} {spelled(asked.key)} is not bound; {prefix} ? shows the keys")
 
     def enter(self, asked: effects.EnterLine) -> None:
         """Take a line that was typed."""

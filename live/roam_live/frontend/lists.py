@@ -27,17 +27,6 @@ LISTED = "line {} of {}: up, down, PgUp and PgDn scroll, q leaves"
 WINDOWS_LINE = "window {}, of {}: Return and a digit go there, up and down choose, q leaves"
 
 
-def buffer_list(keymap: Keymap, notes: list[BufferNote]) -> ListMode:
-    """Return a list of paste buffers, each by its number, its length and its beginning. The chosen one is pasted."""
-    return ListMode(keymap, [ListLine(f"{note.number}: {note.length} bytes: {printable(note.sample)}", LINE.format(note.number, len(notes)),
-                                      PasteBuffer(note.number)) for note in notes])
-
-
-def read_list(keymap: Keymap, lines: list[str]) -> ListMode:
-    """Return a list of lines that are only read."""
-    return ListMode(keymap, [ListLine(line, LISTED.format(place, len(lines))) for place, line in enumerate(lines, 1)])
-
-
 def window_list(keymap: Keymap, described: dict[int, str], chosen: int) -> ListMode:
     """Return a list of windows, by their numbers, of which one is chosen at first. A digit goes to a window at once."""
     lines = [ListLine(text, WINDOWS_LINE.format(number, len(described)), Perform(f"go {number}")) for number, text in described.items()]
@@ -154,7 +143,9 @@ class Lists:
         elif is_newest:
             self.acts.intake.paste_buffer(notes[0].number)
         else:
-            self.open("buffers", buffer_list(self.acts.modes.keymap, notes))
+            lines = [ListLine(f"{note.number}: {note.length} bytes: {printable(note.sample)}", LINE.format(note.number, len(notes)),
+                              PasteBuffer(note.number)) for note in notes]
+            self.open("buffers", ListMode(self.acts.modes.keymap, lines))
 
     # ---- lines, and windows
 
@@ -162,7 +153,8 @@ class Lists:
         """Show lines that are only read, and return True if that is possible: prompts and copy mode go first."""
         if self.acts.modes.pushed and not self.acts.modes.has(HoldMode) or self.acts.paused:
             return False
-        return self.open("lines", read_list(self.acts.modes.keymap, lines))
+        listed = [ListLine(line, LISTED.format(place, len(lines))) for place, line in enumerate(lines, 1)]
+        return self.open("lines", ListMode(self.acts.modes.keymap, listed))
 
     def show_windows(self, described: dict[int, str], here: int) -> bool:
         """Show windows, and return True if that is possible."""

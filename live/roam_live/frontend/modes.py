@@ -42,10 +42,6 @@ class Mode:
         """Return what a key asks for at a moment."""
         raise NotImplementedError
 
-    def literal(self, key: Key) -> list[Effect] | None:
-        """Return what a key asks for as itself, None if it is for the modes below."""
-        return None
-
 
 class PlainMode(Mode):
     """Keys are typed, but for the prefix and keys that are bound without it. It lies below all others."""
@@ -67,10 +63,6 @@ class PlainMode(Mode):
         wish = keymap.own_wish("root", key, now)
         if wish is not None:
             return [Perform(wish)] if wish else []
-        return [TypeKey(acts_of(key), key)]
-
-    def literal(self, key: Key) -> list[Effect] | None:
-        """Return the acts that type a key."""
         return [TypeKey(acts_of(key), key)]
 
 
@@ -254,10 +246,6 @@ class CopyKeysMode(Mode):
             return [PushMode(PrefixMode(self.keymap, is_over_copy=True))]
         return self.fed(key)
 
-    def literal(self, key: Key) -> list[Effect] | None:
-        """Return what a key asks for as itself."""
-        return self.fed(key)
-
     def fed(self, key: Key) -> list[Effect]:
         """Return the keys that are whole now."""
         return [CopyKey(whole) for whole in self.pairs.fed(key)]
@@ -362,9 +350,8 @@ class ModeStack:
         return found
 
     def literal(self, key: Key, is_covered: bool) -> list[Effect]:
-        """Return what a key asks for as itself."""
-        drawn = self.drawn.literal(key) if self.drawn and not is_covered else None
-        return (drawn if drawn is not None else self.plain.literal(key)) or []
+        """Return what a key asks for as itself: it is copy mode's, or typed."""
+        return self.drawn.fed(key) if isinstance(self.drawn, CopyKeysMode) and not is_covered else [TypeKey(acts_of(key), key)]
 
     # ---- the scroll mode
 

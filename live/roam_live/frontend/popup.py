@@ -23,10 +23,6 @@ class Popup:
         self.shown: list[bytes] = []
         self.is_placed = False
 
-    def masks(self) -> str:
-        """The line by which nothing is painted there."""
-        return "mask {} {} {} {}".format(self.rect.row - 1, self.rect.col - 1, self.rect.rows, self.rect.cols)
-
     def lifted(self) -> bytes:
         """What is written before a painting: the cursor stands where the last one left it."""
         was_placed, self.is_placed = self.is_placed, False

@@ -208,7 +208,7 @@ class BorderKeys:
         is_same = self.drag is not None and self.drag.aim > 0 and (self.drag.border.way, self.drag.border.before) == (way, border.before)
         if not is_same or not self.drag:
             self.drop()
-            self.drag = BorderDrag(self.acts, border, self.end_move, "border by key")
+            self.drag = BorderDrag(self.acts, border, self.drop, "border by key")
         at = self.drag.aim if is_same else border.at(places.rects)
         self.pull(self.drag, at + sum(BESIDE[side]))
 
@@ -223,10 +223,6 @@ class BorderKeys:
         drag.to(aim, aim)
         if self.drag is drag:
             drag.let_go()
-
-    def end_move(self) -> None:
-        """Moves it no more."""
-        self.drag = None
 
     def drop(self) -> None:
         """Forgets a border that goes."""

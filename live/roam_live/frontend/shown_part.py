@@ -122,10 +122,6 @@ class ShownPart:
         self.is_stale = True
         self.says("repaint")
 
-    def take_place(self, place: tuple[int, int]) -> None:
-        """Take where the part begins that is painted."""
-        self.place, self.is_placed = place, True
-
     def mend_place(self) -> None:
         """Ask for another part if the one that is shown has the session's own status row. The client chooses a part over the screen that it
         has, and may have the new one of a session that became smaller only after that was told here. What has all panes begins at the first

@@ -131,10 +131,6 @@ class Synchronizing:
         """Acts of a key are typed, or of many."""
         self.keys += [partial(part, acts[begin : begin + MOST_OF_KEY]) for begin in range(0, len(acts), MOST_OF_KEY)]
 
-    def add_key(self, key: Typed) -> None:
-        """A key is typed, which types something else in each pane."""
-        self.keys.append(key)
-
     def settle(self, is_last: bool = False) -> None:
         """Types the keys that were typed; while it isn't told where the focus is they wait, but for the last time to wait."""
         if not self.keys:

@@ -54,10 +54,6 @@ class WindowActs:
         self.focus_moves: Callable[[tuple[str, ...]], object] = lambda acts: None
         self.borders_move: Callable[[], bool] = lambda: False
 
-    def follow_panes(self, panes: PanesSubscriber) -> None:
-        """Go by what another subscriber reports of the panes."""
-        self.panes = self.intake.panes = panes
-
     # ---- acts
 
     def act(self, *acts: str) -> None:

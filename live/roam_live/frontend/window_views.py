@@ -11,7 +11,6 @@ from roam_live.common.event_loop import Loop
 from roam_live.common.process import opened_process
 from roam_live.frontend.commands import Commands
 from roam_live.frontend.interpreter import Interpreter
-from roam_live.frontend.lists import Lists
 from roam_live.frontend.settings import FrontSettings
 from roam_live.frontend.sizes import NO_SIZE
 from roam_live.frontend.window_acts import WindowActs
@@ -74,8 +73,8 @@ class WindowView:
 
     def take_up(self, panes: PanesSubscriber) -> None:
         """Follow the window again, by another subscription of its panes."""
-        self.panes = panes
-        self.commands.acts.follow_panes(panes)
+        acts = self.commands.acts
+        self.panes = acts.panes = acts.intake.panes = panes
         self.reconnector.is_full = panes.is_full
 
     def is_over(self) -> bool:
@@ -243,11 +242,6 @@ class WindowViews:
         return self.view.link
 
     @property
-    def panes(self) -> PanesSubscriber:
-        """What is known of the window's panes."""
-        return self.view.panes
-
-    @property
     def commands(self) -> Commands:
         """What is done in the window."""
         return self.view.commands
@@ -256,11 +250,6 @@ class WindowViews:
     def acts(self) -> WindowActs:
         """What the person types in the window."""
         return self.view.commands.acts
-
-    @property
-    def lists(self) -> Lists:
-        """The list that is open there."""
-        return self.view.commands.lists
 
     def all_commands(self) -> list[Commands]:
         """Return what is done in each window, in the one where the person is first."""

@@ -216,7 +216,8 @@ class WindowWishes:
         self.visited: list[int] = []
         # The numbers of those whose labels stand in the last row.
         self.shown: list[int] = []
-        self.waiting = WindowOpening(views, self.numbers, self.go_to, lambda line: self.asks(line, self.here()), self.show_list)
+        self.waiting = WindowOpening(views, self.numbers, self.go_to, lambda line: self.asks(line, self.here()),
+                                     lambda: views.commands.lists.show_windows(self.all_described(), self.here()))
 
     def begin(self) -> None:
         """Follows them, where there may be some."""
@@ -294,7 +295,7 @@ class WindowWishes:
             # A settings file may have more of a name stand there than a label has.
             display.row.windows = labels, place
             display.row.put()
-        lists = self.views.lists
+        lists = self.views.commands.lists
         if lists.kind == "windows":
             lists.refresh_windows(self.all_described())
 
@@ -371,10 +372,6 @@ class WindowWishes:
     def go_to_shown(self, place: int) -> None:
         """Goes to the window whose label stands at a place in the last row."""
         self.go_to(self.shown[place])
-
-    def show_list(self) -> bool:
-        """Shows a list of the windows, and tells whether that can be."""
-        return self.views.lists.show_windows(self.all_described(), self.here())
 
     def asks(self, line: str, number: int = SESSION) -> bool:
         """Says a line about a window, or about the session, to the host where it is there, and tells whether it is."""

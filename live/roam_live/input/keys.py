@@ -146,9 +146,3 @@ def pasted_acts(text: str, is_bracketed: bool) -> list[str]:
     if not is_bracketed:
         return acts_of(Key("text", text))
     return [*BRACKETS[0], *(f"char {ord(letter):x}" for letter in text), *BRACKETS[1]]
-
-
-def acts_of_bytes(text: bytes) -> list[str]:
-    """The acts of bytes that come at once and nothing after them."""
-    keys = Keys()
-    return [act for key in keys.fed(text) + keys.ended() for act in acts_of(key)]

@@ -94,10 +94,6 @@ class CopyActions:
         self.prompt = Prompt(command, self.sought if command.endswith("-incremental") else "")
         self.origin = self.view.position, self.view.top
 
-    def ask_search(self) -> None:
-        """Asks what is searched for in the rows above."""
-        self.ask("search-backward" if self.is_vi else "search-backward-incremental")
-
     def search(self, text: str, is_back: bool) -> None:
         """Goes to the next place at which a text stands, round the end, and tells where it stands nowhere."""
         self.sought, self.is_back, self.is_marked, self.match = text, is_back, True, None

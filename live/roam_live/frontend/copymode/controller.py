@@ -116,7 +116,7 @@ class Copying:
     def start(self, wish: str, instead: Callable[[], object]) -> None:
         """Open it in the pane in focus, a page up or in its search on request; if no rows are lent something else is done instead."""
         begins = {"copy page": [CopyEvent(lambda mode: mode.perform("page-up"))],
-                  "copy search": [CopyEvent(lambda mode: mode.ask_search())]}.get(wish, [])
+                  "copy search": [CopyEvent(lambda mode: mode.ask("search-backward" if mode.is_vi else "search-backward-incremental"))]}.get(wish, [])
         focus = self.acts.focus()
         if self.state.is_on():
             self.add(*begins)

@@ -41,11 +41,6 @@ def sgr_of(style: Style) -> str:
     return f"\x1b[{';'.join(numbers)}m"
 
 
-def line_matches(mode: CopyMode, row: int) -> list[Match]:
-    """The matches of what is searched for in a row: as far as the rows round it are here."""
-    return matches(mode.rows, row, mode.sought, True) if mode.is_marked else []
-
-
 @functools.lru_cache(maxsize=1024)
 def reversed_of(style: Style) -> Style:
     """A style of what is selected: reversed, or not where it was."""
@@ -87,7 +82,8 @@ class LinePainter:
         row = line[0]
         content = self.mode.rows.row(row)
         if row not in self.found:
-            self.found[row] = line_matches(self.mode, row)
+            # As far as the rows round it are here.
+            self.found[row] = matches(self.mode.rows, row, self.mode.sought, True) if self.mode.is_marked else []
         begin, end = self.mode.rows.span_of(line)
         end = min(end, begin + self.cols)
         letters = [content.at(col) for col in range(begin, end)]

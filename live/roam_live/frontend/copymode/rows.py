@@ -21,10 +21,9 @@ MOST_JOINED = 16
 # pane is that much wider. One that lacks more is taken for one of a narrower pane.
 MOST_LEFT_OUT = 8
 
-# What no terminal is written, nor a buffer: the directions of writing. A joiner of other characters is none of those.
-FORMATS = {"Cf"}
+# What no terminal is written, nor a buffer: controls, and the directions of writing. A joiner of other characters is none of those.
+UNSEEN = {"Cf", "Cc", "Cs", "Zl", "Zp"}
 JOINERS = "\u200c\u200d"
-CONTROLS = {"Cc", "Cs", "Zl", "Zp"}
 
 # Hangul's medial vowels and final consonants join the consonant before them.
 HANGUL_JOINS = range(0x1160, 0x1200)
@@ -88,12 +87,6 @@ def width_of(letter: str) -> int:
     return 2 if unicodedata.east_asian_width(letter) in "WF" else 1
 
 
-def is_harmless(letter: str) -> bool:
-    """Whether a character may stand in a cell: no control, and no format character but a joiner."""
-    kind = unicodedata.category(letter)
-    return letter in JOINERS or kind not in FORMATS and kind not in CONTROLS
-
-
 class RowReader:
     """Reads what the filter prints for a row: characters, and SGR between them. What is anything else is a `?`, or nothing."""
 
@@ -126,8 +119,8 @@ class RowReader:
             if len(self.letters) >= MOST_COLS:
                 return
             width = width_of(letter)
-            if not is_harmless(letter):
-                letter, width = "?", width
+            if letter not in JOINERS and unicodedata.category(letter) in UNSEEN:
+                letter = "?"
             if width:
                 self.letters += [letter] + [""] * (width - 1)
                 self.styles += [self.style] * width
@@ -295,10 +288,6 @@ class Rows:
     def first_line(self) -> Line:
         """The first line."""
         return self.first, 0
-
-    def last_line(self) -> Line:
-        """The last line."""
-        return self.last(), len(self.begins(self.last())) - 1
 
     def lines_from(self, top: Line, count: int) -> list[Line]:
         """So many lines from one on, as far as there are."""

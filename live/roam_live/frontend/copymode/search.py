@@ -44,11 +44,6 @@ class Finds:
             raise MissingFind(first, is_back, text) from None
 
 
-def is_cased(text: str) -> bool:
-    """Whether case counts in a search for a text: where it has a capital."""
-    return any(letter.isupper() for letter in text)
-
-
 def joined(rows: Rows, row: int, is_here: bool) -> tuple[int, int]:
     """The first and the last of the rows that go on to one and from it, not too many; those that are here alone, where that is asked."""
     first = last = row
@@ -76,8 +71,8 @@ def matches(rows: Rows, row: int, text: str, is_here: bool = False) -> list[Matc
             letters += letter
             positions += [(number, col)] * len(letter)
     whole = "".join(letters)
-    if not is_cased(text):
-        # A character that becomes more than one would move what is behind it.
+    if not any(letter.isupper() for letter in text):
+        # Case counts if the text has a capital. A character that becomes more than one would move what is behind it.
         whole, text = "".join(low if len(low := letter.lower()) == 1 else letter for letter in whole), text.lower()
     found: list[Match] = []
     at = whole.find(text)

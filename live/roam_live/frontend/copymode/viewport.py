@@ -30,7 +30,7 @@ class CopyView:
 
     def lowest_top(self) -> Line:
         """The top line where the last line is shown at the bottom."""
-        return self.rows.above(self.rows.last_line(), self.height - 1)
+        return self.rows.above((self.rows.last(), len(self.rows.begins(self.rows.last())) - 1), self.height - 1)
 
     def line(self) -> Line:
         """The cursor's line."""
@@ -91,10 +91,6 @@ class CopyView:
         """Whether the cursor keeps to the characters of its line: not where a block is selected."""
         return self.selection is None or not self.is_block
 
-    def column(self) -> int:
-        """The cursor's column on its line, or the one to which it comes back."""
-        return self.wanted if self.is_free() else self.position[1] - self.rows.span_of(self.line())[0]
-
     def put_on(self, line: Line, col: int, is_clamped: bool = True) -> None:
         """Puts the cursor on a line, at a column as far as there are characters, or at the end, where it was there."""
         begin, length = self.rows.span_of(line)[0], self.rows.line_length(line)
@@ -111,7 +107,8 @@ class CopyView:
         if selection and selection.keeps == ("end" if by < 0 else "begin") and line[0] == selection.fixed()[0]:
             self.other_end()
             line = self.line()
-        col, depth = self.column(), self.depth()
+        # The cursor's column on its line, or the one to which it comes back.
+        col, depth = self.wanted if self.is_free() else self.position[1] - rows.span_of(line)[0], self.depth()
         if by < 0 and (scrolls or depth == 0):
             self.top = rows.above(self.top)
             line = rows.below(self.top, depth)
