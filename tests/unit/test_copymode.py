@@ -193,7 +193,7 @@ class Opened(Copied):
             self.scrollback.lends = change != "none"
             self.scrollback.is_quick = change != "late"
             if change == "no host":
-                person.commands.acts.host = None
+                person.commands.acts.host = PlayedHost()
             if change == "no making":
                 person.panes.making = lambda pane: ""
             acts = person.types(b"\x02[kk")

@@ -172,9 +172,11 @@ class PlayedHost:
     """What the pty host tells of who else is at the session."""
 
     is_known = is_there = False
+    peer = answers = None
 
     def __init__(self, types=None, awaited=False):
         self.types, self.awaited, self.said = types, awaited, 0
+        self.scrollback = NoScrollback()
         # The zoom of this terminal, all that was told of it, and the one that is told of.
         self.zoom, self.zooms, self.zoomed = None, [], (0, None)
 
@@ -195,6 +197,28 @@ class PlayedHost:
         """Whether somebody else types, where that is known."""
         return self.types
 
+    def is_connecting(self):
+        """Return False: no connection comes."""
+        return False
+
+    takes_texts = is_connecting
+
+    def ask_with(self, *_):
+        """Return False: nobody takes it."""
+        return False
+
+
+class NoScrollback:
+    """What lends no rows, and keeps no buffers."""
+
+    def snapshot(self, pane, generation, answered):
+        """Lend nothing."""
+        answered(None)
+
+    def buffers(self, answered):
+        """Report none."""
+        answered([])
+
 
 class Person:
     """A person at a terminal, without the processes. The session shows a text, by the size that it has, where the front end asks for it."""
@@ -206,10 +230,10 @@ class Person:
         with mock.patch.object(display, "OuterTerminal", lambda: OuterTerminal(rows, cols)):
             self.display = Display(self.loop, self.link.say)
         self.panes = PlayedPanes(self.place)
-        self.host = host
+        self.host = host or PlayedHost()
         self.modes, self.windows = ModeStack(Keymap()), NoWindows
         self.commands = Commands(self.place, self.panes, self.link, self.display, self.loop, self.leave, self.modes,
-                                 lambda key: self.keyboard.take_back(key), self.windows, lambda places: is_new, is_whole, host)
+                                 lambda key: self.keyboard.take_back(key), self.windows, self.host, lambda places: is_new, is_whole)
         self.keyboard = Interpreter(self.modes, self.display, self.loop, lambda: self.commands, self.windows)
         self.keyboard.choose("C-b")
         self.display.begin()

@@ -299,12 +299,8 @@ class Handed(Case):
         """Where no host takes texts a long one goes as acts too."""
         self.panes.brackets, self.host.takes = True, False
         self.paste(LONG)
-        alone = PasteIntake(Pastes(self.link, None, self.loop, self.said.append, lambda: False), self.panes, lambda: "")
-        alone.begin()
-        alone.add(LONG)
-        alone.end()
         acts = [*BRACKETS[0], *["char 78"] * len(LONG), *BRACKETS[1]]
-        self.assertEqual(self.link.lines, ["paste ; " + " ; ".join(acts)] * 2)
+        self.assertEqual(self.link.lines, ["paste ; " + " ; ".join(acts)])
 
     def test_dropped(self):
         """Nothing of one is typed where it is told why, as it begins or ends; it takes no memory meanwhile."""

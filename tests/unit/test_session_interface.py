@@ -27,7 +27,7 @@ from roam_live.session.foreground import busy_panes
 from roam_live.session.local import Window
 from roam_live.session.port_session import PortSession
 from roam_live.session.remote import RemoteSession
-from test_display import PlayedPanes
+from test_display import PlayedHost, PlayedPanes
 
 loader = importlib.machinery.SourceFileLoader("mux", str(TOOLS / "mux"))
 mux = importlib.util.module_from_spec(importlib.util.spec_from_loader("mux", loader))
@@ -194,7 +194,8 @@ class Close(Folder):
         with mock.patch.object(display, "OuterTerminal", OuterTerminal):
             shown = Display(loop, lambda line: None)
         modes = ModeStack(Keymap())
-        commands = Commands(session, PlayedPanes(mock.Mock(told=places)), link, shown, loop, lambda line: None, modes, lambda key: None, NoWindows)
+        commands = Commands(session, PlayedPanes(mock.Mock(told=places)), link, shown, loop, lambda line: None, modes, lambda key: None,
+                            NoWindows, PlayedHost())
         keyboard = Interpreter(modes, shown, loop, lambda: commands, NoWindows)
         keyboard.fed(b"\x02x")
         return keyboard, link, shown

@@ -52,9 +52,8 @@ class Commands:
 
     def __init__(self, session: AnySession, panes: PanesSubscriber, link: ClientLink, display: Display, loop: Loop,
                  leave: Callable[[str | None], None], modes: ModeStack, gives_back: Callable[[Key], object],
-                 windows: Callable[[], OtherWindows],
-                 is_new: Callable[[Places | None], bool] = lambda places: False, is_whole: bool = False,
-                 host: HostClient | None = None) -> None:
+                 windows: Callable[[], OtherWindows], host: HostClient,
+                 is_new: Callable[[Places | None], bool] = lambda places: False, is_whole: bool = False) -> None:
         self.session, self.link, self.display, self.loop, self.leave, self.modes = session, link, display, loop, leave, modes
         self.windows, self.gives_back = windows, gives_back
         # Whether the session is shown whole where it has room, with its own status row.
@@ -206,7 +205,7 @@ class Commands:
     def leave_others(self) -> None:
         """Have all other terminals at the session detached."""
         host = self.acts.host
-        if not host or not host.peer:
+        if not host.peer:
             self.display.row.tell(OTHERS_STAY, LEAVES_IN)
             return
         host.ask(LEAVE_OTHERS)

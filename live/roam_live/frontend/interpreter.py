@@ -147,9 +147,7 @@ class Interpreter:
         elif key.name == ANSWERED:
             self.display.outer.take_answer(key.text)
         else:
-            host = self.commands().acts.host
-            if host:
-                host.tell_colour(key.text)
+            self.commands().acts.host.tell_colour(key.text)
 
     def take_back(self, key: Key) -> None:
         """Take a key that copy mode gives back: it was typed before a prompt that is there now."""

@@ -120,23 +120,18 @@ class Lists:
     def ask_buffers(self, is_newest: bool) -> None:
         """Paste the newest buffer, or open a list of them, once the host has reported which there are."""
         self.close()
-        if self.acts.host:
-            self.ask_again(self.asked, is_newest)
-        else:
-            self.acts.display.row.tell(NONE_KEPT, TOLD)
+        self.ask_again(self.asked, is_newest)
 
     def ask_again(self, asked: int, is_newest: bool) -> None:
         """Ask which buffers there are, unless something else was asked since."""
-        host = self.acts.host
-        if host and asked == self.asked:
-            host.scrollback.buffers(lambda notes: self.answered(asked, notes, is_newest))
+        if asked == self.asked:
+            self.acts.host.scrollback.buffers(lambda notes: self.answered(asked, notes, is_newest))
 
     def answered(self, asked: int, notes: list[BufferNote] | None, is_newest: bool) -> None:
         """Take which buffers there are, None if the host did not report them."""
-        host = self.acts.host
         if asked != self.asked:
             return
-        if notes is None and host and host.is_connecting():
+        if notes is None and self.acts.host.is_connecting():
             self.acts.loop.later("buffers", AGAIN, lambda: self.ask_again(asked, is_newest))
         elif not notes:
             self.acts.display.row.tell(UNTOLD if notes is None else NONE_KEPT, TOLD)

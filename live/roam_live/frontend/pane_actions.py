@@ -42,7 +42,7 @@ class Handing:
         can't."""
         loop, host = self.acts.loop, self.acts.host
         until = until or loop.clock() + WAITS
-        is_awaited = self.acts.awaits_focus() or host is not None and host.is_connecting()
+        is_awaited = self.acts.awaits_focus() or host.is_connecting()
         if is_awaited and loop.clock() < until:
             loop.later("hand over", AGAIN, lambda: self.begin_again(wish, begins, goes_on, until))
         elif wish.startswith("split"):
@@ -90,7 +90,7 @@ class Handing:
         host, name, data = self.acts.host, random_name(), begins.packed()
         if self.acts.link.is_read_only:
             raise BadCommand(READ_ONLY)
-        if not beside or not host or not host.ask_with(f"{RAN} {name} {beside} {len(data)}", data):
+        if not beside or not host.ask_with(f"{RAN} {name} {beside} {len(data)}", data):
             raise BadCommand(NOBODY)
         host.ran = self.take
         self.waits[name] = goes_on

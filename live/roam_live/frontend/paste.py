@@ -98,7 +98,7 @@ class Pastes:
     """Pastes and acts, in the order in which they come: a short paste as acts, a longer one as a placeholder, of which the text is handed
     to the host. Calls tell a person something, and return True during an outage, as while the server is silent."""
 
-    def __init__(self, link: ClientLink, host: HostClient | None, loop: Loop, tells: Callable[[str], object],
+    def __init__(self, link: ClientLink, host: HostClient, loop: Loop, tells: Callable[[str], object],
                  is_cut: Callable[[], object]) -> None:
         self.link, self.host, self.loop, self.tells, self.is_cut = link, host, loop, tells, is_cut
         self.waiting: deque[Behind | Paste] = deque()
@@ -106,8 +106,7 @@ class Pastes:
         self.behind = 0
         # Until when keys are dropped since a paste wasn't typed, and why that wasn't.
         self.drops_until, self.drops_why = 0.0, ""
-        if host:
-            host.answers = self.answered
+        host.answers = self.answered
 
     # ---- what is handed over
 
@@ -213,8 +212,7 @@ class Pastes:
 
     def cancel(self, paste: Paste) -> None:
         """Hands a paste over no more."""
-        if self.host:
-            self.host.cancel(paste.name)
+        self.host.cancel(paste.name)
         self.loop.drop(f"hand {paste.name}")
 
     # ---- what is typed
@@ -255,7 +253,7 @@ class Pastes:
         dropped = self.link.drop_pasted()
         for line in dropped:
             name = placeholder_in(line.split(" ; "))
-            if name and self.host:
+            if name:
                 self.host.cancel(name)
         if self.waiting:
             self.drop_waiting()
@@ -371,7 +369,7 @@ class PasteIntake:
             return
         is_bracketed = self.panes.wants_brackets()
         is_short = len(text) <= SHORT and self.panes.knows_modes()
-        if is_short or not self.pastes.host or not self.pastes.host.takes_texts():
+        if is_short or not self.pastes.host.takes_texts():
             self.pastes.type(*pasted_acts(text, is_bracketed), is_pasted=True)
             return
         paste, data = Paste(text, is_bracketed), text.encode("utf-8", "replace")
@@ -384,7 +382,7 @@ class PasteIntake:
     def is_spread(self, text: str, panes: list[int]) -> bool:
         """Hands a text over for each of these panes, by a placeholder of its own there, and tells whether it does: else why not is told."""
         data = text.encode("utf-8", "replace")
-        if not self.pastes.host or not self.pastes.host.takes_texts():
+        if not self.pastes.host.takes_texts():
             self.tells(ALONE.format(NO_TEXTS))
             return False
         if len(data) * len(panes) > MOST_BYTES or not self.pastes.host.has_room(len(data) * len(panes)):
@@ -399,8 +397,8 @@ class PasteIntake:
     def paste_buffer(self, number: int) -> None:
         """Has a buffer of the host's be pasted."""
         why = self.refuses()
-        if why or not self.pastes.host:
-            self.tells(why or NOT_TAKEN)
+        if why:
+            self.tells(why)
             return
         panes = self.spreads() or [0]
         for pane in panes:

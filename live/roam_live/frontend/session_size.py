@@ -83,14 +83,10 @@ class SessionSize:
 
         The pty host knows. A session on this machine that has none has nobody who says that he is there.
         """
-        host, told = self.acts.host, self.told_others()
-        is_unknown = self.acts.session.served == "relay" or host is not None and (host.is_known or host.is_there)
+        host, told = self.acts.host, self.acts.host.has_others()
+        is_unknown = self.acts.session.served == "relay" or host.is_known or host.is_there
         return told if told is not None or is_unknown else False
-
-    def told_others(self) -> bool | None:
-        """Return whether somebody else types, as the pty host reports it; None if it reports nothing."""
-        return self.acts.host.has_others() if self.acts.host else None
 
     def follows(self, size: tty.Size, own: tty.Size, showed_all: bool) -> bool:
         """Return True if the session follows this terminal."""
-        return sizes.follows(size, own, showed_all, self.has_others(), self.told_others() is not None)
+        return sizes.follows(size, own, showed_all, self.has_others(), self.acts.host.has_others() is not None)

@@ -72,10 +72,8 @@ class SizeFollower:
         may be reported soon."""
         host, size, own = self.acts.host, self.size.coming(), tty.largest(self.acts.display.part.room())
         self.showed_all = self.showed_all or size == self.left_size != NO_SIZE
-        if host:
-            host.say_here()
-        awaits_others = host is not None and host.is_awaited()
-        step = sizes.fit_step(size, own, self.acts.link.is_read_only, self.zooming.is_on(), self.is_fresh(), awaits_others)
+        host.say_here()
+        step = sizes.fit_step(size, own, self.acts.link.is_read_only, self.zooming.is_on(), self.is_fresh(), host.is_awaited())
         if step == sizes.ZOOMS:
             self.zooming.resized()
         elif step == sizes.TAKES:

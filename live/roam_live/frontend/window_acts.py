@@ -36,7 +36,7 @@ class WindowActs:
     """
 
     def __init__(self, session: AnySession, panes: PanesSubscriber, link: ClientLink, display: Display, loop: Loop, modes: ModeStack,
-                 host: HostClient | None = None) -> None:
+                 host: HostClient) -> None:
         self.session, self.panes, self.link, self.display, self.loop = session, panes, link, display, loop
         self.modes, self.host = modes, host
         # True without a connection to the session.
@@ -84,7 +84,7 @@ class WindowActs:
 
     def is_cut(self) -> bool:
         """Return True during an outage: the server is silent, or there is no connection to the pty host."""
-        return self.display.row.silent > 0 or self.host is not None and self.host.peer is None
+        return self.display.row.silent > 0 or self.host.peer is None
 
     def refuse_paste(self, why: str) -> None:
         """Type nothing of a paste whose end hasn't come yet, and tell why once it has."""

@@ -205,7 +205,7 @@ class ViewMaker:
         host = HostClient(self.host_link, session.number, lambda: commands.follower.others_told())
         host.notices = lambda words: display.row.tell(words, LOSS_TOLD)
         commands = Commands(session, panes, link, display, loop, self.leave, self.keyboard.modes, self.keyboard.take_back,
-                            self.keyboard.windows, is_new, self.is_whole, host)
+                            self.keyboard.windows, host, is_new, self.is_whole)
         commands.synchronizing.remember(self.synchronized, session.number, lambda: self.settings.prediction)
         return WindowView(session, link, Reconnector(session, link, panes.is_full), panes, host, commands)
 

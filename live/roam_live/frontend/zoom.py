@@ -87,7 +87,7 @@ class Zooming:
 
     def is_told(self, places: Places | None) -> bool:
         """Whether it is told which pane is in focus, and by the host whether another has a zoom, where one is about to."""
-        return bool(places and places.focus) and not (self.acts.host and self.acts.host.is_awaited())
+        return bool(places and places.focus) and not self.acts.host.is_awaited()
 
     def drop_wait(self) -> None:
         """Waits no more for what is told of the focus."""
@@ -96,8 +96,7 @@ class Zooming:
 
     def own_size(self, places: Places | None) -> tty.Size:
         """The session's size where nobody has a zoom: that which another's end gives back."""
-        host, size = self.acts.host, self.size.requested or (places.size() if places else NO_SIZE)
-        return sizes.unzoomed_size(size, host.zoomed[1] if host else None)
+        return sizes.unzoomed_size(self.size.requested or (places.size() if places else NO_SIZE), self.acts.host.zoomed[1])
 
     def ask(self, places: Places) -> None:
         """Asks for the size at which the pane fills the terminal, and shows the pane once the session has it."""
@@ -208,18 +207,17 @@ class Zooming:
 
     def tell_host(self) -> None:
         """Tells the host of this zoom, before the session is asked for a size."""
-        if self.acts.host:
-            self.acts.host.note_zoom(self.note)
+        self.acts.host.note_zoom(self.note)
 
     def tell_over(self) -> None:
         """Tells the host that a zoom is over, once the session hasn't a size of it any more."""
         host, places = self.acts.host, self.acts.panes.places
-        if host and host.zoom and not self.pane and places and places.is_covered() and places.size() not in host.zoom.asked:
+        if host.zoom and not self.pane and places and places.is_covered() and places.size() not in host.zoom.asked:
             host.note_zoom(None)
 
     def drop_note(self) -> None:
         """Tells the host that a zoom is over, whatever size the session has."""
-        if self.acts.host and self.acts.host.zoom and not self.pane:
+        if self.acts.host.zoom and not self.pane:
             self.acts.host.note_zoom(None)
 
     def leave(self) -> None:
@@ -240,8 +238,7 @@ class LeftZoom:
 
     def left_by(self) -> ZoomNote | None:
         """The zoom that a front end has left, as one that was killed, and that isn't looked after yet; None where there is none."""
-        host = self.acts.host
-        maker, note = host.zoomed if host else (0, None)
+        maker, note = self.acts.host.zoomed
         if maker or not note:
             self.mended = self.unseen = None
         return None if maker or self.is_zoomed() or self.acts.link.is_read_only or note == self.mended else note
@@ -272,6 +269,6 @@ class LeftZoom:
     def overrule(self) -> None:
         """Tells the host that a zoom which a front end has left is over: the session's size is one that it was given otherwise."""
         note = self.left_by()
-        if note and self.acts.host:
+        if note:
             self.mended = note
             self.acts.host.note_zoom(None)

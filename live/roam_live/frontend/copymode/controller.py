@@ -17,7 +17,7 @@ from roam_live.frontend.modes import CopyKeysMode
 from roam_live.frontend.window_acts import WindowActs
 from roam_live.input.keys import INTERRUPT, Key
 from roam_live.protocol.panes import MOVES
-from roam_live.protocol.scrollback_client import BufferNote, ScrollbackClient, Snapshot
+from roam_live.protocol.scrollback_client import BufferNote, Snapshot
 
 # A text has so many bytes at most, also where it is put behind another.
 MOST_COPIED = 1 << 20
@@ -46,16 +46,16 @@ class CopiedTexts:
 
     def take(self, text: bytes | None, is_appended: bool = False) -> None:
         """Takes a text, to be put behind the newest buffer or to be one; None stands for one that is too long."""
-        scrollback = self.acts.host.scrollback if self.acts.host else None
         if text is None:
             self.tell(TOO_LONG)
-        elif text and is_appended and scrollback and not self.acts.link.is_read_only:
-            self.append(scrollback, text)
+        elif text and is_appended and not self.acts.link.is_read_only:
+            self.append(text)
         elif text:
             self.put(text)
 
-    def append(self, scrollback: ScrollbackClient, text: bytes) -> None:
+    def append(self, text: bytes) -> None:
         """Has a text be put behind the newest buffer."""
+        scrollback = self.acts.host.scrollback
 
         def listed(notes: list[BufferNote] | None) -> None:
             if notes:
@@ -67,15 +67,15 @@ class CopiedTexts:
 
     def put(self, text: bytes) -> None:
         """Has a text be a buffer, of who doesn't only watch, and be on the clipboard."""
-        scrollback, acts = self.acts.host.scrollback if self.acts.host else None, self.acts
+        acts = self.acts
         if len(text) > MOST_COPIED:
             self.tell(TOO_LONG)
             return
         if may_set_clipboard():
             acts.display.outer.set_clip(b64encode(text).decode())
-        if scrollback and not acts.link.is_read_only:
+        if not acts.link.is_read_only:
             told = COPIED.format(counted(text), acts.modes.keymap.name)
-            scrollback.add_buffer(text, lambda number: self.tell(NOT_KEPT.format(counted(text)) if number is None else told))
+            acts.host.scrollback.add_buffer(text, lambda number: self.tell(NOT_KEPT.format(counted(text)) if number is None else told))
         else:
             self.tell(COPIED_HERE.format(counted(text)))
 
@@ -131,14 +131,14 @@ class Copying:
         """Opens it in a pane, with what is done first; where no rows are lent something else is done instead, which tells whether what was
         typed meanwhile is for that."""
         self.close()
-        making, scrollback, rect = self.acts.panes.making(pane).split(), self.state.scrollback(), self.screen.visible(pane)
-        if not scrollback or len(making) != 2 or not rect:
+        making, rect = self.acts.panes.making(pane).split(), self.screen.visible(pane)
+        if len(making) != 2 or not rect:
             instead()
             return
         self.state.pane, self.state.generation, self.state.rect, self.instead = pane, int(making[1]), rect, instead
         self.take_keys()
         self.state.events.extend(begins)
-        self.snapshots.ask(scrollback)
+        self.snapshots.ask()
 
     def await_focus(self, instead: Callable[[], object], *begins: CopyEvent) -> None:
         """Opens it in the pane in focus once that is told, as where a relay goes another way; where it isn't in time something else is done
@@ -174,9 +174,8 @@ class Copying:
             self.loop.drop(name)
         self.state.is_opening = False
         self.asking.settle()
-        scrollback = self.state.scrollback()
-        if scrollback and snapshot and 0 < len(snapshot.screen) <= MOST_SCREEN_ROWS:
-            self.begin(snapshot, scrollback)
+        if snapshot and 0 < len(snapshot.screen) <= MOST_SCREEN_ROWS:
+            self.begin(snapshot)
             return
         if self.state.mode:
             self.close(GONE)
@@ -186,7 +185,7 @@ class Copying:
         for event in events if instead() else []:
             event.instead()
 
-    def begin(self, snapshot: Snapshot, scrollback: ScrollbackClient) -> None:
+    def begin(self, snapshot: Snapshot) -> None:
         """Shows a snapshot, and does what was typed meanwhile."""
         places = self.acts.panes.places
         pane_cols = places.rects[self.state.pane].cols if places and self.state.pane in places.rects else self.state.rect.cols
@@ -195,7 +194,7 @@ class Copying:
         rows.stays = snapshot.end - MOST_SCREEN_ROWS
         self.state.mode = CopyMode(rows, self.state.rect.rows, wants_vi())
         self.state.mode.sought, self.state.mode.is_back = self.sought
-        self.state.came, scrollback.on_more = 0, self.more
+        self.state.came, self.state.scrollback.on_more = 0, self.more
         self.asking.end()
         self.state.events.appendleft(CopyEvent(lambda mode: mode.open()))
         self.screen.lay()
@@ -210,9 +209,9 @@ class Copying:
         """Closes it, where it is open, and drops what waits; tells why, where there is something to tell."""
         if not self.state.is_on():
             return
-        scrollback, display = self.state.scrollback(), self.acts.display
-        if scrollback and self.state.pane:
-            scrollback.release(self.state.pane, self.state.generation)
+        display = self.acts.display
+        if self.state.pane:
+            self.state.scrollback.release(self.state.pane, self.state.generation)
         was_shown, self.state.mode = self.state.mode is not None, None
         self.state.is_opening = False
         self.state.opening += 1
@@ -314,13 +313,12 @@ class Copying:
 
     def grant(self, asked: CopyWish) -> None:
         """Does what a key asked for beside what is shown."""
-        scrollback = self.state.scrollback()
         if asked.word == LEAVE:
             self.close()
         elif asked.word != REFRESH:
             self.state.events.appendleft(CopyEvent(lambda mode: self.copy(asked)))
-        elif scrollback:
-            self.snapshots.ask(scrollback)
+        else:
+            self.snapshots.ask()
 
     def copy(self, asked: CopyWish) -> None:
         """Copies a text, once all its rows are here."""

@@ -10,7 +10,7 @@ from roam_live.frontend.copymode.rows import Missing, MissingRows
 from roam_live.frontend.copymode.search import MissingFind
 from roam_live.frontend.window_acts import WindowActs
 from roam_live.protocol.panes import Rect
-from roam_live.protocol.scrollback_client import ScrollbackClient, Snapshot
+from roam_live.protocol.scrollback_client import Snapshot
 
 
 def nothing() -> None:
@@ -28,7 +28,8 @@ class CopyState:
     """The state of one person's copy mode."""
 
     def __init__(self, acts: WindowActs) -> None:
-        self.acts = acts
+        # The window, and what lends rows of it.
+        self.acts, self.scrollback = acts, acts.host.scrollback
         self.mode: CopyMode | None = None
         # The pane and its generation, of which a snapshot was asked for or is had, and a number for each time that one was.
         self.pane = self.generation = self.opening = 0
@@ -43,13 +44,9 @@ class CopyState:
         """Return True if it is open, or will be once a snapshot is lent."""
         return self.mode is not None or self.is_opening
 
-    def scrollback(self) -> ScrollbackClient | None:
-        """Return who lends rows, None if nobody does."""
-        return self.acts.host.scrollback if self.acts.host else None
-
     def is_connecting(self) -> bool:
         """Return True if the host isn't connected, and may be soon."""
-        return self.acts.host is not None and self.acts.host.is_connecting()
+        return self.acts.host.is_connecting()
 
 
 # So many rows are asked for at once at most, and so many pages at first: the one that is needed, and one ahead.
@@ -100,17 +97,14 @@ class CopyAsking:
 
     def ask(self, lack: Missing) -> None:
         """Asks for what isn't here."""
-        scrollback = self.state.scrollback()
-        if not scrollback:
-            return
         self.is_waiting = True
         self.tell_later()
         if isinstance(lack, MissingFind):
-            self.ask_find(scrollback, lack)
+            self.ask_find(lack)
         elif isinstance(lack, MissingRows):
-            self.ask_rows(scrollback, lack.row)
+            self.ask_rows(lack.row)
 
-    def ask_find(self, scrollback: ScrollbackClient, lack: MissingFind) -> None:
+    def ask_find(self, lack: MissingFind) -> None:
         """Asks where a text is next."""
         state, opening = self.state, self.state.opening
 
@@ -123,9 +117,9 @@ class CopyAsking:
             state.mode.finds.put(lack, row)
             self.answered()
 
-        scrollback.find(state.pane, state.generation, lack.first, lack.is_back, lack.text, take)
+        state.scrollback.find(state.pane, state.generation, lack.first, lack.is_back, lack.text, take)
 
-    def ask_rows(self, scrollback: ScrollbackClient, row: int) -> None:
+    def ask_rows(self, row: int) -> None:
         """Asks for a row and those behind it, or before it where those behind it are here: ever more while one thing needs them."""
         state, opening = self.state, self.state.opening
         if not state.mode:
@@ -145,14 +139,14 @@ class CopyAsking:
                 self.answered()
             elif lines and first <= at and at + len(lines) <= row:
                 # Fewer came than were asked for.
-                scrollback.rows(state.pane, state.generation, at + len(lines), row - at - len(lines) + 1, take)
+                state.scrollback.rows(state.pane, state.generation, at + len(lines), row - at - len(lines) + 1, take)
             elif not lines and state.is_connecting():
                 # Rows keep their numbers: they are asked for again once there is another connection.
                 self.loop.later("copy asks again", ASKS_AGAIN, self.answered)
             else:
                 self.closes(GONE)
 
-        scrollback.rows(state.pane, state.generation, first, count, take)
+        state.scrollback.rows(state.pane, state.generation, first, count, take)
 
     def answered(self) -> None:
         """Goes on with what waited for an answer."""
@@ -176,23 +170,23 @@ class SnapshotAsking:
         self.tells_later()
         return opening
 
-    def ask(self, scrollback: ScrollbackClient) -> None:
+    def ask(self) -> None:
         """Asks for a snapshot."""
-        self.ask_connected(self.begin(), scrollback)
+        self.ask_connected(self.begin())
 
-    def ask_connected(self, opening: int, scrollback: ScrollbackClient) -> None:
+    def ask_connected(self, opening: int) -> None:
         """Asks for it once the host is connected, where that may be soon."""
         if opening != self.state.opening or not self.state.is_opening:
             return
         if self.state.is_connecting():
-            self.loop.later("copy connects", CONNECTS, lambda: self.ask_connected(opening, scrollback))
+            self.loop.later("copy connects", CONNECTS, lambda: self.ask_connected(opening))
         else:
-            scrollback.snapshot(self.state.pane, self.state.generation, lambda snapshot: self.answered(opening, scrollback, snapshot))
+            self.state.scrollback.snapshot(self.state.pane, self.state.generation, lambda snapshot: self.answered(opening, snapshot))
 
-    def answered(self, opening: int, scrollback: ScrollbackClient, snapshot: Snapshot | None) -> None:
+    def answered(self, opening: int, snapshot: Snapshot | None) -> None:
         """Takes what the host answers. Where the connection was lost instead, as by a relay that goes another way, it is asked again once
         there is another."""
         if snapshot is None and self.state.is_connecting():
-            self.ask_connected(opening, scrollback)
+            self.ask_connected(opening)
         else:
             self.lent(opening, snapshot)
