@@ -1,9 +1,8 @@
 """What copy mode is tried with beside tmux's: a text, keys by name with emacs' and vi's table, and what is copied by them here."""
+from modes_played import copy_keys
 from roam_live.frontend.copymode.actions import COPY, LEAVE
-from roam_live.frontend.copymode.keys import KeyPairs
 from roam_live.frontend.copymode.mode import CopyMode
 from roam_live.frontend.copymode.rows import Rows, width_of
-from roam_live.input.keys import Keys
 
 # Paragraphs, rows that go on, separators, brackets, blanks at the beginning and the end, wide and joined characters.
 TEXT = "".join(f"{line}\n" for line in (
@@ -63,8 +62,7 @@ def typed(mode, keys):
     """Types groups of bytes, and tells what is asked for then."""
     found = []
     for group in keys:
-        pairs, reader = KeyPairs(), Keys()
-        for key in [whole for key in reader.fed(group) + reader.ended() for whole in pairs.fed(key)] + pairs.ended():
+        for key in copy_keys(group):
             answer_all(mode, lambda key=key: mode.take(key))
             found += mode.asked
             mode.asked = []

@@ -1,7 +1,7 @@
 """A stack of modes without a front end: what each key of a text asks for, as effects, or told in words."""
 from roam_live.frontend.bindings import Keymap
 from roam_live.frontend.effects import BeginPaste, ClearStatus, Perform, ShowStatus, TellUnbound, TypeActs, TypeKey
-from roam_live.frontend.modes import ModeStack, PickingMode
+from roam_live.frontend.modes import CopyKeysMode, ModeStack, PickingMode
 from roam_live.input.keys import Keys, acts_of
 
 
@@ -74,3 +74,10 @@ def acts_of_bytes(text):
     """Return the acts of bytes that come at once and nothing after them."""
     keys = Keys()
     return [act for key in keys.fed(text) + keys.ended() for act in acts_of(key)]
+
+
+def copy_keys(text):
+    """Return the keys of bytes that come at once, as copy mode takes them."""
+    mode, keys = CopyKeysMode(Keymap()), Keys()
+    whole = [effect for key in keys.fed(text) + keys.ended() for effect in mode.fed(key)] + mode.ended()
+    return [effect.key for effect in whole]

@@ -43,7 +43,7 @@ KNOWN = {
     ("roam_live/protocol/screen_cells.py", "sgr_of", "ESC"): CELLS,
     ("roam_live/frontend/lists.py", "painted", "ESC"): WRITES,
     ("roam_live/frontend/copymode/keys.py", "ESCAPE", "ESC"): TYPED,
-    ("roam_live/frontend/copymode/keys.py", "WITH_META", "ESC"): TYPED,
+    ("roam_live/frontend/modes.py", "WITH_META", "ESC"): TYPED,
     ("roam_live/frontend/copymode/render.py", "LinePainter.text", "ESC"): WRITES,
     ("roam_live/frontend/copymode/render.py", "sgr_of", "ESC"): WRITES,
     ("roam_live/frontend/copymode/rows.py", "RowReader.read", "ESC"): LENT,

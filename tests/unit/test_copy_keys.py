@@ -4,9 +4,9 @@ import re
 import unittest
 
 from copied import TEXT, answer_all, mode_of
-from roam_live.frontend.copymode.keys import EMACS, VI, KeyPairs
+from modes_played import copy_keys
+from roam_live.frontend.copymode.keys import EMACS, VI
 from roam_live.frontend.copymode.selection import Selection
-from roam_live.input.keys import Keys
 
 MAN = pathlib.Path(__file__).resolve().parents[2] / "docs/man/roam-mux.1"
 SIZE = (12, 40)
@@ -102,13 +102,6 @@ def bytes_of(key):
     return bytes([ord(key[2].upper()) & 0x1F]) if key.startswith("C-") else key.encode()
 
 
-def keys_of(key):
-    """Return a key as copy mode takes it."""
-    pairs, reader = KeyPairs(), Keys()
-    typed = bytes_of(key)
-    return [whole for one in reader.fed(typed) + reader.ended() for whole in pairs.fed(one)] + pairs.ended()
-
-
 def begun(is_vi):
     """Return copy mode at a word, with a selection, a mark, a jump and a text that was searched for."""
     mode = mode_of(TEXT, is_vi, SIZE)
@@ -139,7 +132,7 @@ def effect_of(is_vi, key):
     """Return in words what a key changes."""
     mode = begun(is_vi)
     before = state_of(mode)
-    for one in keys_of(key):
+    for one in copy_keys(bytes_of(key)):
         answer_all(mode, lambda one=one: mode.take(one))
     changed = [after for after, word in zip(state_of(mode), before) if after != word]
     return "; ".join([*changed, *map(asked_in, mode.asked)])
@@ -157,7 +150,7 @@ class CopyKeys(unittest.TestCase):
     def test_commands(self):
         """Each key of a table has a row, with the command that tmux binds to it."""
         for table, rows in ((VI, VI_ROWS), (EMACS, EMACS_ROWS)):
-            found = {one.name: command for key, command, _ in rows for one in keys_of(key) if command}
+            found = {one.name: command for key, command, _ in rows for one in copy_keys(bytes_of(key)) if command}
             self.assertEqual(found, table)
 
     def test_counts(self):

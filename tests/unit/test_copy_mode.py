@@ -8,10 +8,11 @@ from unittest import mock
 from aids import Case
 from copied import CASES, KNOWN, TEXT, answer_all, copied_by_roam, found_row, mode_of, rows_of, typed
 from emulated import Emulated
+from modes_played import copy_keys
 from roam_live.config.environment import wants_vi
 from roam_live.frontend.copymode import controller, motions, selection
 from roam_live.frontend.copymode.actions import COPY, LEAVE, REFRESH
-from roam_live.frontend.copymode.keys import EMACS, VI, Count, KeyPairs, Prompt
+from roam_live.frontend.copymode.keys import EMACS, VI, Count, Prompt
 from roam_live.frontend.copymode.mode import COMMANDS, MOVES, STEPS, CopyMode
 from roam_live.frontend.copymode.render import LinePainter, sgr_of
 from roam_live.frontend.copymode.rows import (MOST_BYTES, MOST_COLS, MOST_JOINED, MOST_ROW_BYTES, ROW_BYTES, Missing, MissingRows, Rows,
@@ -82,7 +83,7 @@ class Tables(unittest.TestCase):
 
         attempt(mode.open)
         for group in keys:
-            for key in pairs_of(group):
+            for key in copy_keys(group):
                 if any(one.word == LEAVE or one.leaves for one in found):
                     break
                 attempt(lambda key=key: mode.take(key))
@@ -123,15 +124,7 @@ class Tables(unittest.TestCase):
         """An escape and what came with it are one key; one behind which nothing comes is the key itself."""
         for text, names in ((b"\x1bf", ["M-f"]), (b"\x1b", ["\x1b"]), (b"\x1b\x1b[A", ["M-up"]), (b"\x1b[1;3A", ["M-up"]), (b"q", ["q"]),
                             (b"\x1b\x06x", ["M-\x06", "x"]), (b"\x1b\x1b", ["M-\x1b"])):
-            self.assertEqual([key.name for key in pairs_of(text)], names, text)
-
-
-def pairs_of(group):
-    """The keys of bytes that come at once, as copy mode takes them."""
-    from roam_live.input.keys import Keys
-
-    pairs, reader = KeyPairs(), Keys()
-    return [whole for key in reader.fed(group) + reader.ended() for whole in pairs.fed(key)] + pairs.ended()
+            self.assertEqual([key.name for key in copy_keys(text)], names, text)
 
 
 class Asked(unittest.TestCase):

@@ -8,7 +8,6 @@ from roam_live.config.environment import PREFIXES
 from roam_live.config.loader import Binding
 from roam_live.frontend import effects, modes
 from roam_live.frontend.bindings import NEWEST, Keymap, help_with
-from roam_live.frontend.copymode.keys import KeyPairs
 from roam_live.frontend.effects import (AddPaste, BeginPaste, ClearStatus, CloseHelp, CloseList, ClosePane, CopyKey, CopyText, DrawList,
                                         EndPaste, EnterLine, HidePrompt, HoldKey, OfferPaste, PassKey, Perform, PopMode, ScrollHelp,
                                         SendLiteral, SendRequest, ShowPrompt, ShowStatus, TellUnbound, TypeActs, TypeKey)
@@ -212,7 +211,7 @@ class Each(unittest.TestCase):
     def test_copy(self):
         """Keys are copy mode's, an escape and the next key one with Meta; the prefix twice is the key itself, and once it is the prefix."""
         keymap = Keymap()
-        mode = CopyKeysMode(keymap, KeyPairs())
+        mode = CopyKeysMode(keymap)
         paste = key_in("\x1b[200~")
         for text, found in (("x", [CopyKey(Key("x", "x"))]), ("\x1b", []), ("\x02", [CopyKey(Key("M-\x02", "\x1b\x02"))]),
                             ("\x02", [PrefixMode]),
@@ -240,7 +239,7 @@ class Stack(unittest.TestCase):
     def test_drawn(self):
         """What is drawn over panes takes keys below prompts, and none while something stands in place of the panes."""
         stack = ModeStack(Keymap())
-        stack.drawn = CopyKeysMode(stack.keymap, KeyPairs())
+        stack.drawn = CopyKeysMode(stack.keymap)
         x = Key("x", "x")
         self.assertEqual([stack.takes(x, 1.0, is_covered) for is_covered in (False, True)], [[CopyKey(x)], [TypeKey(["char 78"], x)]])
         stack.push(LineMode(AskedLine("name"), "name 3"))
@@ -258,7 +257,7 @@ class Stack(unittest.TestCase):
         stack.keymap.own = {("prefix", "C-b"): Binding([["list-keys"]], False)}
         prefix = Key("\x02", "\x02")
         self.assertEqual([stack.takes(prefix, 1.0) for _ in range(2)], [[], [Perform("own prefix C-b")]])
-        stack.drawn = CopyKeysMode(stack.keymap, KeyPairs())
+        stack.drawn = CopyKeysMode(stack.keymap)
         self.assertEqual([stack.takes(prefix, 1.0) for _ in range(2)], [[], [CopyKey(prefix)]])
 
     def test_passed(self):

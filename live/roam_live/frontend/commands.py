@@ -97,6 +97,11 @@ class Commands:
         if self.copy_mode:
             self.copy_mode.close()
 
+    def ask_buffers(self, is_newest: bool) -> None:
+        """Paste the newest buffer, or open a list of them, in place of copy mode."""
+        self.end_copying()
+        self.lists.ask_buffers(is_newest)
+
     # ---- what parts do behind one another
 
     def size_given(self) -> None:

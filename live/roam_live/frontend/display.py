@@ -41,9 +41,8 @@ class Display:
         self.notice_first = self.notice_most = 0
         # Whether what stands on the terminal is still of the window that was left.
         self.is_entering = False
-        # What is drawn over a part of what is painted; whether the client was told of its mask; and what is called where what is shown of
+        # Whether the client was told of the mask of what is drawn over a part of what is painted; and what is called where what is shown of
         # the session may be another part.
-        self.popup: Popup | None = None
         self.is_masked = False
         self.moved: Callable[[], object] = lambda: None
         # Whether what is painted next may erase the last row.
@@ -147,7 +146,7 @@ class Display:
 
     def take_painting(self, record: DisplayRecord) -> None:
         """Take a painting: one that has no room, or comes before all is painted anew, doesn't reach the terminal, and no reset does."""
-        is_anew, part, popup = record.word == "anew", self.part, self.popup
+        is_anew, part, popup = record.word == "anew", self.part, self.part.popup
         if part.asked is None:
             # A size that was told before isn't told again.
             part.whole_size = part.painted_size
@@ -179,8 +178,7 @@ class Display:
 
     def lay(self, popup: Popup) -> None:
         """Draw something over a part of what is shown, which stays that part: all is painted anew for it, but for that."""
-        was_masked, self.popup = self.is_masked, popup
-        self.part.has_popup, self.row.popup = True, popup
+        was_masked, self.part.popup = self.is_masked, popup
         if was_masked:
             self.says("unmask")
         else:
@@ -190,13 +188,12 @@ class Display:
 
     def draw(self) -> None:
         """Go by other lines, or another cursor, of what is drawn."""
-        if self.popup and not self.notice and not self.part.is_stale:
-            self.outer.write(self.popup.laid())
+        if self.part.popup and not self.notice and not self.part.is_stale:
+            self.outer.write(self.part.popup.laid())
 
     def lift(self) -> None:
         """Draw nothing any more."""
-        self.popup = self.row.popup = None
-        self.part.has_popup, self.row.popup_line, self.row.is_popup_asking = False, "", False
+        self.part.popup, self.row.popup_line, self.row.is_popup_asking = None, "", False
         if self.is_masked:
             self.is_masked = False
             self.says("unmask")
@@ -221,8 +218,8 @@ class Display:
 
     def forget_drawn(self) -> None:
         """Know that nothing of what was drawn stands on the terminal any more."""
-        if self.popup:
-            self.popup.forget()
+        if self.part.popup:
+            self.part.popup.forget()
 
     def enter_again(self) -> None:
         """Take the terminal again, where nothing stands of what was painted."""

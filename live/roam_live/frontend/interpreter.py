@@ -31,28 +31,31 @@ if TYPE_CHECKING:
 # What is told of a key that is not bound.
 UNBOUND = "{0} {1} is not bound; {0} ? shows the keys"
 
-# What a wish begins with that changes a window.
-WINDOW = "window "
-
-# What the wishes begin with that the commands of a person's own keys, and the command line, carry out.
-RUN = (OWN_KEY, "command line", "settings")
-
-# What somebody who only watches may wish for, and what he may not.
-ANYBODY: dict[str, Callable[[Commands], object]] = {
-    "detach": lambda commands: commands.leave("[detached]"),
+# What is done by a wish, by its first word, whoever wishes it; and what somebody who only watches may not wish.
+ANYBODY: dict[str, Callable[[Interpreter, Commands, str], object]] = {
+    "detach": lambda keyboard, commands, wish: commands.leave("[detached]"),
     # The signal comes as from elsewhere, once what was typed is taken.
-    "suspend": lambda commands: os.kill(os.getpid(), signal.SIGTSTP),
-    "repaint": lambda commands: commands.follower.repaint(),
-    "row": lambda commands: commands.follower.switch_row(),
+    "suspend": lambda keyboard, commands, wish: os.kill(os.getpid(), signal.SIGTSTP),
+    "repaint": lambda keyboard, commands, wish: commands.follower.repaint(),
+    "row": lambda keyboard, commands, wish: commands.follower.switch_row(),
+    "help": lambda keyboard, commands, wish: keyboard.show_help(),
+    "copy": lambda keyboard, commands, wish: commands.copy(wish),
+    **dict.fromkeys((OWN_KEY, "command", "settings"), lambda keyboard, commands, wish: keyboard.runs(wish)),
+    **dict.fromkeys(("go", "window"), lambda keyboard, commands, wish: keyboard.windows().grant(wish)),
 }
-EDITORS: dict[str, Callable[[Commands], object]] = {
-    "close": lambda commands: commands.panes.close(),
-    "mouse": lambda commands: commands.pointing.switch(),
-    "leave others": lambda commands: commands.leave_others(),
-    "zoom": lambda commands: commands.zooming.switch(),
-    "even": lambda commands: commands.border_keys.ask("even"),
-    "last": lambda commands: commands.panes.go_back(),
-    "synchronize": lambda commands: commands.synchronizing.switch(),
+EDITORS: dict[str, Callable[[Interpreter, Commands, str], object]] = {
+    "close": lambda keyboard, commands, wish: commands.panes.close(),
+    "mouse": lambda keyboard, commands, wish: commands.pointing.switch(),
+    "leave": lambda keyboard, commands, wish: commands.leave_others(),
+    "zoom": lambda keyboard, commands, wish: commands.zooming.switch(),
+    "even": lambda keyboard, commands, wish: commands.border_keys.ask("even"),
+    "border": lambda keyboard, commands, wish: commands.border_keys.ask(wish.split()[-1]),
+    "last": lambda keyboard, commands, wish: commands.panes.go_back(),
+    "synchronize": lambda keyboard, commands, wish: commands.synchronizing.switch(),
+    "split": lambda keyboard, commands, wish: commands.panes.split(wish),
+    "panes": lambda keyboard, commands, wish: keyboard.pick_pane(),
+    **dict.fromkeys(("paste", "choose"), lambda keyboard, commands, wish: commands.ask_buffers(is_newest=wish == "paste")),
+    **dict.fromkeys(BESIDE, lambda keyboard, commands, wish: commands.panes.go(wish)),
 }
 
 
@@ -61,7 +64,8 @@ class Interpreter:
 
     def __init__(self, modes: ModeStack, display: Display, loop: Loop, commands: Callable[[], Commands],
                  windows: Callable[[], OtherWindows]) -> None:
-        self.modes, self.display, self.loop, self.commands, self.windows = modes, display, loop, commands, windows
+        self.modes, self.display, self.loop, self.commands = modes, display, loop, commands
+        self.windows: Callable[[], OtherWindows] = windows
         self.keys = Keys()
         # The list of keys as it is shown, or was last.
         self.help = ""
@@ -183,35 +187,15 @@ class Interpreter:
     def grant(self, wish: str) -> None:
         """Do what the front end itself is asked for."""
         commands, word = self.commands(), wish.partition(" ")[0]
-        if wish in ANYBODY:
-            ANYBODY[wish](commands)
-        elif wish == "help":
-            self.show_help()
-        elif word == "copy":
-            commands.copy(wish)
-        elif wish.startswith(RUN):
-            self.runs(wish)
-        elif wish.startswith((GOES, WINDOW)):
-            self.windows().grant(wish)
-        elif not commands.link.is_read_only:
-            self.change(commands, wish, word)
+        if word in ANYBODY:
+            ANYBODY[word](self, commands, wish)
+        elif word in EDITORS and not commands.link.is_read_only:
+            EDITORS[word](self, commands, wish)
 
-    def change(self, commands: Commands, wish: str, word: str) -> None:
-        """Do what somebody who only watches may not."""
-        if wish in EDITORS:
-            EDITORS[wish](commands)
-        elif word == "split":
-            commands.panes.split(wish)
-        elif word == "border":
-            commands.border_keys.ask(wish.split()[-1])
-        elif wish == "panes":
-            self.display.row.tell(f"{self.display.row.labels}: a digit goes to the pane of this number", PICKS)
-            self.modes.push(PickingMode(time.monotonic()))
-        elif wish in ("paste", "choose"):
-            commands.end_copying()
-            commands.lists.ask_buffers(is_newest=wish == "paste")
-        elif wish in BESIDE:
-            commands.panes.go(wish)
+    def pick_pane(self) -> None:
+        """Have a digit be a pane's."""
+        self.display.row.tell(f"{self.display.row.labels}: a digit goes to the pane of this number", PICKS)
+        self.modes.push(PickingMode(time.monotonic()))
 
     def close_pane(self, asked: effects.ClosePane) -> None:
         """Close the pane in focus of a window, also of one that the person has left since he was asked."""

@@ -7,7 +7,6 @@ from roam_live.common import tty
 from roam_live.common.event_loop import Loop
 from roam_live.config.styled_text import ROW_STYLE, Styled
 from roam_live.frontend.outer_terminal import OuterTerminal
-from roam_live.frontend.popup import Popup
 from roam_live.frontend.shown_part import ShownPart
 from roam_live.frontend.sizes import NO_SIZE
 from roam_live.frontend.status_line import (ALL_PANES, BETWEEN, SYNCHRONIZED, ZOOMED, clipped, columns, fitted, label_at, row_text, said,
@@ -57,8 +56,7 @@ class LastRow:
         self.parts: tuple[list[Styled], str, list[Styled]] = ([], "", [])
         # Whether keys go to all panes of the window.
         self.is_synchronized = False
-        # What is drawn over a part, the line that stands here meanwhile, and whether that is asked for.
-        self.popup: Popup | None = None
+        # The line that stands here while something is drawn over a part, and whether that is asked for.
         self.popup_line, self.is_popup_asking = "", False
         # What tells which key fits the session to this terminal, where that may be, and which leaves; and what the person is warned of.
         self.fits_line = self.leaves_line = self.warning = ""
@@ -115,7 +113,7 @@ class LastRow:
 
     def put(self, is_over: bool = False) -> None:
         """Write the line, behind what was painted, if it is another than stands there; over a painting it is written in any case."""
-        text, part, popup = self.line(), self.part, self.popup
+        text, part, popup = self.line(), self.part, self.part.popup
         if self.is_covered() or not text:
             return
         rows, width = self.outer.size()

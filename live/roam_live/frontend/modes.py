@@ -4,16 +4,12 @@ No mode knows the front end, a socket or a terminal. A mode may change only itse
 """
 from __future__ import annotations
 
-from roam_live.frontend.bindings import BINDINGS, BORDERS, DIGITS, MOST_VIEW, NEWEST, PICKS, REPEATS, WISHES, Keymap, with_meta
+from roam_live.frontend.bindings import BINDINGS, BORDERS, DIGITS, ESCAPE, MOST_VIEW, NEWEST, PICKS, REPEATS, WISHES, Keymap, with_meta
 from roam_live.frontend.effects import (AddPaste, BeginPaste, ClearStatus, CloseHelp, CloseList, CopyKey, CopyText, DrawList, Effect,
                                         EndPaste, EnterLine, HidePrompt, HoldKey, OfferPaste, PassKey, Perform, PopMode, ScrollHelp,
                                         SendLiteral, ShowPrompt, ShowStatus, TellUnbound, TypeActs, TypeKey)
 from roam_live.frontend.line_editor import LEAVES, TAKES, AskedLine
 from roam_live.input.keys import Key, acts_of
-
-TYPE_CHECKING = False
-if TYPE_CHECKING:
-    from roam_live.frontend.copymode.keys import KeyPairs
 
 # The keys of the scroll mode: how far back each goes, in rows and in pages; and those that end it.
 SCROLLS = {"up": (1, 0), "k": (1, 0), "down": (-1, 0), "j": (-1, 0), "prev": (0, 1), "next": (0, -1), "g": (500, 0), "G": (-500, 0)}
@@ -27,6 +23,9 @@ HELP_PAGES = {"prev": -1, "next": 1, " ": 1}
 # The keys that move in a list, by how many lines; and those that leave it.
 LIST_MOVES = {"up": -1, "k": -1, "\x10": -1, "down": 1, "j": 1, "\x0e": 1, "prev": -10, "next": 10, "g": -99, "G": 99}
 LIST_LEAVES = ("q", *LEAVES)
+
+# What terminals send for arrows with Meta, where that is no escape before them.
+WITH_META = {"\x1b[1;3A": "M-up", "\x1b[1;3B": "M-down", "\x1b[1;9A": "M-up", "\x1b[1;9B": "M-down"}
 
 # Why a paste is not typed that answers a question.
 NO_ANSWER = "nothing is pasted: a question was there"
@@ -233,8 +232,10 @@ class CopyKeysMode(Mode):
 
     is_drawn = True
 
-    def __init__(self, keymap: Keymap, pairs: KeyPairs) -> None:
-        self.keymap, self.pairs = keymap, pairs
+    def __init__(self, keymap: Keymap) -> None:
+        self.keymap = keymap
+        # An escape that waits for the key behind it.
+        self.escape: Key | None = None
 
     def takes(self, key: Key, now: float) -> list[Effect]:
         """Return what a key asks for."""
@@ -242,17 +243,21 @@ class CopyKeysMode(Mode):
             return [OfferPaste(key)]
         if key.name in BORDERS and now < self.keymap.repeats_until:
             return [PassKey(key)]
-        if key.name == self.keymap.prefix and self.pairs.escape is None:
+        if key.name == self.keymap.prefix and self.escape is None:
             return [PushMode(PrefixMode(self.keymap, is_over_copy=True))]
         return self.fed(key)
 
     def fed(self, key: Key) -> list[Effect]:
         """Return the keys that are whole now."""
-        return [CopyKey(whole) for whole in self.pairs.fed(key)]
+        before, self.escape = self.escape, key if key.name == ESCAPE and not self.escape else None
+        if before:
+            return [CopyKey(Key(f"M-{key.name}", before.text + key.text))]
+        return [] if self.escape else [CopyKey(Key(WITH_META.get(key.text, key.name), key.text))]
 
     def ended(self) -> list[Effect]:
         """Return an escape behind which nothing came."""
-        return [CopyKey(whole) for whole in self.pairs.ended()]
+        before, self.escape = self.escape, None
+        return [CopyKey(before)] if before else []
 
 
 class CopyPasteMode(Mode):

@@ -7,6 +7,7 @@ from roam_live.common import tty
 from roam_live.common.event_loop import Loop
 from roam_live.frontend import sizes
 from roam_live.frontend.outer_terminal import OuterTerminal
+from roam_live.frontend.popup import Popup
 from roam_live.frontend.sizes import NO_SIZE, has_all
 from roam_live.protocol.panes import Rect
 
@@ -39,12 +40,13 @@ class ShownPart:
         self.chosen = 0
         # Whether nothing that is painted may reach the terminal before all is painted anew.
         self.is_stale = True
-        # Whether the last row is hidden while nothing is drawn, and whether something is.
-        self.is_row_hidden = self.has_popup = False
+        # Whether the last row is hidden while nothing is drawn, and what is drawn over the part.
+        self.is_row_hidden = False
+        self.popup: Popup | None = None
 
     def begin(self) -> None:
         """Know nothing of what a client paints that was just connected to: it paints the whole where it isn't asked for a part."""
-        self.asked, self.painted_size, self.place = None, NO_SIZE, self.place if self.has_popup else (0, 0)
+        self.asked, self.painted_size, self.place = None, NO_SIZE, self.place if self.popup else (0, 0)
         self.corner, self.is_from_first, self.is_stale = None, False, True
 
     def begin_window(self) -> None:
@@ -60,7 +62,7 @@ class ShownPart:
 
     def has_row(self) -> bool:
         """Return True if the last row is the front end's own; one that is hidden is so only while something is drawn."""
-        return not self.is_row_hidden or self.has_popup
+        return not self.is_row_hidden or self.popup is not None
 
     def room(self) -> tty.Size:
         """Return the size of a session of which this terminal shows all: a row of it is the session's status row, which is left out."""
@@ -106,7 +108,7 @@ class ShownPart:
         """Ask for a part of the session, or for all of it: for that part with the cursor that is nearest to the first row and column, or,
         where something is drawn over it, for the one that is shown."""
         self.asked, self.is_stale, self.is_placed = part, True, False
-        if part and (self.corner or self.has_popup):
+        if part and (self.corner or self.popup):
             self.place = self.corner or sizes.kept_place(self.size(), part, self.place)
             self.says("part {} {} {} {}".format(*self.place, *part))
         else:

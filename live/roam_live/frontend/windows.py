@@ -324,21 +324,15 @@ class WindowWishes:
     def grant(self, wish: str) -> None:
         """Does what a person asks for of windows: to go to one, or what somebody who only watches may not."""
         word, _, what = wish.partition(" ")
+        does: dict[str, Callable[[], object]] = {
+            "list": self.waiting.list_all, "new": self.waiting.open, "name": self.ask_name, "shut": self.ask_shut}
         why = self.why_one()
         if why:
             self.display.row.tell(why, SAID)
         elif word == "go":
             self.go_by(what)
-        elif what == "list":
-            self.waiting.list_all()
-        elif self.views.acts.link.is_read_only:
-            return
-        elif what == "new":
-            self.waiting.open()
-        elif what == "name":
-            self.ask_name()
-        elif what == "shut":
-            self.ask_shut()
+        elif what in does and (what == "list" or not self.views.link.is_read_only):
+            does[what]()
 
     def go_by(self, what: str) -> None:
         """Goes to the next window, the one before in order, the last one, or that of a number."""

@@ -7,7 +7,6 @@ from collections.abc import Callable
 
 from roam_live.config.environment import may_set_clipboard, wants_vi
 from roam_live.frontend.copymode.actions import LEAVE, REFRESH, CopyWish
-from roam_live.frontend.copymode.keys import KeyPairs
 from roam_live.frontend.copymode.mode import CopyMode
 from roam_live.frontend.copymode.mouse import CopyPointing
 from roam_live.frontend.copymode.render import CopyScreen
@@ -152,7 +151,7 @@ class Copying:
     def take_keys(self) -> None:
         """Has the keys be copy mode's."""
         self.opens()
-        self.keys = self.acts.modes.drawn = CopyKeysMode(self.acts.modes.keymap, KeyPairs())
+        self.keys = self.acts.modes.drawn = CopyKeysMode(self.acts.modes.keymap)
 
     def drop_keys(self) -> None:
         """Has the keys be copy mode's no more, and drops what waits."""

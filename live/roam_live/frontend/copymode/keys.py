@@ -1,18 +1,12 @@
 """The keys of copy mode, as tmux's tables copy-mode and copy-mode-vi have them: what each asks for, by tmux's names."""
 from __future__ import annotations
 
-import os
-
 from roam_live.frontend.line_editor import AskedLine
-from roam_live.input.keys import Key
 from roam_live.protocol.scrollback_client import MOST_SOUGHT
 
 # The key of escape, and what is before a key that is typed with Meta.
 ESCAPE = "\x1b"
 META = "M-"
-
-# What terminals send for arrows with Meta, where that is no escape before them.
-WITH_META = {"\x1b[1;3A": "M-up", "\x1b[1;3B": "M-down", "\x1b[1;9A": "M-up", "\x1b[1;9B": "M-down"}
 
 # The keys that both tables have.
 BOTH = {
@@ -53,28 +47,6 @@ MOST_COUNT = 9999
 def bounded(text: str) -> str:
     """What of a text may be searched for: the host takes no longer one."""
     return text.encode("utf-8", "replace")[:MOST_SOUGHT].decode("utf-8", "ignore")
-
-
-class KeyPairs:
-    """Keys of which an escape and the one behind it, where that came with it, are one with Meta."""
-
-    def __init__(self) -> None:
-        self.escape: Key | None = None
-
-    def fed(self, key: Key) -> list[Key]:
-        """The keys that are whole now."""
-        before, self.escape = self.escape, None
-        if before:
-            return [Key(META + key.name, before.text + key.text)]
-        if key.name == ESCAPE:
-            self.escape = key
-            return []
-        return [Key(WITH_META.get(key.text, key.name), key.text)]
-
-    def ended(self) -> list[Key]:
-        """The escape behind which nothing came."""
-        before, self.escape = self.escape, None
-        return [before] if before else []
 
 
 class Count:
