@@ -37,7 +37,7 @@ KNOWN = {
     ("roam_live/session/survey.py", "CLIENT_COUNT", "re"): LINES,
     ("roam_live/protocol/host_client.py", "KEYPAD", "re"): LINES,
     ("roam_live/protocol/host_client.py", "NOTICE", "re"): LINES,
-    ("roam_live/frontend/bindings.py", "ESCAPE", "ESC"): TYPED,
+    ("roam_live/input/keys.py", "ESCAPE", "ESC"): TYPED,
     ("roam_live/frontend/modes.py", "SCROLL_ENDS", "ESC"): TYPED,
     ("roam_live/protocol/screen_cells.py", "parted", "ESC"): CELLS,
     ("roam_live/protocol/screen_cells.py", "sgr_of", "ESC"): CELLS,

@@ -18,7 +18,7 @@ KEYS, BEFORE = 10, 3
 
 # A key and its echo take so many calls of Python and bytecodes of the package at most: a tenth more than they do, since other versions of
 # Python have other bytecodes.
-CALLS, BYTECODES = 170, 3800
+CALLS, BYTECODES = 150, 3300
 
 
 class CountedKeys(list):

@@ -44,7 +44,7 @@ class Lines(Case):
         for _ in range(int(seconds)):
             self.now += LOOKS
             if paints:
-                self.lines.heard()
+                self.lines.painted = self.now
             self.loop.do_due()
 
     def test_painted(self):
@@ -68,7 +68,7 @@ class Lines(Case):
     def test_unpainted(self):
         """Where nothing is painted that isn't known before a silence would have been told; what was painted just before isn't that."""
         self.lines.note_sent()
-        self.lines.heard()
+        self.lines.painted = self.now
         self.wait(UNTAKEN_SILENTLY - 1)
         self.assertEqual(self.display.told, "")
         self.wait(1)

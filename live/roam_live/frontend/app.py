@@ -51,7 +51,7 @@ class FrontEnd:
         self.wakeup = woken(signal.SIGWINCH, signal.SIGCONT, signal.SIGTSTP, *LEAVING)
         self.watchdog = HostWatchdog(session, self.loop, lambda line: self.display.row.tell(line, LOSS_TOLD))
         self.display = Display(self.loop, lambda line: self.connection.say(line))
-        self.keyboard = Interpreter(ModeStack(Keymap()), self.display, self.loop, lambda: self.views.commands, lambda: self.windows)
+        self.keyboard = Interpreter(ModeStack(Keymap()), self.display, self.loop, lambda: self.views.view.commands, lambda: self.windows)
         self.settings = FrontSettings(self.keyboard, StatusRow(self.display, self.loop, self.values), prefix, prediction)
         self.host_link = HostLink(session.common, self.loop, self.display.outer.size, is_read_only)
         self.host_link.environment = environment_lines(session, is_read_only)
@@ -155,7 +155,7 @@ class FrontEnd:
             self.display.outer.set_keypad(places is not None and places.focus in view.host.keypads)
         if view.link.waiting and view.link.peer:
             self.connection.send()
-        if outer.has_more():
+        if outer.waiting or outer.clip.newest:
             self.show()
         if self.views.draining.views and not self.display.part.is_stale:
             self.views.draining.settle()

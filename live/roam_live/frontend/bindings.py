@@ -5,7 +5,7 @@ from roam_live.config.command_table import BY_NAME, DEFAULT_KEYS, NamedCommand, 
 from roam_live.config.environment import PREFIX, PREFIXES
 from roam_live.input.extended_keys import ANSWERED
 from roam_live.input.key_names import name_of_key, named, named_key, names_of_key, spelled_name, typed_name
-from roam_live.input.keys import Key
+from roam_live.input.keys import ESCAPE, Key
 from roam_live.input.mouse_reports import MOUSE
 from roam_live.protocol.colours import COLOUR
 
@@ -22,8 +22,6 @@ DEFAULTS = {typed_name(named(key)): asked_by(words.split(" ")) for name, words i
 BINDINGS = {key: asked.acts[0] for key, asked in DEFAULTS.items() if asked.acts}
 BORDERS = {key: asked.wish for key, asked in DEFAULTS.items() if asked.wish.startswith("border")}
 WISHES = {key: asked.wish for key, asked in DEFAULTS.items() if key not in BINDINGS and key not in BORDERS}
-
-ESCAPE = "\x1b"
 
 # What comes among keys and is none: an escape before one of these is a key of its own.
 NO_KEYS = ("text", "paste", "pasted", MOUSE, COLOUR, ANSWERED)

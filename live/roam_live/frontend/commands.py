@@ -170,6 +170,8 @@ class Commands:
     def is_full(self) -> bool:
         """Return True if so much waits for rows, for the focus or for a window that nothing more is to come. What waits behind a paste
         keeps nothing back: C-c and the prefix are read in any case."""
+        if not (self.synchronizing.keys or self.copy_mode or self.modes.pushed):
+            return False
         return self.synchronizing.is_full() or self.copy_mode is not None and self.copy_mode.is_full() or self.windows().waiting.is_full()
 
     # ---- what is reported

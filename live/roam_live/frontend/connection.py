@@ -89,10 +89,6 @@ class UntakenLines:
             self.count()
             self.loop.later(MOMENT, LOOKS, self.look)
 
-    def heard(self) -> None:
-        """Something is painted."""
-        self.painted = self.loop.clock()
-
     def answered(self) -> None:
         """The server answered."""
         self.alive = self.loop.clock()
@@ -231,11 +227,12 @@ class Connecting:
         """Take a record: by the size of what is painted that of the session may be known, if nothing else reports it."""
         self.display.take(record)
         if record.word in ("paint", "anew"):
-            self.untaken.heard()
+            self.untaken.painted = self.loop.clock()
             self.preloading.begin()
-        follower = self.views.commands.follower
-        if record.word == "size" and not follower.is_fitted and "size" not in self.loop.due:
-            self.loop.later("size", SIZES, follower.fit_first)
+        elif record.word == "size":
+            follower = self.views.commands.follower
+            if not follower.is_fitted and "size" not in self.loop.due:
+                self.loop.later("size", SIZES, follower.fit_first)
 
     def send(self) -> None:
         """Send what the client takes."""

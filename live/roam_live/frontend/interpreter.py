@@ -104,6 +104,7 @@ class Interpreter:
     def choose(self, prefix: str) -> None:
         """Make the key of a name the prefix."""
         self.modes.keymap.choose(prefix)
+        self.modes.keymap.rows = self.display.outer.size()[0]
         self.help = help_with(prefix)
         self.display.row.fits_line = "" if self.commands().link.is_read_only else f"{prefix} r fits"
         self.display.row.leaves_line = f"{prefix} d leaves"
@@ -124,10 +125,10 @@ class Interpreter:
         keys = self.modes.keymap.joined(keys)
         place = 0
         while place < len(keys):
-            if self.commands() is not here:
+            if place and self.commands() is not here:
                 here = self.commands()
                 here.follower.follow_latest()
-            key, count = self.modes.whole(keys, place)
+            key, count = self.modes.whole(keys, place) if self.modes.pushed else (keys[place], 1)
             self.take_any(key)
             place += count
         if isinstance(self.modes.drawn, CopyKeysMode):
@@ -163,12 +164,10 @@ class Interpreter:
         if modes.pushed and self.display.notice != self.help:
             modes.drop(HelpMode)
         is_covered = is_paused or bool(self.display.notice)
-        modes.keymap.rows = self.display.outer.size()[0]
-        is_line = bool(modes.pushed) and isinstance(modes.pushed[-1], LineMode)
         asked: list[Effect] = []
         if mode:
             asked = modes.taken_by(mode, key, now, is_covered)
-        elif not (is_paused and is_line):
+        elif not is_paused or not modes.pushed or not isinstance(modes.pushed[-1], LineMode):
             asked = modes.takes(key, now, is_covered)
         if is_paused:
             self.carry_out(while_paused(asked))

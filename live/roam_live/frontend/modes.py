@@ -4,12 +4,12 @@ No mode knows the front end, a socket or a terminal. A mode may change only itse
 """
 from __future__ import annotations
 
-from roam_live.frontend.bindings import BINDINGS, BORDERS, DIGITS, ESCAPE, MOST_VIEW, NEWEST, PICKS, REPEATS, WISHES, Keymap, with_meta
+from roam_live.frontend.bindings import BINDINGS, BORDERS, DIGITS, MOST_VIEW, NEWEST, PICKS, REPEATS, WISHES, Keymap, with_meta
 from roam_live.frontend.effects import (AddPaste, BeginPaste, ClearStatus, CloseHelp, CloseList, CopyKey, CopyText, DrawList, Effect,
                                         EndPaste, EnterLine, HidePrompt, HoldKey, OfferPaste, PassKey, Perform, PopMode, ScrollHelp,
                                         SendLiteral, ShowPrompt, ShowStatus, TellUnbound, TypeActs, TypeKey)
 from roam_live.frontend.line_editor import LEAVES, TAKES, AskedLine
-from roam_live.input.keys import Key, acts_of
+from roam_live.input.keys import ESCAPE, Key, acts_of
 
 # The keys of the scroll mode: how far back each goes, in rows and in pages; and those that end it.
 SCROLLS = {"up": (1, 0), "k": (1, 0), "down": (-1, 0), "j": (-1, 0), "prev": (0, 1), "next": (0, -1), "g": (500, 0), "G": (-500, 0)}

@@ -52,10 +52,6 @@ class ClipboardWriter:
             self.rest.clear()
         self.newest = CLIP_BEGIN + text.encode("ascii", "replace") + CLIP_END
 
-    def waits(self) -> bool:
-        """Whether something is to be written."""
-        return bool(self.newest or self.rest)
-
     def put(self, end: int) -> bool:
         """Writes what a terminal takes of it; tells whether that is still there."""
         if not self.rest:
@@ -210,11 +206,11 @@ class OuterTerminal:
 
     def has_more(self) -> bool:
         """Whether something waits for it."""
-        return bool(self.waiting) or self.clip.waits()
+        return bool(self.waiting or self.clip.newest or self.clip.rest)
 
     def put(self) -> bool:
         """Writes what it takes now; tells whether it is still there. A text for the clipboard stands where all is written that waited."""
-        if self.clip.has_begun or not self.waiting and self.clip.waits():
+        if self.clip.has_begun or not self.waiting and (self.clip.newest or self.clip.rest):
             return self.clip.put(self.end)
         return write(self.end, self.waiting)
 

@@ -63,6 +63,7 @@ class SizeFollower:
 
     def resized(self) -> None:
         """Take note of what was shown before the terminal had another size, the first of many if it is drawn by hand."""
+        self.acts.modes.keymap.rows = self.acts.display.outer.size()[0]
         if not self.loop.due.keys() & {"size", "others"}:
             shows_all = self.zooming.showed_all if self.zooming.is_on() else self.acts.display.part.shows_all()
             self.showed_all = self.size.requested is not None or shows_all

@@ -179,7 +179,7 @@ class WindowActs:
         if self.link.is_read_only:
             return False
         mode = self.modes.scroll_mode()
-        mode.view, mode.keymap.rows = 0, self.display.outer.size()[0]
+        mode.view = 0
         if is_page:
             self.act(mode.step(0, 1))
         self.display.row.tell(mode.status().line, None)

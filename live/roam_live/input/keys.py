@@ -45,6 +45,8 @@ SPELLINGS.update({PASTE: "paste", PASTED: "pasted"})
 ACTS = {name for name in SPELLINGS.values() if not name.startswith("C-") and not name.startswith("paste")}
 TYPED = {"\r": "key return", "\x7f": "key backspace"}
 
+ESCAPE = "\x1b"
+
 # A sequence, or a character; and the beginning of a sequence that more may follow.
 WHOLE = re.compile(ANSWER.pattern + r"|\x1b\[\[[A-E]|\x1b\[[0-?]*[ -/]*[@-~]|\x1bO[ -~]|.", re.DOTALL)
 BEGUN = re.compile(r"\x1b(\[\[?|\[[0-?]+[ -/]*|O)?")
@@ -61,6 +63,8 @@ class Keys:
     def fed(self, chunk: bytes) -> list[Key]:
         """The keys that are whole now. An escape that may begin more waits."""
         text, self.rest = self.rest + self.decoder.decode(chunk), ""
+        if ESCAPE not in text and not self.is_pasting:
+            return keys_in(text)
         keys: list[Key] = []
         begin = 0
         while begin < len(text):
@@ -110,6 +114,8 @@ def keys_in(text: str) -> list[Key]:
 
 def key_of(text: str) -> Key:
     """The key of a character or a sequence: one that tells what is held is the key that other terminals send for it."""
+    if len(text) == 1:
+        return Key(text, text)
     extended = extended_key(text) if text.endswith(("~", "u")) else None
     if not extended:
         return Key(name_of(text), text)
@@ -126,7 +132,7 @@ def name_of(text: str) -> str:
         return COLOUR
     if text.startswith(BEGINS_ANSWER) and answered(text) is not None:
         return ANSWERED
-    return SPELLINGS.get(text, text if len(text) == 1 else "unknown")
+    return text if len(text) == 1 else SPELLINGS.get(text, "unknown")
 
 
 def acts_of(key: Key) -> list[str]:
