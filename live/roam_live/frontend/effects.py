@@ -42,15 +42,19 @@ class NumberEffect(Effect):
 # ---- which mode takes a key
 
 
-class PopMode(Effect):
+class StackEffect(Effect):
+    """What the stack of modes itself carries out."""
+
+
+class PopMode(StackEffect):
     """The mode that asks for this ends."""
 
 
-class PassKey(KeyEffect):
+class PassKey(StackEffect, KeyEffect):
     """The modes below take a key."""
 
 
-class SendLiteral(KeyEffect):
+class SendLiteral(StackEffect, KeyEffect):
     """The modes below take a key as itself: the prefix that is typed twice."""
 
 

@@ -28,6 +28,9 @@ TYPE_CHECKING = False
 if TYPE_CHECKING:
     from roam_live.frontend.interfaces import OtherWindows
 
+# What comes among keys and the terminal reports.
+REPORTED = (COLOUR, ANSWERED, MOUSE)
+
 # What is told of a key that is not bound.
 UNBOUND = "{0} {1} is not bound; {0} ? shows the keys"
 
@@ -137,7 +140,7 @@ class Interpreter:
 
     def take_any(self, key: Key) -> None:
         """Take a key, or what the terminal reports."""
-        if key.name in (COLOUR, ANSWERED) or key.name == MOUSE and not self.modes.has(PastingMode, HoldMode):
+        if key.name in REPORTED and not (key.name == MOUSE and self.modes.has(PastingMode, HoldMode)):
             self.reported(key)
             return
         try:

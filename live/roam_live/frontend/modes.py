@@ -7,7 +7,7 @@ from __future__ import annotations
 from roam_live.frontend.bindings import BINDINGS, BORDERS, DIGITS, MOST_VIEW, NEWEST, PICKS, REPEATS, WISHES, Keymap, with_meta
 from roam_live.frontend.effects import (AddPaste, BeginPaste, ClearStatus, CloseHelp, CloseList, CopyKey, CopyText, DrawList, Effect,
                                         EndPaste, EnterLine, HidePrompt, HoldKey, OfferPaste, PassKey, Perform, PopMode, ScrollHelp,
-                                        SendLiteral, ShowPrompt, ShowStatus, TellUnbound, TypeActs, TypeKey)
+                                        SendLiteral, ShowPrompt, ShowStatus, StackEffect, TellUnbound, TypeActs, TypeKey)
 from roam_live.frontend.line_editor import LEAVES, TAKES, AskedLine
 from roam_live.input.keys import ESCAPE, Key, acts_of
 
@@ -268,7 +268,7 @@ class CopyPasteMode(Mode):
         return [CopyText(key.text)] if key.name == "text" else [PopMode()]
 
 
-class PushMode(Effect):
+class PushMode(StackEffect):
     """Another mode takes the keys from here on."""
 
     def __init__(self, mode: Mode) -> None:
@@ -342,16 +342,16 @@ class ModeStack:
         found: list[Effect] = []
         below = self.below(mode, is_covered) if mode is not self.plain else mode
         for effect in mode.takes(key, now):
-            if isinstance(effect, PushMode):
+            if not isinstance(effect, StackEffect):
+                found.append(effect)
+            elif isinstance(effect, PushMode):
                 self.push(effect.mode)
-            elif isinstance(effect, PopMode):
-                self.remove(mode)
             elif isinstance(effect, PassKey):
                 found += self.taken_by(below, effect.key, now, is_covered)
             elif isinstance(effect, SendLiteral):
                 found += self.literal(effect.key, is_covered)
             else:
-                found.append(effect)
+                self.remove(mode)
         return found
 
     def literal(self, key: Key, is_covered: bool) -> list[Effect]:
