@@ -4,7 +4,7 @@ import unittest
 
 from lived import Attached, Lived
 from roam_live.frontend import synchronize_panes
-from roam_live.frontend.synchronize_panes import AGAIN, FOCUS_WAIT, MOST_ACTS, lines_of
+from roam_live.frontend.synchronize_panes import AGAIN, FOCUS_WAIT, HIDES, MOST_ACTS, lines_of
 
 
 def typed_in(lines, focus):
@@ -78,6 +78,39 @@ class Person(Attached):
         self.types(b"c")
         self.assertEqual((self.heard[1:], self.predicted, self.commands.display.row.panes_label()),
                          (["char 63"], ["never", "adaptive"], " 1  2 [3]"))
+
+    def test_focus_by_another(self):
+        """Once another has moved the focus, or its pane has ended, no predictions are shown for a moment; by this person's moves they are."""
+        self.begin(3)
+        self.types(b"\x02q1")
+        self.assertEqual(self.predicted, [])
+        self.by_another("focus 2")
+        self.assertEqual(self.predicted, ["never"])
+        self.now += HIDES - 0.1
+        self.by_another("focus 3")
+        self.now += 0.2
+        self.person.loop.turn()
+        self.assertEqual(self.predicted, ["never"] * 2)
+        self.now += HIDES
+        self.person.loop.turn()
+        self.assertEqual(self.predicted, ["never", "never", "adaptive"])
+        self.by_another("close")
+        self.assertEqual(self.predicted[3:], ["never"])
+        self.by_another("split right", "focus 1", "focus 2")
+        self.now += HIDES
+        self.person.loop.turn()
+        self.commands.synchronizing.predictions = lambda: "never"
+        del self.predicted[:]
+        self.by_another("focus 1")
+        self.assertEqual(self.predicted, [])
+
+    def test_focus_unknown(self):
+        """The first report of the focus is no move, and neither is one of other sizes."""
+        self.begin(2)
+        self.by_another("grow 1")
+        self.person.tell(None)
+        self.person.tell(self.session.places())
+        self.assertEqual(self.predicted, [])
 
     def test_commands(self):
         """What isn't a key goes where it always does: the prefix moves the focus, and the keys behind wait until that is told."""

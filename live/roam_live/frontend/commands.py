@@ -178,7 +178,8 @@ class Commands:
 
     def panes_changed(self) -> None:
         """Take note that something is reported of the panes: where the focus is now, if that or a pane is new."""
-        self.acts.panes_changed()
+        if self.acts.panes_changed():
+            self.synchronizing.hide_predictions()
         self.size.panes_changed()
         self.panes.panes_changed()
         self.pointing.panes_changed()

@@ -31,6 +31,10 @@ FOCUS_WAIT = 1.0
 # So many of them wait then before no more is read.
 MOST_KEYS = 1 << 16
 
+# No predictions are shown for so many seconds once the focus has moved, and not by this person. Until the client shows the pane that has it,
+# it would show them in the one before, where keys may be trusted, and the first of them may be one of a password.
+HIDES = 1.0
+
 # So many seconds a line stands that tells what is so from now on.
 TOLD = 2.0
 OFF = "keys go to the pane in focus"
@@ -79,6 +83,8 @@ class Synchronizing:
         self.switched: dict[int, bool] = {}
         self.number = 0
         self.predictions: Callable[[], str] = lambda: "never"
+        # Whether none are shown for a moment.
+        self.is_hiding = False
         # What each key types that isn't typed yet.
         self.keys: list[Typed] = []
 
@@ -107,7 +113,19 @@ class Synchronizing:
 
     def choose_prediction(self) -> None:
         """Has no predictions be shown while it is on: what a key shows in one pane isn't known of the others."""
-        self.acts.link.predict("never" if self.is_on() else self.predictions())
+        self.acts.link.predict("never" if self.is_on() or self.is_hiding else self.predictions())
+
+    def hide_predictions(self) -> None:
+        """Have no predictions be shown for a moment."""
+        if self.predictions() != "never":
+            self.is_hiding = True
+            self.choose_prediction()
+            self.loop.later(f"predictions {self.number}", HIDES, self.show_predictions)
+
+    def show_predictions(self) -> None:
+        """Have predictions be shown again."""
+        self.is_hiding = False
+        self.choose_prediction()
 
     def panes(self) -> list[int]:
         """The panes that have what is typed, of which the first is in focus; none where it isn't known which that is."""

@@ -45,6 +45,8 @@ class WindowActs:
         # reported then.
         self.moved_to: int | None = None
         self.moved_from: Places | None = None
+        # The making of the pane that was reported as in focus last.
+        self.focused = ""
         # The making of the pane to which this person's last key went, where that is known.
         self.typed_in = ""
         self.pastes = Pastes(link, host, loop, lambda line: display.row.tell(line, PASTE_TOLD), self.is_cut)
@@ -147,11 +149,14 @@ class WindowActs:
             return True
         return set(now.rects) != set(before.rects) if self.moved_to or self.borders_move() else now.rects != before.rects
 
-    def panes_changed(self) -> None:
-        """Go by what is reported of the panes."""
+    def panes_changed(self) -> bool:
+        """Go by what is reported of the panes. Return True if the focus has moved, and not by this person."""
         now, before = self.panes.places, self.moved_from
+        last, self.focused = self.focused, self.panes.making(now.focus) if now else ""
+        is_others = self.moved_to is None and self.focused != last and "" not in (last, self.focused)
         if now is None or before is None or self.is_moved(now, before):
             self.moved_to = None
+        return is_others
 
     # ---- prompts, and the view that all share
 
