@@ -187,7 +187,7 @@ class WindowOpening:
 
 
 # What is told to who had a window opened.
-OPENED = re.compile(r"opened (?:(?P<window>[1-9]\d?)|none (?P<why>.{1,200}))", re.ASCII)
+OPENED = r"opened (?:(?P<window>[1-9]\d?)|none (?P<why>.{1,200}))"
 
 ONE = "no other window can be had here"
 FAR = f"{ONE}: the session there was begun by hand"
@@ -267,7 +267,7 @@ class WindowWishes:
         """Takes what the host told."""
         self.waiting.say_unsaid()
         for line in lines:
-            opened = OPENED.fullmatch(line)
+            opened = re.fullmatch(OPENED, line, re.ASCII)
             if opened:
                 self.waiting.opened(int(opened["window"] or 0), printable(opened["why"] or ""))
                 continue

@@ -9,8 +9,8 @@ from roam_live.frontend.status_line import cut, window_label
 from roam_live.protocol.window_lines import LONGEST_NAME, name_in
 
 # What is told of the windows to who asked for them: it may be told from another machine.
-TOLD = re.compile(r"window (?P<window>[1-9]\d?) (?P<name>-|(?:[0-9a-f]{2}){1,256})|gone (?P<gone>[1-9]\d?)|windows (?P<count>\d{1,2})"
-                  r"|bell (?P<bell>[1-9]\d?) [1-9]|activity (?P<activity>[1-9]\d?)|runs (?P<runs>[1-9]\d?) (?P<program>.{1,255})", re.ASCII)
+TOLD = (r"window (?P<window>[1-9]\d?) (?P<name>-|(?:[0-9a-f]{2}){1,256})|gone (?P<gone>[1-9]\d?)|windows (?P<count>\d{1,2})"
+        r"|bell (?P<bell>[1-9]\d?) [1-9]|activity (?P<activity>[1-9]\d?)|runs (?P<runs>[1-9]\d?) (?P<program>.{1,255})")
 
 # So many columns of a name stand in the last row, and so many of what runs in a window.
 MOST_COLUMNS = 24
@@ -39,7 +39,7 @@ class WindowsState:
 
     def take(self, line: str) -> list[int] | None:
         """Takes a line, and tells which windows are gone by it; None where it can be none of these."""
-        found = TOLD.fullmatch(line)
+        found = re.fullmatch(TOLD, line, re.ASCII)
         if not found:
             return None
         word = found.lastgroup if found.lastgroup != "program" else "runs"

@@ -15,10 +15,10 @@ QUERY, WANTED = b"\x1b[?4m", b"\x1b[>4;2m"
 # What an answer is called among the keys, how one begins, which no key does, and all of one.
 ANSWERED = "answered"
 BEGIN = "\x1b[>"
-ANSWER = re.compile(r"\x1b\[>4(?:;([0-3]?))?m", re.ASCII)
+ANSWER = r"\x1b\[>4(?:;([0-3]?))?m"
 
 # A key in that form, and in the other that a person may have chosen for a terminal (formatOtherKeys).
-FORM = re.compile(r"\x1b\[27;(\d{1,3});(\d{1,7})~|\x1b\[(\d{1,7});(\d{1,3})u", re.ASCII)
+FORM = r"\x1b\[27;(\d{1,3});(\d{1,7})~|\x1b\[(\d{1,7});(\d{1,3})u"
 
 # The keys that are no characters, by the codes that they have there.
 ENTER, TAB, ESCAPE, SPACE = 13, 9, 27, 32
@@ -85,7 +85,7 @@ def controlled(letter: str) -> str:
 
 def extended_key(text: str) -> ExtendedKey | None:
     """The key that a sequence tells; None where it tells none."""
-    found = FORM.fullmatch(text)
+    found = re.fullmatch(FORM, text, re.ASCII)
     if not found:
         return None
     held, code = (int(found[1]) - 1, int(found[2])) if found[1] else (int(found[4]) - 1, int(found[3]))
@@ -101,7 +101,7 @@ def extended_key(text: str) -> ExtendedKey | None:
 
 def answered(text: str) -> int | None:
     """How a terminal told such keys before, by an answer: 0 where it didn't; None where it is no answer."""
-    found = ANSWER.fullmatch(text)
+    found = re.fullmatch(ANSWER, text, re.ASCII)
     return int(found[1] or 0) if found else None
 
 

@@ -48,8 +48,8 @@ TYPED = {"\r": "key return", "\x7f": "key backspace"}
 ESCAPE = "\x1b"
 
 # A sequence, or a character; and the beginning of a sequence that more may follow.
-WHOLE = re.compile(ANSWER.pattern + r"|\x1b\[\[[A-E]|\x1b\[[0-?]*[ -/]*[@-~]|\x1bO[ -~]|.", re.DOTALL)
-BEGUN = re.compile(r"\x1b(\[\[?|\[[0-?]+[ -/]*|O)?")
+WHOLE = ANSWER.pattern + r"|\x1b\[\[[A-E]|\x1b\[[0-?]*[ -/]*[@-~]|\x1bO[ -~]|."
+BEGUN = r"\x1b(\[\[?|\[[0-?]+[ -/]*|O)?"
 
 
 class Keys:
@@ -64,7 +64,7 @@ class Keys:
         """The keys that are whole now. An escape that may begin more waits."""
         text, self.rest = self.rest + self.decoder.decode(chunk), ""
         if ESCAPE not in text and not self.is_pasting:
-            return keys_in(text)
+            return [Key(letter, letter) for letter in text]
         keys: list[Key] = []
         begin = 0
         while begin < len(text):
@@ -85,7 +85,7 @@ class Keys:
         """The keys of a text in which no paste begins; what may begin a sequence at its end waits."""
         answer = begun_at(text)
         cut = text.rfind("\x1b", max(0, len(text) - 32)) if answer is None else answer
-        is_cut = answer is not None or cut >= 0 and BEGUN.fullmatch(text, cut) is not None
+        is_cut = answer is not None or cut >= 0 and re.fullmatch(BEGUN, text[cut:]) is not None
         self.rest = text[cut:] if is_cut else ""
         return keys_in(text[:cut] if is_cut else text)
 
@@ -109,7 +109,7 @@ class Keys:
 def keys_in(text: str) -> list[Key]:
     """The keys of a text, and reports of the mouse and answers of the terminal among them; a sequence that isn't known has the name of
     none."""
-    return [key_of(found[0]) for found in WHOLE.finditer(text)]
+    return [key_of(found[0]) for found in re.finditer(WHOLE, text, re.DOTALL)]
 
 
 def key_of(text: str) -> Key:

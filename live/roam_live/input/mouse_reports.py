@@ -9,7 +9,7 @@ from collections import namedtuple
 # whether the button is held or was let go.
 MOUSE = "mouse"
 BEGIN = "\x1b[<"
-REPORT = re.compile(r"\x1b\[<(\d{1,3});(\d{1,5});(\d{1,5})([Mm])", re.ASCII)
+REPORT = r"\x1b\[<(\d{1,3});(\d{1,5});(\d{1,5})([Mm])"
 
 # What is marked beside a button: the keys that are held, that it moves, and that it is one of the wheel or another further button.
 KEYS, MOVES, WHEEL, FURTHER = 0x1C, 0x20, 0x40, 0x80
@@ -62,7 +62,7 @@ class MouseReport(namedtuple("MouseReport", "button row col is_release")):
 
 def report_of(text: str) -> MouseReport | None:
     """The report that a sequence is; None for another."""
-    found = REPORT.fullmatch(text)
+    found = re.fullmatch(REPORT, text, re.ASCII)
     return MouseReport(int(found[1]), int(found[3]), int(found[2]), found[4] == "m") if found else None
 
 
