@@ -7,9 +7,9 @@ from aids import Case, StillLoop
 from roam_live.cli import cmd, send, targets, windows
 from roam_live.cli.windows import WindowsAsked
 from roam_live.common.errors import Fault
-from roam_live.frontend import pane_actions
+from roam_live.frontend import spawn_commands
 from roam_live.frontend.command_line import CommandRunner
-from roam_live.frontend.pane_actions import Handing
+from roam_live.frontend.spawn_commands import Handing
 from roam_live.protocol.panes import Places, Rect
 from roam_live.protocol.spawn_request import Begins, unpacked
 from test_socket_server import Sockets, read_now
@@ -125,7 +125,7 @@ class AtFrontEnd(Case):
         self.acts.places.return_value = self.commands.zooming.unzoomed.return_value = Places({1: FIRST}, 1)
         self.acts.panes.making.return_value = "1 7"
         self.windows = mock.Mock(**{"why_one.return_value": ""})
-        self.patch_of(pane_actions, "random_name", return_value=NAME)
+        self.patch_of(spawn_commands, "random_name", return_value=NAME)
         self.commands.handing = Handing(self.acts, self.commands.zooming, lambda: self.windows)
         self.runner = CommandRunner(mock.Mock(loop=self.loop, **{"commands.return_value": self.commands}), mock.Mock())
 

@@ -12,7 +12,7 @@ from roam_live.config import environment
 from roam_live.config.command_table import BY_NAME, DEFAULT_KEYS, BadCommand, asked_by, completed
 from roam_live.config.loader import Binding, FileSettings
 from roam_live.config.user_file import OWN
-from roam_live.frontend.bindings import BINDINGS, BORDERS, HELP, WISHES
+from roam_live.frontend.bindings import HELP, defaults
 from roam_live.frontend.command_line import CommandLine, CommandRunner
 from roam_live.input.key_names import name_of_key
 from roam_live.input.keys import Keys
@@ -85,7 +85,7 @@ class Table(unittest.TestCase):
 
     def test_defaults(self):
         """Each key behind the prefix stands for a command, and the help has it."""
-        wishes = {**WISHES, **BORDERS, **BINDINGS}
+        wishes = {key: asked.wish or asked.acts[0] for key, asked in defaults().items()}
         self.assertEqual(len(wishes), len(DEFAULT_KEYS))
         keys = ("%", "up", "prev", " ", "\x1a", "C-left", "o", "0", "/")
         self.assertEqual([wishes[key] for key in keys],
@@ -115,7 +115,7 @@ class Bound(unittest.TestCase):
 
     def test_rebound(self):
         """Each default key may be bound to another command, and each command to another key."""
-        for key in {**WISHES, **BORDERS, **BINDINGS}:
+        for key in defaults():
             typed = {"up": "\x1b[A", "down": "\x1b[B", "left": "\x1b[D", "right": "\x1b[C", "prev": "\x1b[5~", "C-up": "\x1b[1;5A",
                      "C-down": "\x1b[1;5B", "C-left": "\x1b[1;5D", "C-right": "\x1b[1;5C"}.get(key, key)
             name = name_of_key(keys_of(typed.encode())[0])

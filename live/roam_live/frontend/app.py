@@ -1,6 +1,7 @@
 """A person's front end of a session: a terminal connected to the session's client process, until the person leaves or the session ends."""
 from __future__ import annotations
 
+import functools
 import signal
 import time
 from collections.abc import Callable
@@ -11,7 +12,6 @@ from roam_live.common.io import read
 from roam_live.common.process import unwoken, woken
 from roam_live.config.environment import sets_clipboard, wants_mouse
 from roam_live.frontend.bindings import Keymap
-from roam_live.frontend.command_line import CommandRunner
 from roam_live.frontend.connection import PROBES, SIZES, Connecting
 from roam_live.frontend.display import Display
 from roam_live.frontend.interpreter import Interpreter
@@ -28,6 +28,7 @@ from roam_live.session.host_watchdog import HostWatchdog
 
 TYPE_CHECKING = False
 if TYPE_CHECKING:
+    from roam_live.frontend.command_line import CommandRunner
     from roam_live.protocol.session_interface import AnySession
 
 # So many seconds each of several clients has at least for what was typed before a person left.
@@ -58,7 +59,6 @@ class FrontEnd:
         maker = ViewMaker(self.keyboard, self.settings, self.host_link, self.leave, is_read_only, is_whole, has_clips and not is_read_only)
         self.views = WindowViews(maker, session, is_new)
         self.windows = WindowWishes(self.views, self.host_link)
-        self.runner = CommandRunner(self.keyboard, self.settings)
         self.connection = Connecting(self.views, self.windows.leave)
         self.join_parts()
         self.keyboard.choose(prefix)
@@ -71,11 +71,18 @@ class FrontEnd:
         views, keyboard, windows = self.views, self.keyboard, self.windows
         views.server_ends, views.shows = self.server_ended, self.connection.show
         self.host_link.leaves = lambda: self.leave(DETACHED)
-        self.host_link.others_left = lambda count: views.commands.others_left(count)
+        self.host_link.others_left = keyboard.others_left
         windows.waiting.types = keyboard.typed
         keyboard.left_window = views.left_commands
-        keyboard.enters, keyboard.runs = self.runner.typed, self.runner.run_wish
-        self.settings.all_commands, self.settings.runs = views.all_commands, self.runner.run_all
+        keyboard.enters, keyboard.runs = lambda text: self.runner.typed(text), lambda wish: self.runner.run_wish(wish)
+        self.settings.all_commands, self.settings.runs = views.all_commands, lambda commands: self.runner.run_all(commands)
+
+    @functools.cached_property
+    def runner(self) -> CommandRunner:
+        """Return what does commands, which is loaded as it is first used."""
+        from roam_live.frontend.command_line import CommandRunner
+
+        return CommandRunner(self.keyboard, self.settings)
 
     def values(self) -> dict[str, str]:
         """Return what the words of formats stand for."""

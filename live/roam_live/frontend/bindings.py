@@ -1,27 +1,21 @@
 """What keys mean behind the prefix, the keymap of a person who has bound others, and the list of keys."""
 from __future__ import annotations
 
-from roam_live.config.command_table import BY_NAME, DEFAULT_KEYS, NamedCommand, asked_by
+import functools
+
 from roam_live.config.environment import PREFIX, PREFIXES
 from roam_live.input.extended_keys import ANSWERED
-from roam_live.input.key_names import name_of_key, named, named_key, names_of_key, spelled_name, typed_name
 from roam_live.input.keys import ESCAPE, Key
 from roam_live.input.mouse_reports import MOUSE
 from roam_live.protocol.colours import COLOUR
 
 TYPE_CHECKING = False
 if TYPE_CHECKING:
+    from roam_live.config.command_table import CommandWish, NamedCommand
     from roam_live.config.loader import Binding
 
     # What a settings file binds: by the table and the name of a key, nothing where it is unbound.
     Own = dict[tuple[str, str], "Binding | None"]
-
-# What the keys behind the prefix ask for where nobody bound them otherwise, by the table of commands: acts, or wishes, of which some move
-# borders. An arrow is the wish to have the pane there in focus.
-DEFAULTS = {typed_name(named(key)): asked_by(words.split(" ")) for name, words in DEFAULT_KEYS.items() if (key := named_key(name))}
-BINDINGS = {key: asked.acts[0] for key, asked in DEFAULTS.items() if asked.acts}
-BORDERS = {key: asked.wish for key, asked in DEFAULTS.items() if asked.wish.startswith("border")}
-WISHES = {key: asked.wish for key, asked in DEFAULTS.items() if key not in BINDINGS and key not in BORDERS}
 
 # What comes among keys and is none: an escape before one of these is a key of its own.
 NO_KEYS = ("text", "paste", "pasted", MOUSE, COLOUR, ANSWERED)
@@ -71,6 +65,21 @@ def help_with(prefix: str) -> str:
     return "\n".join(lines).replace(PREFIX, prefix)
 
 
+@functools.lru_cache(maxsize=None)
+def defaults() -> dict[str, CommandWish]:
+    """Return what the keys behind the prefix ask for where nobody bound them otherwise, by the table of commands: acts, or wishes. An arrow
+    is the wish to have the pane there in focus."""
+    from roam_live.config.command_table import DEFAULT_KEYS, asked_by
+    from roam_live.input.key_names import named, named_key, typed_name
+
+    return {typed_name(named(key)): asked_by(words.split(" ")) for name, words in DEFAULT_KEYS.items() if (key := named_key(name))}
+
+
+def moves_border(name: str) -> bool:
+    """Return True if a key moves a border, where nobody bound it otherwise."""
+    return name in defaults() and defaults()[name].wish.startswith("border")
+
+
 def with_meta(escape: Key, key: Key) -> Key | None:
     """Return the key with Meta that a terminal sends as an escape and another key right behind it; None if they aren't one."""
     return Key(f"M-{key.name}", escape.text + key.text) if escape.name == ESCAPE and key.name not in NO_KEYS else None
@@ -95,6 +104,8 @@ class Keymap:
         """Return keys, of which an escape and the one behind it are one with Meta if a person has bound that."""
         if not self.own:
             return keys
+        from roam_live.input.key_names import name_of_key
+
         found: list[Key] = []
         for key in keys:
             one = with_meta(found[-1], key) if found else None
@@ -108,6 +119,8 @@ class Keymap:
         """Return the wish of a person's own binding of a key, "" if it is bound to nothing, None if there is no such binding."""
         if not self.own:
             return None
+        from roam_live.input.key_names import names_of_key
+
         names = names_of_key(key)
         name = next((name for name in names if (table, name) in self.own), names[0] if names else "")
         place = (table, name) if (table, name) in self.own else (table, "all")
@@ -122,9 +135,11 @@ class Keymap:
         """Return True if a key needs no prefix for a moment: one that moves a border, or a person's own that may be repeated."""
         if now >= self.repeats_until:
             return False
+        from roam_live.input.key_names import names_of_key
+
         bindings = [self.own.get(("prefix", name)) for name in names_of_key(key)] if self.own else []
         binding = next(filter(None, bindings), None)
-        return key.name in BORDERS or binding is not None and binding.repeats
+        return moves_border(key.name) or binding is not None and binding.repeats
 
 
 # What stands for all keys of a table that nothing binds; and the last row where there are more than have room.
@@ -148,6 +163,8 @@ def help_of(prefix: str, own: Own, is_typed: bool = False) -> str:
 
 def section(title: str, own: Own, table: str) -> list[str]:
     """What a settings file binds in a table, under a title."""
+    from roam_live.input.key_names import spelled_name
+
     found = {name: binding for (one, name), binding in own.items() if one == table}
     lines = [f"  {'all others' if name == ALL else spelled_name(name):{COLUMNS}} {told(binding)}" for name, binding in found.items()]
     return [title, *lines] if lines else []
@@ -162,6 +179,9 @@ def told(binding: Binding | None) -> str:
 
 def default_lines(own: Own) -> list[str]:
     """A line for each command that keys have which nobody bound otherwise."""
+    from roam_live.config.command_table import BY_NAME, DEFAULT_KEYS
+    from roam_live.input.key_names import named, named_key
+
     found: dict[NamedCommand, list[tuple[str, str]]] = {}
     for key, words in DEFAULT_KEYS.items():
         known, (name, _, rest) = named_key(key), words.partition(" ")

@@ -1,6 +1,7 @@
 """The parts of a front end that do what a person asks for in one window, and how they work together."""
 from __future__ import annotations
 
+import functools
 from collections.abc import Callable
 
 from roam_live.common import tty
@@ -9,8 +10,7 @@ from roam_live.frontend.display import Display
 from roam_live.frontend.lists import Lists
 from roam_live.frontend.modes import CopyPasteMode, ModeStack, PastingMode, ScrollMode
 from roam_live.frontend.mouse import Pointing
-from roam_live.frontend.pane_actions import Handing, PaneActions
-from roam_live.frontend.resize_keys import BorderKeys
+from roam_live.frontend.pane_actions import PaneActions
 from roam_live.frontend.session_size import SessionSize
 from roam_live.frontend.size_follower import SizeFollower
 from roam_live.frontend.sizes import NO_SIZE
@@ -23,20 +23,17 @@ from roam_live.protocol.client_link import TYPES, ClientLink
 from roam_live.protocol.host_client import HostClient
 from roam_live.protocol.panes import Places
 from roam_live.protocol.panes_client import PanesSubscriber
-from roam_live.protocol.presence import LEAVE_OTHERS
 
 TYPE_CHECKING = False
 if TYPE_CHECKING:
     from roam_live.frontend.copymode.controller import Copying
     from roam_live.frontend.interfaces import OtherWindows
+    from roam_live.frontend.resize_keys import BorderKeys
+    from roam_live.frontend.spawn_commands import Handing
     from roam_live.protocol.session_interface import AnySession
 
 # What is told of a paste that is begun in a window that is gone before its end.
 WINDOW_GONE = "nothing is pasted: its window is gone"
-
-# So many seconds others have for leaving, and a line stands that tells how many did.
-LEAVES_IN = 2.0
-OTHERS_STAY = "the others can't be detached: the pty host doesn't answer"
 
 # What waits in the loop for a window, and is nothing in another.
 OF_WINDOW = ("fit", "others", "size", "requested size", "motion", "border", "untold", "even", "zoom", "zoom left", "zoom comes",
@@ -63,12 +60,13 @@ class Commands:
         self.zooming = Zooming(acts, self.size)
         self.left_zoom = LeftZoom(acts, self.size, self.zooming.is_on, lambda: self.follower.mend(is_late=True))
         self.follower = SizeFollower(acts, self.size, self.zooming, self.left_zoom, is_new)
-        self.panes, self.border_keys = PaneActions(acts, self.zooming, windows), BorderKeys(acts, self.size, self.zooming)
-        # Copy mode, once it was opened here.
+        self.panes = PaneActions(acts, self.zooming, windows)
+        # Copy mode, and what moves borders by keys, once they were used here.
         self.copy_mode: Copying | None = None
+        self.border_mover: BorderKeys | None = None
         self.pointing = Pointing(acts, lambda: self.copying.pointing, self.is_copying, self.show_metadata,
                                  lambda place: windows().go_to_shown(place))
-        self.lists, self.handing = Lists(acts, self.is_copying), Handing(acts, self.zooming, windows)
+        self.lists = Lists(acts, self.is_copying)
         self.synchronizing = Synchronizing(acts, self.zooming.is_on, self.show_known)
         # The session's size and the labels of its panes, as they were told last.
         self.known: tuple[tty.Size, str] = (NO_SIZE, "")
@@ -77,11 +75,27 @@ class Commands:
         acts.intake.spreads = self.synchronizing.pasted_in
         display.moved = self.fit_drawn
 
-    # ---- copy mode
+    # ---- what is loaded as it is first used: few who attach wait for it
+
+    @functools.cached_property
+    def handing(self) -> Handing:
+        """Return what hands over commands for new panes."""
+        from roam_live.frontend.spawn_commands import Handing
+
+        return Handing(self.acts, self.zooming, self.windows)
+
+    @property
+    def border_keys(self) -> BorderKeys:
+        """Return what moves borders by keys."""
+        if not self.border_mover:
+            from roam_live.frontend.resize_keys import BorderKeys
+
+            self.border_mover = BorderKeys(self.acts, self.size, self.zooming)
+        return self.border_mover
 
     @property
     def copying(self) -> Copying:
-        """Return copy mode, which is loaded as it is first used: few who attach wait for it."""
+        """Return copy mode."""
         if not self.copy_mode:
             from roam_live.frontend.copymode.controller import Copying
 
@@ -122,7 +136,8 @@ class Commands:
 
     def borders_move(self) -> bool:
         """Return True if a border that this person moves is on its way: it changes the sizes of panes, and no focus."""
-        return any(drag is not None and drag.grown for drag in (self.border_keys.drag, self.pointing.border))
+        drags = (self.border_mover.drag if self.border_mover else None, self.pointing.border)
+        return any(drag is not None and drag.grown for drag in drags)
 
     def fit_drawn(self) -> None:
         """Have what is drawn over a pane go by where that is now."""
@@ -183,7 +198,8 @@ class Commands:
         self.size.panes_changed()
         self.panes.panes_changed()
         self.pointing.panes_changed()
-        self.border_keys.panes_changed()
+        if self.border_mover:
+            self.border_mover.panes_changed()
         self.zooming.panes_changed()
         self.follower.mend()
         self.fit_drawn()
@@ -207,23 +223,6 @@ class Commands:
         size, labels = self.known
         self.display.row.is_synchronized = self.synchronizing.is_on()
         self.display.know(self.size.requested or size, labels, self.is_whole or is_untold)
-
-    # ---- others
-
-    def leave_others(self) -> None:
-        """Have all other terminals at the session detached."""
-        host = self.acts.host
-        if not host.peer:
-            self.display.row.tell(OTHERS_STAY, LEAVES_IN)
-            return
-        host.ask(LEAVE_OTHERS)
-        self.loop.later("others leave", LEAVES_IN, lambda: self.display.row.tell(OTHERS_STAY, LEAVES_IN))
-
-    def others_left(self, count: str) -> None:
-        """Tell how many others are detached."""
-        self.loop.drop("others leave")
-        told = f"{count} other terminal{'' if count == '1' else 's'} detached" if count.isdigit() else OTHERS_STAY
-        self.display.row.tell(told, LEAVES_IN)
 
     # ---- scrollback rows
 

@@ -15,12 +15,13 @@ from roam_live.protocol.display_records import DisplayRecord
 
 # What the modules of a front end import inside of functions, in an order in which none brings many others.
 MODULES = (
-    "roam_live.frontend.copymode.keys", "roam_live.frontend.copymode.rows", "roam_live.protocol.screen_cells",
-    "roam_live.frontend.copymode.motions", "roam_live.frontend.copymode.search", "roam_live.frontend.copymode.selection",
-    "roam_live.frontend.copymode.viewport", "roam_live.frontend.copymode.actions", "roam_live.frontend.copymode.mode",
-    "roam_live.frontend.copymode.state", "roam_live.frontend.copymode.render", "roam_live.frontend.copymode.mouse", "base64",
-    "roam_live.frontend.copymode.controller", "roam_live.config.parser", "roam_live.config.loader", "roam_live.config.formats", "shlex",
-    "traceback",
+    "roam_live.input.key_names", "roam_live.config.command_table", "roam_live.frontend.copymode.keys", "roam_live.frontend.copymode.rows",
+    "roam_live.protocol.screen_cells", "roam_live.frontend.copymode.motions", "roam_live.frontend.copymode.search",
+    "roam_live.frontend.copymode.selection", "roam_live.frontend.copymode.viewport", "roam_live.frontend.copymode.actions",
+    "roam_live.frontend.copymode.mode", "roam_live.frontend.copymode.state", "roam_live.frontend.copymode.render",
+    "roam_live.frontend.copymode.mouse", "base64", "roam_live.frontend.copymode.controller", "roam_live.frontend.borders",
+    "roam_live.frontend.resize_keys", "roam_live.frontend.spawn_commands", "roam_live.frontend.command_line", "roam_live.config.parser",
+    "roam_live.config.loader", "roam_live.config.formats", "shlex", "traceback",
 )
 
 # So many seconds after the first painting they begin, and so many lie between two: a key isn't kept waiting by more than one.

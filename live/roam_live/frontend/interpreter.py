@@ -10,18 +10,18 @@ from roam_live.common.event_loop import Loop
 from roam_live.config.environment import ESCAPE_TIME, number_of
 from roam_live.config.user_file import OWN
 from roam_live.frontend import effects
-from roam_live.frontend.bindings import FOOT, OWN as OWN_KEY, PICKS, help_of, help_with
+from roam_live.frontend.bindings import FOOT, OWN as OWN_KEY, PICKS, help_of
 from roam_live.frontend.commands import Commands
 from roam_live.frontend.display import Display
 from roam_live.frontend.effects import Effect
 from roam_live.frontend.modes import (GOES, CopyKeysMode, CopyPasteMode, HelpMode, HoldMode, LineMode, Mode, ModeStack, PastingMode,
                                       PickingMode, leaves_paused, under_notice, while_paused)
 from roam_live.input.extended_keys import ANSWERED
-from roam_live.input.key_names import spelled
 from roam_live.input.keys import Key, Keys
 from roam_live.input.mouse_reports import MOUSE
 from roam_live.protocol.colours import COLOUR
 from roam_live.protocol.panes import BESIDE
+from roam_live.protocol.presence import LEAVE_OTHERS
 from roam_live.protocol.window_lines import name_word
 
 TYPE_CHECKING = False
@@ -30,6 +30,10 @@ if TYPE_CHECKING:
 
 # What comes among keys and the terminal reports.
 REPORTED = (COLOUR, ANSWERED, MOUSE)
+
+# So many seconds others have for leaving, and a line stands that tells how many did.
+LEAVES_IN = 2.0
+OTHERS_STAY = "the others can't be detached: the pty host doesn't answer"
 
 # What is told of a key that is not bound.
 UNBOUND = "{0} {1} is not bound; {0} ? shows the keys"
@@ -49,7 +53,7 @@ ANYBODY: dict[str, Callable[[Interpreter, Commands, str], object]] = {
 EDITORS: dict[str, Callable[[Interpreter, Commands, str], object]] = {
     "close": lambda keyboard, commands, wish: commands.panes.close(),
     "mouse": lambda keyboard, commands, wish: commands.pointing.switch(),
-    "leave": lambda keyboard, commands, wish: commands.leave_others(),
+    "leave": lambda keyboard, commands, wish: keyboard.leave_others(),
     "zoom": lambda keyboard, commands, wish: commands.zooming.switch(),
     "even": lambda keyboard, commands, wish: commands.border_keys.ask("even"),
     "border": lambda keyboard, commands, wish: commands.border_keys.ask(wish.split()[-1]),
@@ -88,7 +92,7 @@ class Interpreter:
             effects.EndPaste: lambda asked: now().end_paste(),
             effects.PasteBuffer: lambda asked: now().acts.intake.paste_buffer(asked.number),
             effects.Perform: lambda asked: self.grant(asked.wish),
-            effects.TellUnbound: lambda asked: display.row.tell(UNBOUND.format(modes.keymap.name, spelled(asked.key))),
+            effects.TellUnbound: self.tell_unbound,
             effects.ShowStatus: lambda asked: display.row.tell(asked.line, asked.seconds),
             effects.ClearStatus: lambda asked: display.row.end_told(),
             effects.ShowPrompt: lambda asked: display.row.ask(asked.text, is_typed=True),
@@ -108,7 +112,6 @@ class Interpreter:
         """Make the key of a name the prefix."""
         self.modes.keymap.choose(prefix)
         self.modes.keymap.rows = self.display.outer.size()[0]
-        self.help = help_with(prefix)
         self.display.row.fits_line = "" if self.commands().link.is_read_only else f"{prefix} r fits"
         self.display.row.leaves_line = f"{prefix} d leaves"
 
@@ -198,6 +201,27 @@ class Interpreter:
         """Have a digit be a pane's."""
         self.display.row.tell(f"{self.display.row.labels}: a digit goes to the pane of this number", PICKS)
         self.modes.push(PickingMode(time.monotonic()))
+
+    def tell_unbound(self, asked: effects.TellUnbound) -> None:
+        """Tell that a key is not bound."""
+        from roam_live.input.key_names import spelled
+
+        self.display.row.tell(UNBOUND.format(self.modes.keymap.name, spelled(asked.key)))
+
+    def leave_others(self) -> None:
+        """Have all other terminals at the session detached."""
+        host = self.commands().acts.host
+        if host.peer:
+            host.ask(LEAVE_OTHERS)
+            self.loop.later("others leave", LEAVES_IN, lambda: self.others_left(""))
+        else:
+            self.others_left("")
+
+    def others_left(self, count: str) -> None:
+        """Tell how many others are detached."""
+        self.loop.drop("others leave")
+        told = f"{count} other terminal{'' if count == '1' else 's'} detached" if count.isdigit() else OTHERS_STAY
+        self.display.row.tell(told, LEAVES_IN)
 
     def close_pane(self, asked: effects.ClosePane) -> None:
         """Close the pane in focus of a window, also of one that the person has left since he was asked."""

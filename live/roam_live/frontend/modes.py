@@ -4,7 +4,7 @@ No mode knows the front end, a socket or a terminal. A mode may change only itse
 """
 from __future__ import annotations
 
-from roam_live.frontend.bindings import BINDINGS, BORDERS, DIGITS, MOST_VIEW, NEWEST, PICKS, REPEATS, WISHES, Keymap, with_meta
+from roam_live.frontend.bindings import DIGITS, MOST_VIEW, NEWEST, PICKS, REPEATS, Keymap, defaults, moves_border, with_meta
 from roam_live.frontend.effects import (AddPaste, BeginPaste, ClearStatus, CloseHelp, CloseList, CopyKey, CopyText, DrawList, Effect,
                                         EndPaste, EnterLine, HidePrompt, HoldKey, OfferPaste, PassKey, Perform, PopMode, ScrollHelp,
                                         SendLiteral, ShowPrompt, ShowStatus, StackEffect, TellUnbound, TypeActs, TypeKey)
@@ -78,19 +78,17 @@ class PrefixMode(Mode):
     def meaning(self, key: Key, now: float) -> list[Effect]:
         """Return what a key means behind the prefix."""
         name, is_prefix = key.name, key.name == self.keymap.prefix
-        if is_prefix and self.is_over_copy:
-            return [SendLiteral(key)]
-        own = self.keymap.own_wish("prefix", key, now)
+        own = None if is_prefix and self.is_over_copy else self.keymap.own_wish("prefix", key, now)
         if own is not None:
             return [Perform(own) if own else TellUnbound(key)]
         if is_prefix:
             return [SendLiteral(key)]
-        if name in BORDERS:
+        asked = defaults().get(name)
+        if not asked:
+            return [TellUnbound(key)]
+        if moves_border(name):
             self.keymap.repeats_until = now + REPEATS
-            return [Perform(BORDERS[name])]
-        if name in BINDINGS:
-            return [TypeActs(BINDINGS[name])]
-        return [Perform(WISHES[name]) if name in WISHES else TellUnbound(key)]
+        return [Perform(asked.wish) if asked.wish else TypeActs(*asked.acts)]
 
 
 class PickingMode(Mode):
@@ -241,7 +239,7 @@ class CopyKeysMode(Mode):
         """Return what a key asks for."""
         if key.name == "paste":
             return [OfferPaste(key)]
-        if key.name in BORDERS and now < self.keymap.repeats_until:
+        if now < self.keymap.repeats_until and moves_border(key.name):
             return [PassKey(key)]
         if key.name == self.keymap.prefix and self.escape is None:
             return [PushMode(PrefixMode(self.keymap, is_over_copy=True))]

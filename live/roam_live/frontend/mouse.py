@@ -4,9 +4,7 @@ from __future__ import annotations
 
 from collections.abc import Callable
 
-from roam_live.frontend.borders import border_at
 from roam_live.frontend.modes import ScrollMode
-from roam_live.frontend.resize_keys import BorderDrag
 from roam_live.frontend.window_acts import WindowActs
 from roam_live.input.mouse_reports import DOWN, UP, Clicks, MouseReport, is_wanted, report_of, sent, tracking_of
 from roam_live.protocol.panes import Places, Rect
@@ -14,6 +12,7 @@ from roam_live.protocol.panes import Places, Rect
 TYPE_CHECKING = False
 if TYPE_CHECKING:
     from roam_live.frontend.copymode.mouse import CopyPointing
+    from roam_live.frontend.resize_keys import BorderDrag
 
 # A row and a column of the session, from 1.
 Place = tuple[int, int]
@@ -192,6 +191,9 @@ class Pointing:
 
     def grip(self, places: Places, place: Place) -> None:
         """Takes the border at a place, to be dragged."""
+        from roam_live.frontend.borders import border_at
+        from roam_live.frontend.resize_keys import BorderDrag
+
         border = border_at(places.rects, *place)
         if border:
             self.border = BorderDrag(self.acts, border, self.end_drag)

@@ -125,7 +125,8 @@ class FrontSettings:
 
     def run_file(self) -> None:
         """Run what the settings file has the shell run."""
-        self.runs([["run-shell", "-b", command] for command in OWN.found.runs] if OWN.found else [])
+        if OWN.found and OWN.found.runs:
+            self.runs([["run-shell", "-b", command] for command in OWN.found.runs])
 
     def go_by(self, otherwise: str = "") -> None:
         """Go by the settings as they are now."""

@@ -6,7 +6,6 @@ Nothing here knows a terminal, a socket or a clock, so each decision is tested a
 from __future__ import annotations
 
 from roam_live.common import tty
-from roam_live.frontend.borders import above, area_of, laid, size_for, splits_of
 from roam_live.protocol.panes import Places, Rect
 from roam_live.protocol.zoom_record import MOST_ASKED, ZoomNote
 
@@ -136,6 +135,8 @@ NOTHING, UNSEEN, GIVES, AWAITS = "nothing", "unseen", "gives", "awaits"
 
 def places_at(places: Places, size: tty.Size) -> Places:
     """Return where the panes are once their session has a size."""
+    from roam_live.frontend.borders import area_of, laid, splits_of
+
     parts = splits_of(places.rects)
     if not parts or size == places.size():
         return places
@@ -160,6 +161,8 @@ def unzoomed_size(size: tty.Size, note: ZoomNote | None) -> tty.Size:
 
 def zoom_size(places: Places, pane: int, area: tty.Size, note: ZoomNote) -> tty.Size | None:
     """Return the size to ask the session for, so that a pane fills an area; None if the pane is shown as it is."""
+    from roam_live.frontend.borders import above, size_for, splits_of
+
     parts = splits_of(places.rects)
     size = size_for(area, note.size, above(pane, parts, places.rects)) if parts else places.size()
     return None if size == places.size() or size in note.asked or len(note.asked) >= MOST_ASKED else size
