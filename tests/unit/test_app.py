@@ -447,7 +447,7 @@ class Loop(Fronts):
         reader, writer = self.pipe()
         self.place.processes["server"] = 1
         with mock.patch.object(window_views, "opened_process", return_value=reader):
-            self.front.views.watch_server(window_views.opened_server(self.place))
+            self.front.views.enter(self.front.views.view, window_views.opened_server(self.place))
         os.close(writer)
         self.turn(1)
         self.assertEqual((self.front.left, self.front.status), ("[the session has ended]", 0))

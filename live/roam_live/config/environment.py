@@ -75,15 +75,12 @@ def chosen_prefix() -> str:
 
 def chosen_prediction(asked: str | None = None) -> str:
     """When predictions are shown: as asked, else as the environment's ROAM_PREDICT says, or the option `predict`, where one is there."""
-    name = asked or word_of("ROAM_PREDICT", "predict", PREDICTION[0])
-    if name not in PREDICTION:
-        raise Fault(f"ROAM_PREDICT is {name!r}, and may be adaptive, always or never")
-    return name
+    return chosen("ROAM_PREDICT", "predict", PREDICTION, asked)
 
 
-def chosen(variable: str, option: str, choices: tuple[str, ...]) -> str:
-    """What a variable of the environment chooses, or an option, of these; the first of them where neither is there."""
-    name = word_of(variable, option, choices[0])
+def chosen(variable: str, option: str, choices: tuple[str, ...], asked: str | None = None) -> str:
+    """What is asked for, else what a variable of the environment chooses, or an option, of these; the first of them where none is there."""
+    name = asked or word_of(variable, option, choices[0])
     if name not in choices:
         raise Fault(f"{variable} is {name!r}, and may be {', '.join(choices[:-1])} or {choices[-1]}")
     return name

@@ -37,6 +37,9 @@ LEAST_WAIT = 0.1
 # What is said by one that another has detached.
 DETACHED = "[detached from elsewhere]"
 
+# What is said besides of a paste that could not be handed over any more.
+UNPASTED = " what was pasted last isn't typed"
+
 LEAVING = (signal.SIGTERM, signal.SIGHUP, signal.SIGINT)
 
 
@@ -202,11 +205,6 @@ class FrontEnd:
             self.loop.later("left", LAST_WAIT, lambda: None)
         return self.views.hands_over() and self.loop.clock() < self.left_at + LAST_WAIT
 
-    def unpasted(self) -> str:
-        """What is said of a paste that couldn't be handed over any more."""
-        hands_over = self.views.hands_over()
-        return " what was pasted last isn't typed" if hands_over else ""
-
     def run(self) -> int:
         """Follows the session until the person leaves or it ends, and tells the status."""
         try:
@@ -226,9 +224,9 @@ class FrontEnd:
     def end(self) -> None:
         """Leave the terminal and the session. What was typed is handed over before a terminal is waited for that takes nothing, and
         whatever hangs behind that is ended by a signal."""
-        outer = self.display.outer
-        all_done(self.views.commands.left, lambda: outer.begin_leave(self.left and self.left + self.unpasted()), self.part, outer.end_leave,
-                 lambda: unwoken(*LEAVING))
+        outer, left = self.display.outer, self.left
+        all_done(self.views.commands.left, lambda: outer.begin_leave(left and left + UNPASTED * self.views.hands_over()), self.part,
+                 outer.end_leave, lambda: unwoken(*LEAVING))
 
 
 def follow(session: AnySession, is_read_only: bool, prefix: str, prediction: str,

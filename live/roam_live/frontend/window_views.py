@@ -225,9 +225,7 @@ class WindowViews:
         self.server_ends: Callable[[WindowView], object] = lambda view: None
         self.shows: Callable[[], object] = lambda: None
         server = opened_server(session)
-        self.view = maker.begun(session, is_new)
-        maker.host_link.go(self.view.host)
-        self.watch_server(server)
+        self.enter(maker.begun(session, is_new), server)
 
     # ---- the window where the person is
 
@@ -260,9 +258,10 @@ class WindowViews:
         view = self.draining.views.get(number)
         return view.commands if view else None
 
-    def watch_server(self, server: int | None) -> None:
-        """See the end of the server of the window where the person is, as its process was opened."""
-        view = self.view
+    def enter(self, view: WindowView, server: int | None) -> None:
+        """Have the person be in a window, and see the end of its server, as its process was opened."""
+        self.view = view
+        self.maker.host_link.go(view.host)
         view.watch(self.loop, server, lambda: self.server_ends(view))
 
     # ---- other windows
@@ -292,9 +291,7 @@ class WindowViews:
             view.take_up(self.maker.followed(session))
         else:
             view = self.maker.begun(session)
-        self.view = view
-        self.maker.host_link.go(view.host)
-        self.watch_server(server)
+        self.enter(view, server)
         view.commands.follow_on(before.commands, self.shown_whole.get(number, NO_SIZE))
         self.display.begin_window()
         self.shows()

@@ -73,9 +73,10 @@ class Zooming:
             self.waits = True
             self.loop.later("zoom waits", FOCUS_WAIT, self.switch)
             return
-        self.drop_wait()
+        self.waits = False
+        self.loop.drop("zoom waits")
         places = self.acts.panes.places if places and not places.focus else places
-        size = self.own_size(places)
+        size = sizes.unzoomed_size(self.size.requested or (places.size() if places else NO_SIZE), self.acts.host.zoomed[1])
         before = places_at(places, size) if places and places.focus and places.is_covered() else None
         why = sizes.zoom_refusal(before, self.area())
         if why or not places:
@@ -88,15 +89,6 @@ class Zooming:
     def is_told(self, places: Places | None) -> bool:
         """Whether it is told which pane is in focus, and by the host whether another has a zoom, where one is about to."""
         return bool(places and places.focus) and not self.acts.host.is_awaited()
-
-    def drop_wait(self) -> None:
-        """Waits no more for what is told of the focus."""
-        self.waits = False
-        self.loop.drop("zoom waits")
-
-    def own_size(self, places: Places | None) -> tty.Size:
-        """The session's size where nobody has a zoom: that which another's end gives back."""
-        return sizes.unzoomed_size(self.size.requested or (places.size() if places else NO_SIZE), self.acts.host.zoomed[1])
 
     def ask(self, places: Places) -> None:
         """Asks for the size at which the pane fills the terminal, and shows the pane once the session has it."""

@@ -11,9 +11,9 @@ from roam_live.frontend.copymode.mode import CopyMode
 from roam_live.frontend.copymode.mouse import CopyPointing
 from roam_live.frontend.copymode.render import CopyScreen
 from roam_live.frontend.copymode.rows import MOST_SCREEN_ROWS, Missing, Rows
-from roam_live.frontend.copymode.state import GONE, CopyAsking, CopyEvent, CopyState, SnapshotAsking, nothing
+from roam_live.frontend.copymode.state import GONE, CopyAsking, CopyEvent, CopyState, SnapshotAsking
 from roam_live.frontend.modes import CopyKeysMode
-from roam_live.frontend.window_acts import WindowActs
+from roam_live.frontend.window_acts import WindowActs, nothing
 from roam_live.input.keys import INTERRUPT, Key
 from roam_live.protocol.panes import MOVES
 from roam_live.protocol.scrollback_client import BufferNote, Snapshot

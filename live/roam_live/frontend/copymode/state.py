@@ -8,13 +8,9 @@ from collections.abc import Callable
 from roam_live.frontend.copymode.mode import CopyMode
 from roam_live.frontend.copymode.rows import Missing, MissingRows
 from roam_live.frontend.copymode.search import MissingFind
-from roam_live.frontend.window_acts import WindowActs
+from roam_live.frontend.window_acts import WindowActs, nothing
 from roam_live.protocol.panes import Rect
 from roam_live.protocol.scrollback_client import Snapshot
-
-
-def nothing() -> None:
-    """Do nothing."""
 
 
 class CopyEvent(namedtuple("CopyEvent", "does instead", defaults=(nothing,))):
@@ -43,10 +39,6 @@ class CopyState:
     def is_on(self) -> bool:
         """Return True if it is open, or will be once a snapshot is lent."""
         return self.mode is not None or self.is_opening
-
-    def is_connecting(self) -> bool:
-        """Return True if the host isn't connected, and may be soon."""
-        return self.acts.host.is_connecting()
 
 
 # So many rows are asked for at once at most, and so many pages at first: the one that is needed, and one ahead.
@@ -111,7 +103,7 @@ class CopyAsking:
         def take(row: int | None) -> None:
             if not state.mode or opening != state.opening:
                 return
-            if row is None and state.is_connecting():
+            if row is None and state.acts.host.is_connecting():
                 self.loop.later("copy asks again", ASKS_AGAIN, self.answered)
                 return
             state.mode.finds.put(lack, row)
@@ -140,7 +132,7 @@ class CopyAsking:
             elif lines and first <= at and at + len(lines) <= row:
                 # Fewer came than were asked for.
                 state.scrollback.rows(state.pane, state.generation, at + len(lines), row - at - len(lines) + 1, take)
-            elif not lines and state.is_connecting():
+            elif not lines and state.acts.host.is_connecting():
                 # Rows keep their numbers: they are asked for again once there is another connection.
                 self.loop.later("copy asks again", ASKS_AGAIN, self.answered)
             else:
@@ -178,7 +170,7 @@ class SnapshotAsking:
         """Asks for it once the host is connected, where that may be soon."""
         if opening != self.state.opening or not self.state.is_opening:
             return
-        if self.state.is_connecting():
+        if self.state.acts.host.is_connecting():
             self.loop.later("copy connects", CONNECTS, lambda: self.ask_connected(opening))
         else:
             self.state.scrollback.snapshot(self.state.pane, self.state.generation, lambda snapshot: self.answered(opening, snapshot))
@@ -186,7 +178,7 @@ class SnapshotAsking:
     def answered(self, opening: int, snapshot: Snapshot | None) -> None:
         """Takes what the host answers. Where the connection was lost instead, as by a relay that goes another way, it is asked again once
         there is another."""
-        if snapshot is None and self.state.is_connecting():
+        if snapshot is None and self.state.acts.host.is_connecting():
             self.ask_connected(opening)
         else:
             self.lent(opening, snapshot)
