@@ -920,6 +920,33 @@ class Wishes(Case):
         person.commands.left()
         self.assertEqual(person.link.acts[-1], "view -500")
 
+    def test_scroll_page(self):
+        """A page is half of the terminal's rows, also once it has others, and where the wheel began to scroll."""
+        person = self.person()
+        self.assertEqual(person.types(b"\x02[\x1b[5~"), ["view 12"])
+        person.resize(40, 80)
+        self.assertEqual(person.types(b"\x1b[5~q"), ["view 20", "view -500"])
+        person.commands.acts.scroll(1, 3)
+        self.assertEqual(person.types(b"\x1b[6~")[-1], "view -20")
+
+    def test_others(self):
+        """All others leave, as the host reports; where it doesn't answer in time, or isn't connected, that is told."""
+        person = self.person()
+        stays = "the others can't be detached: the pty host doesn't answer"
+        self.assertEqual((person.types(b"\x02D"), person.display.row.told), ([], stays))
+        person.display.row.end_told()
+        person.host.peer, person.host.ask = object(), mock.Mock()
+        person.types(b"\x02D")
+        person.host.ask.assert_called_once_with("leave others")
+        self.assertEqual(person.display.row.told, "")
+        self.now += 2.0
+        person.loop.turn()
+        self.assertEqual(person.display.row.told, stays)
+        for count, told in (("1", "1 other terminal detached"), ("3", "3 other terminals detached"), ("?", stays)):
+            person.types(b"\x02D")
+            person.keyboard.others_left(count)
+            self.assertEqual((person.display.row.told, "others leave" in person.loop.due), (told, False))
+
     def test_unknown(self):
         person = self.person()
         person.types(b"\x02Z")

@@ -284,8 +284,8 @@ class Person:
 
     def resize(self, rows, cols):
         """Gives the terminal another size, which stands."""
-        self.commands.follower.resized()
         self.display.outer.rows, self.display.outer.cols = rows, cols
+        self.commands.follower.resized()
         self.display.resized()
         self.display.choose(is_painted=True)
         self.commands.follower.fit()
