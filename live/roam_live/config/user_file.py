@@ -21,17 +21,21 @@ def settings_path() -> str:
     return os.path.join(base if os.path.isabs(base) else os.path.expanduser("~/.config"), "roam", NAME)
 
 
+def no_settings() -> FileSettings:
+    """Return settings that say nothing yet. Who has no such file doesn't wait for what these import."""
+    from roam_live.config.command_table import BY_NAME
+    from roam_live.config.loader import FileSettings
+
+    return FileSettings(commands=BY_NAME)
+
+
 def read_settings() -> FileSettings | None:
     """What the file says, by which it is gone from now on; None where there is none."""
     path = settings_path()
     if not os.path.lexists(path):
         choose_by_file({})
         return None
-    # Who has no such file doesn't wait for these.
-    from roam_live.config.command_table import BY_NAME
-    from roam_live.config.loader import FileSettings
-
-    found = FileSettings(commands=BY_NAME)
+    found = no_settings()
     take(found, path)
     return found
 
@@ -72,10 +76,7 @@ class OwnSettings:
 
     def add(self, path: str) -> None:
         """Reads another file, and goes by it too."""
-        from roam_live.config.command_table import BY_NAME
-        from roam_live.config.loader import FileSettings
-
-        found = FileSettings(commands=BY_NAME)
+        found = no_settings()
         found.values.update(BY_FILE)
         found.bindings.update(self.found.bindings if self.found else {})
         take(found, os.path.expanduser(path))
@@ -83,11 +84,9 @@ class OwnSettings:
 
     def bind(self, words: list[str]) -> None:
         """Binds a key, or unbinds one, by the words of a command, until the file is read anew. BadWord tells why that can't be."""
-        from roam_live.config.command_table import BY_NAME
-        from roam_live.config.loader import FileSettings
         from roam_live.config.parser import BadWord
 
-        found = FileSettings(commands=BY_NAME)
+        found = no_settings()
         found.bindings.update(self.found.bindings if self.found else {})
         before = dict(found.bindings)
         does = found.unbind if words[0].startswith("unbind") else found.bind

@@ -11,7 +11,7 @@ from roam_live.frontend.copymode.mode import CopyMode
 from roam_live.frontend.copymode.mouse import CopyPointing
 from roam_live.frontend.copymode.render import CopyScreen
 from roam_live.frontend.copymode.rows import MOST_SCREEN_ROWS, Missing, Rows
-from roam_live.frontend.copymode.state import GONE, CopyAsking, CopyEvent, CopyState, SnapshotAsking
+from roam_live.frontend.copymode.state import GONE, CopyAsking, CopyEvent, CopyState
 from roam_live.frontend.modes import CopyKeysMode
 from roam_live.frontend.window_acts import WindowActs, nothing
 from roam_live.input.keys import INTERRUPT, Key
@@ -102,9 +102,9 @@ class Copying:
         self.keys: CopyKeysMode | None = None
         # What was searched for last, and which way, which stays when it is closed.
         self.sought = "", False
-        self.screen, self.asking = CopyScreen(self.state), CopyAsking(self.state, self.go_on, self.close)
+        self.screen, self.asking = CopyScreen(self.state), CopyAsking(self.state, self.go_on, self.close, self.lent)
         self.pointing = CopyPointing(self.state, self.open, self.add)
-        self.texts, self.snapshots = CopiedTexts(acts), SnapshotAsking(self.state, self.asking.tell_later, self.lent)
+        self.texts = CopiedTexts(acts)
 
     def is_full(self) -> bool:
         """Return True if so much waits that nothing more is to come."""
@@ -137,7 +137,7 @@ class Copying:
         self.state.pane, self.state.generation, self.state.rect, self.instead = pane, int(making[1]), rect, instead
         self.take_keys()
         self.state.events.extend(begins)
-        self.snapshots.ask()
+        self.asking.ask_snapshot()
 
     def await_focus(self, instead: Callable[[], object], *begins: CopyEvent) -> None:
         """Opens it in the pane in focus once that is told, as where a relay goes another way; where it isn't in time something else is done
@@ -146,7 +146,7 @@ class Copying:
         self.state.pane, self.instead = 0, instead
         self.take_keys()
         self.state.events.extend(begins)
-        self.snapshots.begin()
+        self.asking.begin()
 
     def take_keys(self) -> None:
         """Has the keys be copy mode's."""
@@ -317,7 +317,7 @@ class Copying:
         elif asked.word != REFRESH:
             self.state.events.appendleft(CopyEvent(lambda mode: self.copy(asked)))
         else:
-            self.snapshots.ask()
+            self.asking.ask_snapshot()
 
     def copy(self, asked: CopyWish) -> None:
         """Copies a text, once all its rows are here."""

@@ -61,10 +61,12 @@ GONE = "the rows that were shown aren't kept any more"
 
 
 class CopyAsking:
-    """The questions of one person's copy mode. Two calls go on with what waited for an answer, and close copy mode for a reason."""
+    """The questions of one person's copy mode. Calls go on with what waited for an answer, close copy mode for a reason, and take a
+    snapshot by the number of the question, None where none is lent."""
 
-    def __init__(self, state: CopyState, goes_on: Callable[[], object], closes: Callable[[str], object]) -> None:
-        self.state, self.goes_on, self.closes = state, goes_on, closes
+    def __init__(self, state: CopyState, goes_on: Callable[[], object], closes: Callable[[str], object],
+                 lent: Callable[[int, Snapshot | None], object]) -> None:
+        self.state, self.goes_on, self.closes, self.lent = state, goes_on, closes, lent
         self.loop, self.display = state.acts.loop, state.acts.display
         # Whether an answer is awaited, and how many rows were asked for last for what is to be done.
         self.is_waiting = False
@@ -146,23 +148,17 @@ class CopyAsking:
         self.settle()
         self.goes_on()
 
-
-class SnapshotAsking:
-    """Asks for a snapshot of a pane's rows. Calls tell a person later that it is awaited, and take it by the number of the question; None
-    where none is lent."""
-
-    def __init__(self, state: CopyState, tells_later: Callable[[], object], lent: Callable[[int, Snapshot | None], object]) -> None:
-        self.state, self.tells_later, self.lent, self.loop = state, tells_later, lent, state.acts.loop
+    # ---- a snapshot
 
     def begin(self) -> int:
         """Waits for what opens it, no longer than for a snapshot; tells its number."""
         self.state.opening += 1
         opening, self.state.is_opening = self.state.opening, True
         self.loop.later("copy opens", LENDS, lambda: self.lent(opening, None))
-        self.tells_later()
+        self.tell_later()
         return opening
 
-    def ask(self) -> None:
+    def ask_snapshot(self) -> None:
         """Asks for a snapshot."""
         self.ask_connected(self.begin())
 
@@ -173,9 +169,9 @@ class SnapshotAsking:
         if self.state.acts.host.is_connecting():
             self.loop.later("copy connects", CONNECTS, lambda: self.ask_connected(opening))
         else:
-            self.state.scrollback.snapshot(self.state.pane, self.state.generation, lambda snapshot: self.answered(opening, snapshot))
+            self.state.scrollback.snapshot(self.state.pane, self.state.generation, lambda snapshot: self.take_snapshot(opening, snapshot))
 
-    def answered(self, opening: int, snapshot: Snapshot | None) -> None:
+    def take_snapshot(self, opening: int, snapshot: Snapshot | None) -> None:
         """Takes what the host answers. Where the connection was lost instead, as by a relay that goes another way, it is asked again once
         there is another."""
         if snapshot is None and self.state.acts.host.is_connecting():
