@@ -15,6 +15,9 @@ from test_app import Fronts
 
 LIVE = pathlib.Path(connection.__file__).resolve().parents[2]
 
+# So many modules of its packages a front end loads at once at most.
+MOST_OWN = 34
+
 # What a process has loaded in which a front end runs: `mux`, or `attach`.
 ROOTS = ("roam_live.frontend.app", "roam_live.session.lookup", "roam_live.session.port_session")
 
@@ -77,6 +80,16 @@ class Modules(Case):
         words = [sys.executable, "-Sc", text, str(LIVE), " ".join((*ROOTS, *MODULES)), " ".join(loaded)]
         run = subprocess.run(words, stdout=subprocess.PIPE, check=True)
         self.assertEqual(run.stdout.split(), [])
+
+
+    def test_few(self):
+        """A front end loads few modules before its first painting: of its packages not more than these, and none that takes long."""
+        text = "import sys; sys.path.insert(0, sys.argv[1])\nimport roam_live.frontend.app\nprint(*sys.modules)"
+        run = subprocess.run([sys.executable, "-ISc", text, str(LIVE)], stdout=subprocess.PIPE, check=True)
+        names = run.stdout.decode().split()
+        own = [name for name in names if name.startswith(("roam_live.frontend.", "roam_live.config.", "roam_live.input."))]
+        self.assertLessEqual(len(own), MOST_OWN, own)
+        self.assertEqual({"argparse", "json", "subprocess", "threading", "typing", "shlex", "base64"} & set(names), set())
 
 
 class Turns(Case):
