@@ -56,7 +56,7 @@ class Commands:
         # Whether the session is shown whole where it has room, with its own status row.
         self.is_whole = is_whole
         self.acts = acts = WindowActs(session, panes, link, display, loop, modes, host)
-        self.size = SessionSize(acts, self.size_given, self.size_refused)
+        self.size = SessionSize(acts, self.size_told)
         self.zooming = Zooming(acts, self.size)
         self.left_zoom = LeftZoom(acts, self.size, self.zooming.is_on, lambda: self.follower.mend(is_late=True))
         self.follower = SizeFollower(acts, self.size, self.zooming, self.left_zoom, is_new)
@@ -118,14 +118,12 @@ class Commands:
 
     # ---- what parts do behind one another
 
-    def size_given(self) -> None:
-        """Go by a size that the session is given."""
-        self.left_zoom.overrule()
-        self.show_known()
-
-    def size_refused(self) -> None:
-        """Go by a size that the session refused."""
-        self.zooming.drop_note()
+    def size_told(self, is_given: bool) -> None:
+        """Go by a size that the session is given, or refused."""
+        if is_given:
+            self.left_zoom.overrule()
+        else:
+            self.zooming.drop_note()
         self.show_known()
 
     def focus_moves(self, acts: tuple[str, ...]) -> None:

@@ -156,7 +156,7 @@ class Interpreter:
         if key.name == MOUSE:
             self.commands().pointing.take(key.text)
         elif key.name == ANSWERED:
-            self.display.outer.take_answer(key.text)
+            self.display.outer.outer_modes.take_answer(key.text)
         else:
             self.commands().acts.host.tell_colour(key.text)
 

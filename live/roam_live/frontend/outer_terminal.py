@@ -195,10 +195,6 @@ class OuterTerminal:
         if self.outer_modes.is_able:
             self.write(COLOURS_ASKED)
 
-    def take_answer(self, text: str) -> None:
-        """Takes what it answers of how it tells keys."""
-        self.outer_modes.take_answer(text)
-
     def set_clip(self, text: str) -> None:
         """Sets its clipboard, by a text in base64."""
         if self.outer_modes.is_able:

@@ -16,11 +16,11 @@ REFUSES = 2.5
 
 
 class SessionSize:
-    """The size that a session has, and the one that this terminal gave it last. Calls are told once a size is given, and once one is
+    """The size that a session has, and the one that this terminal gave it last. A call is told once a size is given, or is
     refused."""
 
-    def __init__(self, acts: WindowActs, given: Callable[[], object], refused: Callable[[], object]) -> None:
-        self.acts, self.is_given, self.is_refused = acts, given, refused
+    def __init__(self, acts: WindowActs, told: Callable[[bool], object]) -> None:
+        self.acts, self.told = acts, told
         # The size that the session was given last, while it may still get it.
         self.requested: tty.Size | None = None
 
@@ -52,7 +52,7 @@ class SessionSize:
         """Take it that the session gets a size that it is given."""
         self.requested = size
         self.acts.loop.later("requested size", REFUSES, self.refused)
-        self.is_given()
+        self.told(True)
 
     def forget(self) -> None:
         """Wait no more for a size that was given."""
@@ -67,7 +67,7 @@ class SessionSize:
             return
         requested, size = self.requested, self.now()
         self.forget()
-        self.is_refused()
+        self.told(False)
         if requested and size not in (requested, NO_SIZE):
             self.acts.display.row.tell("its panes have no room in {} by {}".format(*requested), FITS_TOLD)
 
