@@ -947,6 +947,23 @@ class Wishes(Case):
             person.keyboard.others_left(count)
             self.assertEqual((person.display.row.told, "others leave" in person.loop.due), (told, False))
 
+    def test_told_for(self):
+        """Each line stands for its time: what a person has to read for longer than what he knows."""
+        one = Places({1: Rect(1, 1, 23, 80)}, 1)
+        for places, text, told, seconds in (
+                (PANES, b"\x02Z", "C-b Z is not bound; C-b ? shows the keys", 1.0), (PANES, b"\x02;", "no other pane was in focus", 1.0),
+                (PANES, b"\x02m", "the mouse focuses, scrolls and drags borders; C-b m ends that", 3.0),
+                (PANES, b"\x02m\x02m", "the mouse selects text, but where a program has it", 3.0),
+                (PANES, b"\x02q", f"{PANES.labels()}: a digit goes to the pane of this number", 3.0),
+                (one, b"\x02z", "pane 1 is the only one, and fills the session", 3.0),
+                (None, b"\x02z", "nothing is zoomed where the panes aren't told", 3.0), (PANES, b"\x02]", "no buffer is kept", 2.0),
+                (one, b"\x02 ", "shares are even", 1.0),
+                (one, b"\x02\x1b[1;5C", "pane 1 has no border at its left or right", 1.0),
+                (PANES, b"\x02D", "the others can't be detached: the pty host doesn't answer", 2.0)):
+            person = self.person(places)
+            person.types(text)
+            self.assertEqual((person.display.row.told, person.loop.due["told"][0]), (told, self.now + seconds), text)
+
     def test_unknown(self):
         person = self.person()
         person.types(b"\x02Z")
