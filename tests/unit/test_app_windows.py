@@ -259,6 +259,13 @@ class Switches(Windows):
         self.assertEqual((self.typed[1], self.rows()[1]), ("ab", "there is no window 5"))
         self.type(b"\x02lcd")
         self.assertEqual((self.typed[1], self.rows()[1]), ("abcd", "there is no last window"))
+        self.tell_list()
+        self.tell("gone 2")
+        for keys in (b"\x02ne", b"\x02pf"):
+            self.front.display.row.end_told()
+            self.type(keys)
+            self.assertEqual(self.rows()[1], "there is no other window")
+        self.assertEqual(self.typed[1], "abcdef")
 
     def test_order(self):
         """C-b n and C-b p go round the windows in the order of their numbers."""

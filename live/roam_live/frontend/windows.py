@@ -342,7 +342,8 @@ class WindowWishes:
         elif what == "asked":
             self.views.acts.ask_line(AskedLine("window", most=2), "window")
         elif what in ("next", "previous"):
-            others = [number for number in numbers if (number > here) == (what == "next") and number != here] or numbers
+            others = [number for number in numbers if number != here]
+            others = [number for number in others if (number > here) == (what == "next")] or others
             self.go_to((others[0] if what == "next" else others[-1]) if others else 0, "there is no other window")
         else:
             number = int(what) if what.isascii() and what.isdigit() else 0
