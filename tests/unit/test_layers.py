@@ -3,6 +3,7 @@
 Every import counts: those at the top of a module, those below TYPE_CHECKING, and those inside functions.
 """
 import ast
+import functools
 import graphlib
 import pathlib
 import re
@@ -24,6 +25,12 @@ MOST_LINES, MOST_METHODS = 450, 25
 LAYER = {package: number for number, packages in enumerate(LAYERS) for package in packages}
 
 
+@functools.lru_cache(maxsize=None)
+def nodes_of(text: str) -> "list[ast.AST]":
+    """Return all nodes of a module."""
+    return list(ast.walk(ast.parse(text)))
+
+
 def package_of(module: str) -> str:
     """Return the package of a dotted module name below roam_live, "" if it has none."""
     return module.split(".")[1] if module.count(".") else ""
@@ -32,7 +39,7 @@ def package_of(module: str) -> str:
 def imports_in(text: str) -> "list[tuple[int, str]]":
     """Return the line and the dotted name of each import of roam_live in a module, and of each name that may be a module."""
     found = []
-    for node in ast.walk(ast.parse(text)):
+    for node in nodes_of(text):
         if isinstance(node, ast.Import):
             found += [(node.lineno, alias.name) for alias in node.names]
         elif isinstance(node, ast.ImportFrom):
@@ -44,7 +51,7 @@ def imports_in(text: str) -> "list[tuple[int, str]]":
 
 def modules_named_in(text: str) -> "list[tuple[int, str]]":
     """Return the line and the name of each module that a text names as a string, as for a later import."""
-    strings = [node for node in ast.walk(ast.parse(text)) if isinstance(node, ast.Constant) and isinstance(node.value, str)]
+    strings = [node for node in nodes_of(text) if isinstance(node, ast.Constant) and isinstance(node.value, str)]
     return [(node.lineno, node.value) for node in strings if re.fullmatch(r"roam_live(\.[a-z_]+)+", node.value)]
 
 
@@ -59,7 +66,7 @@ def modules_imported_by(text: str) -> "list[tuple[int, str]]":
 def owners_in(name: str, text: str) -> "list[str]":
     """Return where an object gives itself to another: a call of a class has `self` among its arguments, or a field of another is set."""
     faults = []
-    for node in ast.walk(ast.parse(text)):
+    for node in nodes_of(text):
         if isinstance(node, ast.Assign) and any(isinstance(one, ast.Attribute) for one in node.targets):
             values = node.value.elts if isinstance(node.value, ast.Tuple) else [node.value]
             faults += [f"{name}:{node.lineno}: gives itself away"] * any(isinstance(one, ast.Name) and one.id == "self" for one in values)
@@ -76,7 +83,7 @@ def made_and_known(text: str) -> "tuple[dict[str, set[str]], dict[str, set[str]]
     """Return what each class of a module makes, and the types that its constructor and its fields name."""
     made: "dict[str, set[str]]" = {}
     known: "dict[str, set[str]]" = {}
-    for one in ast.walk(ast.parse(text)):
+    for one in nodes_of(text):
         if not isinstance(one, ast.ClassDef):
             continue
         nodes = list(ast.walk(one))
@@ -165,7 +172,7 @@ class Layers(Case):
         for name, text in texts().items():
             if name.split("/")[1] in ACYCLIC:
                 self.assertLessEqual(text.count("\n"), MOST_LINES, name)
-                for node in ast.walk(ast.parse(text)):
+                for node in nodes_of(text):
                     if isinstance(node, ast.ClassDef):
                         methods = sum(isinstance(one, ast.FunctionDef) for one in node.body)
                         self.assertLessEqual(methods, MOST_METHODS, f"{name}: {node.name}")
