@@ -12,6 +12,7 @@ from roam_live.frontend.command_line import CommandRunner
 from roam_live.frontend.spawn_commands import Handing
 from roam_live.protocol.panes import Places, Rect
 from roam_live.protocol.spawn_request import Begins, unpacked
+from test_display import Person
 from test_socket_server import Sockets, read_now
 
 NAME, OTHER = "0123456789abcdef", "fedcba9876543210"
@@ -112,6 +113,26 @@ class AtHost(Sockets):
         one.close()
         self.loop.turns(3)
         self.assertFalse(self.channel.handed.waiting)
+
+
+class InWindow(Case):
+    """A command that a person types in a window."""
+
+    def test_split(self):
+        """The window's own part hands it over, made as it is first needed, and the pane is split then."""
+        self.stop_clock()
+        self.patch_of(spawn_commands, "random_name", return_value=NAME)
+        person = Person(24, 80, told=Places({1: FIRST}, 1))
+        handed = []
+        person.host.ask_with = lambda line, data: handed.append((line, data)) or True
+        runner = CommandRunner(person.keyboard, None)
+        self.assertNotIn("handing", vars(person.commands))
+        runner.typed("split-window -h htop ; send-keys x")
+        data = Begins(["htop"]).packed()
+        self.assertEqual(handed, [(f"run {NAME} 1 1 {len(data)}", data)])
+        person.said()
+        person.host.ran(f"{NAME} ready")
+        self.assertEqual((person.said(), person.link.acts[-1]), (["split right"], "char 78"))
 
 
 class AtFrontEnd(Case):
