@@ -4,6 +4,7 @@ import json
 import os
 import pathlib
 import pty
+import re
 import signal
 import subprocess
 import sys
@@ -28,6 +29,9 @@ WAIT = 15.0
 # The session of a scene, and the program of this process.
 SESSION = "tried"
 PROGRAM = os.environ.get("ROAM", "")
+
+# The name of a session as the last row begins with it: no number, since panes have those.
+NAMED = re.compile(r"\[[a-z][a-z0-9_-]*\] ")
 
 failed = []
 
@@ -238,10 +242,14 @@ class Outer:
         """Whether a text comes to stand at a row and a column, from 0."""
         return comes(lambda: self.rows()[row][col:].startswith(text), seconds)
 
+    def last_row(self):
+        """The last row behind the session's name, which it begins with where there is room."""
+        return NAMED.sub("", self.rows()[-1], count=1) if NAMED.match(self.rows()[-1]) else self.rows()[-1]
+
     def status(self, text, seconds=WAIT, end=""):
-        """Whether the last row comes to begin with a text, and to end in another. What is painted above it may come before or after
-        that."""
-        return comes(lambda: self.rows()[-1].startswith(text) and self.rows()[-1].endswith(end), seconds)
+        """Whether the last row comes to begin with a text behind the session's name, and to end in another. What is painted above it may
+        come before or after that."""
+        return comes(lambda: self.last_row().startswith(text) and self.last_row().endswith(end), seconds)
 
     def was_told(self, *texts, begin=0):
         """Whether one of these lines comes to be written behind so many bytes: it stands for a moment, and may be gone before it is looked

@@ -392,7 +392,7 @@ class Listed(Mux):
             return found[session.name]
 
         with mock.patch.object(SessionFolder, "is_listed", is_listed), \
-                mock.patch.object(SessionFolder, "line", lambda session, survey, windows: f"{session.name} 24 by 80\x1b[c"):
+                mock.patch.object(SessionFolder, "line", lambda session, survey, windows, width: f"{session.name} 24 by 80\x1b[c"):
             self.assertEqual(self.mux("ls"), 1)
             self.assertEqual(self.text.getvalue(), "a 24 by 80?[c\n")
             self.assertIn("session ssh:there:main: somebody listens\n", self.said.getvalue())

@@ -129,13 +129,13 @@ class Read(Based):
         session = self.session()
         self.assertEqual(line_of(session).split(), ["main", "-", "?", "panes", "0", "terminals"])
         one, two = Places({1: Rect(1, 1, 23, 80)}, 1, 32), Places({1: Rect(1, 1, 23, 39), 2: Rect(1, 41, 23, 40)}, 1, 33)
-        for places, told in ((one, "main         24 by 80     1 pane   0 terminals"),
-                             (two, "main         24 by 80     2 panes  0 terminals, 33 of 64 clients"),
-                             (one._replace(clients=47), "main         24 by 80     1 pane   0 terminals, 47 of 64 clients"),
+        for places, told in ((one, "main         23 by 80     1 pane   0 terminals"),
+                             (two, "main         23 by 80     2 panes  0 terminals, 33 of 64 clients"),
+                             (one._replace(clients=47), "main         23 by 80     1 pane   0 terminals, 47 of 64 clients"),
                              (one._replace(clients=48),
-                              "main         24 by 80     1 pane   0 terminals, 48 of 64 clients, new ones of this "
+                              "main         23 by 80     1 pane   0 terminals, 48 of 64 clients, new ones of this "
                                                        "machine alone are taken"),
-                             (one._replace(clients=64), "main         24 by 80     1 pane   0 terminals, 64 of 64 clients, no other is "
+                             (one._replace(clients=64), "main         23 by 80     1 pane   0 terminals, 64 of 64 clients, no other is "
                                                        "taken")):
             self.assertEqual(line_of(session, places), told)
         self.assertIn(" 1 terminal,", line_of(session, one._replace(clients=64), 1))

@@ -118,7 +118,7 @@ class Row(Case):
         self.display.part.asked, self.display.part.told_size, self.display.row.labels = (23, 40), (24, 40), "[1]"
         told = mock.Mock(names={2: ""}, runs={2: "vim"})
         panes = mock.Mock(title_and_shape=("a title", 0))
-        self.row = StatusRow(self.display, self.loop, lambda: format_values("main:2", 2, told, panes, False))
+        self.row = StatusRow(self.display, self.loop, lambda: format_values("main", 2, told, panes, False))
         self.addCleanup(config_environment.choose_by_file, {})
 
     def choose(self, left, right):
@@ -136,6 +136,21 @@ class Row(Case):
         self.assertEqual(self.display.row.line()[:17], "a titlea titl[1] ")
         self.display.row.told = "told"
         self.assertEqual(self.display.row.line_text("told", 9), "\x1b[0;7mtold     \x1b[0m")
+
+    def test_default(self):
+        """Without status-left the row begins with the session's name if that takes a third at most; an empty status-left turns it off."""
+        self.row.name = "main"
+        config_environment.choose_by_file({})
+        self.assertEqual(self.row.choose(), [])
+        self.assertEqual(self.display.row.line(), "[main] [1]" + " " * 30)
+        self.assertEqual(self.display.row.line_text(self.display.row.line(), 40),
+                         "\x1b[0;7m[main] \x1b[0;7m[1]" + " " * 30 + "\x1b[0m")
+        self.display.outer.size.return_value = (24, 20)
+        self.assertEqual(self.display.row.line(), "[1]" + " " * 17)
+        self.display.outer.size.return_value = (24, 40)
+        config_environment.choose_by_file({"status-right": "#I"})
+        self.assertEqual((self.row.choose(), self.display.row.line()), ([], "[main] [1]" + " " * 29 + "2"))
+        self.assertEqual((self.choose("", ""), self.display.row.line()), ([], "[1]" + " " * 37))
 
     def test_wrong(self):
         """What isn't there in a format is told; a row without formats is as it always was."""

@@ -157,12 +157,12 @@ class Found(Sessions):
         session = self.session()
         (self.base / "main/w/2/name").write_text("6162\n", encoding="ascii")
         (self.base / "main/w/7/name").write_text("1b5d\n", encoding="ascii")
-        self.assertEqual(line_of(session, PLACES), "main         24 by 80     2 panes  0 terminals, 2 windows: 2:ab 7")
+        self.assertEqual(line_of(session, PLACES), "main         23 by 80     2 panes  0 terminals, 2 windows: 2:ab 7")
         (self.base / "main/w/last").write_text("7\n", encoding="ascii")
         wide = Places({1: Rect(1, 1, 29, 90)}, 1)
-        self.assertIn("30 by 90", line_of(session, lambda folder: wide if folder.name == "7" else PLACES))
+        self.assertIn("29 by 90", line_of(session, lambda folder: wide if folder.name == "7" else PLACES))
         self.noted("main", 7, server=[1, 1])
-        self.assertEqual(line_of(session, PLACES), "main         24 by 80     1 pane   0 terminals")
+        self.assertEqual(line_of(session, PLACES), "main         23 by 80     1 pane   0 terminals")
 
     def test_ending(self):
         """A window's end is on purpose where that was noted, beside others."""
@@ -404,7 +404,7 @@ class Near(Sessions):
             one.window(3)
         self.assertTrue(line_of(session, PLACES).endswith("2 panes  0 terminals, 2 windows: 2 5"), line_of(session, PLACES))
         line = line_of(session, lambda folder: None if folder.name == "2" else PLACES)
-        self.assertTrue(line.endswith("24 by 80     ? panes  0 terminals, 2 windows: 2 5"), line)
+        self.assertTrue(line.endswith("23 by 80     ? panes  0 terminals, 2 windows: 2 5"), line)
         session.clean()
         self.assertEqual(os.listdir(session.folder), [])
 
@@ -458,8 +458,8 @@ class Asked(Sessions):
         """Each window has a line: its name, its size, its panes, and what runs there."""
         self.patch_of(cli_windows, "RUNS_TOLD", 0.0)
         wide = Places({1: Rect(1, 1, 23, 39), 2: Rect(1, 41, 23, 40)}, 2)
-        for number, places, busy, line in ((2, PLACES, {1: "vi"}, " 2 a?b              24 by 80     1 pane, vi in pane 1"),
-                                           (7, wide, {}, " 7 -                24 by 80     2 panes"),
+        for number, places, busy, line in ((2, PLACES, {1: "vi"}, " 2 a?b              23 by 80     1 pane, vi in pane 1"),
+                                           (7, wide, {}, " 7 -                23 by 80     2 panes"),
                                            (7, None, None, " 7 -                -            ? panes")):
             self.answers, self.host = [b"window %d %s\nwindows 1\n" % (number, b"61e282ac62" if number == 2 else b"-")], None
             self.patch_of(SessionFolder, "places", lambda session: places)

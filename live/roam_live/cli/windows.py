@@ -157,7 +157,7 @@ def list_windows(session: SessionFolder) -> int:
     for number, name in windows_of(session, has_programs=True):
         window = session.window(number)
         places, busy = window.places(), window.busy()
-        size = "{} by {}".format(*places.size()) if places else "-"
+        size = "{} by {}".format(*places.area()) if places else "-"
         panes = "? panes" if not places else "1 pane" if len(places.rects) == 1 else f"{len(places.rects)} panes"
         runs = f", {told(busy)}" if busy else ""
         print(printable(f"{number:2} {name or '-':16} {size:12} {panes}{runs}"))

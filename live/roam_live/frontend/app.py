@@ -56,7 +56,10 @@ class FrontEnd:
         self.watchdog = HostWatchdog(session, self.loop, lambda line: self.display.row.tell(line, LOSS_TOLD))
         self.display = Display(self.loop, lambda line: self.connection.say(line))
         self.keyboard = Interpreter(ModeStack(Keymap()), self.display, self.loop, lambda: self.views.view.commands, lambda: self.windows)
-        self.settings = FrontSettings(self.keyboard, StatusRow(self.display, self.loop, self.values), prefix, prediction)
+        # The name of a session without its window, which changes.
+        self.name = session.name.removesuffix(f":{session.number}")
+        status_row = StatusRow(self.display, self.loop, self.values, self.name if session.number else "")
+        self.settings = FrontSettings(self.keyboard, status_row, prefix, prediction)
         self.host_link = HostLink(session.common, self.loop, self.display.outer.size, is_read_only)
         self.host_link.environment = environment_lines(session, is_read_only)
         maker = ViewMaker(self.keyboard, self.settings, self.host_link, self.leave, is_read_only, is_whole, has_clips and not is_read_only)
@@ -90,7 +93,7 @@ class FrontEnd:
     def values(self) -> dict[str, str]:
         """Return what the words of formats stand for."""
         views, is_zoomed = self.views, self.display.part.zoomed is not None
-        return format_values(self.session.name, views.number, self.windows.told, views.view.panes, is_zoomed)
+        return format_values(self.name, views.number, self.windows.told, views.view.panes, is_zoomed)
 
     def server_ended(self, view: WindowView) -> None:
         """Go on in another window where the server of this one has ended; if there is none the session has."""

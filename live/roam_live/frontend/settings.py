@@ -8,12 +8,13 @@ from collections.abc import Callable
 
 from roam_live.common.errors import Fault
 from roam_live.common.event_loop import Loop
-from roam_live.config.environment import STATUS_INTERVAL, chosen_prediction, chosen_prefix, number_of, text_of, wants_mouse
-from roam_live.config.styled_text import Styled
+from roam_live.config.environment import BY_FILE, STATUS_INTERVAL, chosen_prediction, chosen_prefix, number_of, text_of, wants_mouse
+from roam_live.config.styled_text import ROW_STYLE, Styled
 from roam_live.config.user_file import OWN
 from roam_live.frontend.commands import Commands
 from roam_live.frontend.display import Display
 from roam_live.frontend.interpreter import Interpreter
+from roam_live.frontend.status_line import columns
 from roam_live.frontend.windows_client import WindowsState
 from roam_live.protocol.panes_client import PanesSubscriber
 
@@ -23,38 +24,45 @@ if TYPE_CHECKING:
 
 OPTIONS = ("status-left", "status-right")
 
+# What `status-left` is if no settings file sets it.
+DEFAULT_LEFT = "[#S] "
+
 # What the moment is called at which a clock in it goes on.
 MOMENT = "status"
 
 
-def format_values(session: str | None, number: int, told: WindowsState, panes: PanesSubscriber, is_zoomed: bool) -> dict[str, str]:
+def format_values(session: str, number: int, told: WindowsState, panes: PanesSubscriber, is_zoomed: bool) -> dict[str, str]:
     """Return what the words of formats stand for in a window of a session."""
     name, host = told.names.get(number) or told.runs.get(number, ""), os.uname().nodename
-    return {"session": (session or "").removesuffix(f":{number}"), "window": name or "", "index": str(number or 1),
+    return {"session": session, "window": name or "", "index": str(number or 1),
             "flags": "*" + "Z" * is_zoomed, "pane": str(panes.places.focus) if panes.places else "", "title": panes.title_and_shape[0],
             "host": host, "short_host": host.partition(".")[0]}
 
 
 class StatusRow:
-    """What stands at both ends of the last row, of one front end. A call returns what the words of formats stand for."""
+    """Both ends of the last row of one front end. A call returns what the words of formats stand for. `name` is the session's name, which
+    the row shows if no settings file sets its left end; a session without windows has none."""
 
-    def __init__(self, display: Display, loop: Loop, values: Callable[[], dict[str, str]]) -> None:
-        self.display, self.loop, self.values = display, loop, values
+    def __init__(self, display: Display, loop: Loop, values: Callable[[], dict[str, str]], name: str = "") -> None:
+        self.display, self.loop, self.values, self.name = display, loop, values, name
         self.formats: list[Format] = []
 
     def choose(self) -> list[str]:
         """Goes by the formats that are chosen now; tells what of them isn't there, a line each."""
         texts = {option: text_of(option) for option in OPTIONS}
+        has_default = bool(self.name) and OPTIONS[0] not in BY_FILE
         display, self.formats = self.display, []
         self.loop.drop(MOMENT)
         wrong: list[str] = []
         if any(texts.values()):
+            texts[OPTIONS[0]] = DEFAULT_LEFT if has_default else texts[OPTIONS[0]]
             # Who has none doesn't wait for these.
             from roam_live.config.formats import read_format, unread
 
             self.formats = [read_format(text) for text in texts.values()]
             wrong = [line for option, text in texts.items() for line in unread(option, text)]
-        display.row.status, display.row.line_put = self.shown if self.formats else None, None
+        display.row.status = self.shown if self.formats else self.named if has_default else None
+        display.row.line_put = None
         self.tick()
         return wrong
 
@@ -68,6 +76,11 @@ class StatusRow:
             waits = [wait for wait in (changes_in(read, now, interval) for read in self.formats) if wait is not None]
             if waits:
                 self.loop.later(MOMENT, min(waits), self.tick)
+
+    def named(self) -> tuple[list[Styled], list[Styled]]:
+        """Return the session's name for the left end, as DEFAULT_LEFT has it, if that takes at most a third of the row."""
+        text = f"[{self.name}] "
+        return [Styled(ROW_STYLE, text)] if columns(text) * 3 <= self.display.outer.size()[1] else [], []
 
     def shown(self) -> tuple[list[Styled], list[Styled]]:
         """What stands at both ends now."""

@@ -77,6 +77,11 @@ class Places(namedtuple("Places", "rects focus clients watchers", defaults=(0, 0
         rects = self.rects.values()
         return max(rect.row + rect.rows for rect in rects), max(rect.col + rect.cols - 1 for rect in rects)
 
+    def area(self) -> tuple[int, int]:
+        """Return the rows and columns that all panes take together, which is what `stty size` prints in a single pane."""
+        rows, cols = self.size()
+        return rows - 1, cols
+
     def is_covered(self) -> bool:
         """Whether the panes and borders cover the area, as far as their sizes tell: while only some are told anew they don't."""
         rows, cols = self.size()

@@ -36,6 +36,9 @@ WRITTEN = ("ended", "state.json", "session")
 # From so many clients on `mux ls` tells how many a server knows.
 MANY_CLIENTS = 32
 
+# So many columns a name has in `mux ls` at least.
+LEAST_NAME = 12
+
 # What `mux ls` says of a session that did not say how many terminals it has.
 NO_ANSWER = ", its pty host does not answer"
 
@@ -284,17 +287,17 @@ class SessionFolder(Processes):
         """Return the window whose size `mux ls` prints."""
         return windows[0]
 
-    def line(self, survey: Survey, windows: list[SessionFolder]) -> str:
-        """Return the line of `mux ls`, by what the sockets of its windows answered."""
+    def line(self, survey: Survey, windows: list[SessionFolder], width: int = 0) -> str:
+        """Return the line of `mux ls`, by what the sockets of its windows answered; the name takes so many columns at least."""
         places = [survey.places(window.folder) for window in windows]
         shown = survey.places(self.shown_window(windows).folder) if windows else None
-        size = "{} by {}".format(*shown.size()) if shown else "-"
+        size = "{} by {}".format(*shown.area()) if shown else "-"
         panes = None if None in places or not places else sum(len(one.rects) for one in places if one)
         terminals = survey.terminals(self.folder)
         named = " ".join(f"{window.number}:{window.title()}" if window.title() else f"{window.number}" for window in windows)
         more = f", {len(windows)} windows: {named}" if len(windows) > 1 else ""
         lacking = self.lacking() or (NO_ANSWER if terminals is None else "")
-        return f"{listed(self.name, size, panes, terminals)}{many_clients(places)}{more}{lacking}"
+        return f"{listed(self.name, size, panes, terminals, width)}{many_clients(places)}{more}{lacking}"
 
     def lacking(self) -> str:
         """What `mux ls` says of the pty host, where that doesn't run."""
@@ -304,10 +307,11 @@ class SessionFolder(Processes):
         return ", the pty host is stopped" if is_stopped(host) else ""
 
 
-def listed(name: str, size: str, panes: int | None, terminals: int | None) -> str:
+def listed(name: str, size: str, panes: int | None, terminals: int | None, width: int) -> str:
     """Return the columns of `mux ls` that each session has; what is unknown is None."""
+    width = max(width, LEAST_NAME)
     has = "? panes" if panes is None else "1 pane" if panes == 1 else f"{panes} panes"
-    return f"{name:12} {size:12} {has:8} {'?' if terminals is None else terminals} terminal{'' if terminals == 1 else 's'}"
+    return f"{name:{width}} {size:12} {has:8} {'?' if terminals is None else terminals} terminal{'' if terminals == 1 else 's'}"
 
 
 def many_clients(found: Iterable[Places | None]) -> str:

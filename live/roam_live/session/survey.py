@@ -126,4 +126,5 @@ def surveyed(sessions: list[tuple[SessionFolder, list[SessionFolder]]]) -> list[
     """Return the lines of `mux ls` for sessions that run, each with its windows. Their sockets are asked side by side."""
     survey = Survey([str(window.folder) for _, windows in sessions for window in windows],
                     [str(session.folder) for session, _ in sessions])
-    return [session.line(survey, windows) for session, windows in sessions]
+    width = max((len(session.name) for session, _ in sessions), default=0)
+    return [session.line(survey, windows, width) for session, windows in sessions]

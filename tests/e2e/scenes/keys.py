@@ -53,7 +53,7 @@ def all_panes(folder):
     outer.type(b"\x02z2")
     check("then all have them", have(paths[:2], text + b"2") and have(paths[2:], text_of_third + b"2"), all_of(paths))
     outer.type(b"\x02c")
-    check("another window has its own", outer.shows("2:") and comes(lambda: "S" not in outer.rows()[-1][:8]), outer.rows)
+    check("another window has its own", outer.shows("2:") and comes(lambda: "S" not in outer.last_row()[:8]), outer.rows)
     outer.type(b"\x02p3")
     check("and one comes back to all panes", have(paths[:2], text + b"23"), all_of(paths))
     outer.type(b"\x02:synchronize-panes\r4")

@@ -293,7 +293,7 @@ def carried(folder):
 
 def fits(outer):
     """Whether the last row of a terminal comes to tell the key that fits the session to it, behind the windows."""
-    return comes(lambda: outer.rows()[-1].startswith("[1] 1:") and outer.rows()[-1].rstrip().endswith("C-b r fits"))
+    return comes(lambda: outer.last_row().startswith("[1] 1:") and outer.rows()[-1].rstrip().endswith("C-b r fits"))
 
 
 @scene

@@ -279,7 +279,7 @@ def ends(folder):
     outer.type(b"exit\r")
     check("a shell's end closes its pane, and the focus goes back", outer.status(" 2 [3]"), outer.rows)
     outer.type(b"\x02q2sleep 0.5; exit\r\x02q3")
-    check("also where another has the focus", outer.status("[3]") and not outer.rows()[-1].startswith(" 2"), outer.rows)
+    check("also where another has the focus", outer.status("[3]") and not outer.last_row().startswith(" 2"), outer.rows)
     outer.type(b"exit\r")
     check("the last one's ends the session", outer.ends() and outer.process.returncode == 0, outer.process.returncode)
     check("the terminal is as it was, and it is said", outer.is_restored() and outer.shows("[the session has ended]"), outer.rows)

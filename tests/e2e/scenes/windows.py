@@ -204,7 +204,7 @@ def window_each(folder):
     check("which is told", b"[detached from elsewhere]" in second.written, bytes(second.written[-80:]))
     for rows in (24, 23):
         first.type(b"\x02t")
-        is_sized = comes(lambda: f"{rows + 1} by 80" in said("list-windows", SESSION)[1].splitlines()[0])
+        is_sized = comes(lambda: f"{rows} by 80" in said("list-windows", SESSION)[1].splitlines()[0])
         check(f"the window has the last row, or not: {rows}", is_sized, said("list-windows", SESSION))
         first.type(b"clear; stty size\r")
         is_shown = first.shows(f"{rows} 80") and comes(lambda: ("2:" in first.rows()[23]) == (rows == 23))

@@ -117,7 +117,7 @@ def zoomed_back(size):
     outer.status("[1]")
     for _ in range(TREES["zoom"]):
         before = tree(chance)
-        comes(lambda places=before: outer.rows()[-1].rstrip() == places.labels().rstrip())
+        comes(lambda places=before: outer.last_row().rstrip() == places.labels().rstrip())
         cells = still_cells()
         outer.type(b"\x02z")
         comes(lambda: is_zoomed(outer))
@@ -176,7 +176,7 @@ def first_row_refitted(folder):
         # The start has the new screen a moment after its size is told here.
         small.type(b"\x022\x021\x02r" if number % 2 else b"\x02r")
         comes(lambda: there().size() == (24, 80))
-        right += comes(lambda: small.rows()[-1].startswith("[1] 1:sh") and shows_first(small), 3)
+        right += comes(lambda: small.last_row().startswith("[1] 1:sh") and shows_first(small), 3)
     check("its first row is the first one each time", right == FIRST_ROWS["refits"], (right, small.rows()))
 
 
@@ -388,7 +388,7 @@ def moved(outer, pane, side):
     acts(f"focus {pane}")
     comes(lambda: there().focus == pane)
     before = there()
-    comes(lambda: outer.rows()[-1].startswith(before.labels()))
+    comes(lambda: outer.last_row().startswith(before.labels()))
     comes(lambda: not is_told_in(outer.rows()[-1]), 4)
     begin = len(outer.written)
     outer.type(KEYS[side])
