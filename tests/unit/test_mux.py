@@ -13,6 +13,7 @@ from roam_live.cli.args import TMUX_WORDS
 from roam_live.common.errors import Fault
 from roam_live.common.process import TOOLS
 from roam_live.config import environment as config_environment
+from roam_live.config.command_table import BY_NAME, DEFAULT_KEYS
 from roam_live.config.user_file import OWN, settings_path
 from roam_live.frontend import app
 from roam_live.protocol.panes import Places, Rect
@@ -555,7 +556,7 @@ class Words(Mux):
 
     def test_refused(self):
         """Words that name no session: a slip is told of, the rest gets the usage; all with status 2."""
-        hint = "mux: 'atach' is no word of mux; did you mean attach?"
+        hint = "mux: 'atach' is no command of mux; did you mean attach?"
         for words, told in ((("atach",), f"{hint} (`mux new atach` begins a session of that name)\n"), (("atach", "x"), f"{hint}\n")):
             self.assertEqual(self.mux(*words), 2)
             self.assertTrue(self.said.getvalue().endswith(told))
@@ -573,6 +574,12 @@ class Words(Mux):
         for word, here in TMUX_WORDS.items():
             if here.startswith("mux "):
                 self.assertIn(here.split()[1], mux.WORDS, word)
+            if here.startswith("mux cmd "):
+                self.assertIn(here.split()[3], BY_NAME, word)
+            if here.startswith("C-b "):
+                _, key, *command = here.split()
+                self.assertTrue(key in DEFAULT_KEYS or key == "C-b", word)
+                self.assertTrue(not command or command[0] in BY_NAME, word)
             for more in () if word in mux.WORDS else ((), ("-h",), ("x", "y")):
                 before = len(self.said.getvalue())
                 self.assertEqual(self.mux(word, *more), 2, word)
@@ -599,9 +606,9 @@ class Words(Mux):
             self.assertTrue(self.text.getvalue()[before:].startswith("mux [NAME] | WORD ..: sessions by name."))
         self.assertEqual(self.mux("help", "ls"), 0)
         self.assertIn("usage: mux ls", self.text.getvalue())
-        self.refuses("'lst' is no word of mux; did you mean ls? `mux help` lists them", "help", "lst")
+        self.refuses("'lst' is no command of mux; did you mean ls? `mux help` lists them", "help", "lst")
         self.refuses("split-window is a word of tmux; roam has `mux cmd NAME split-window`; `mux help` lists them", "help", "split-window")
-        self.refuses("'zebra' is no word of mux; `mux help` lists them", "help", "zebra")
+        self.refuses("'zebra' is no command of mux; `mux help` lists them", "help", "zebra")
         with self.assertRaises(SystemExit):
             self.mux("kill", "--help")
         self.assertIn("ends a session and the programs in it", self.text.getvalue())

@@ -76,7 +76,7 @@ class Own(Case):
         self.read("set -g prefix C-a\nfoo bar\n")
         self.assertEqual((OWN.line(), config_environment.chosen_prefix()), ("roam.conf:2: foo isn't there in roam", "C-a"))
         self.read("foo\nbind x nosuch\nbind y split-window -Q\nbind C-v split-window -h\n")
-        self.assertEqual(OWN.line(), "3 lines of roam.conf aren't done here, which `mux settings` prints")
+        self.assertEqual(OWN.line(), "3 lines of roam.conf have no effect in roam; `mux settings` prints them")
         self.assertEqual(undone(OWN.found)[2], "roam.conf: y isn't bound: split-window: it has no -Q here")
         self.assertEqual(list(OWN.found.bindings), [("prefix", "C-v")])
         self.read("display 'good morning'\n")

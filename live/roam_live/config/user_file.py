@@ -128,5 +128,5 @@ def summary(found: FileSettings | None) -> str:
     is."""
     lines = undone(found) if found else []
     said = found.messages[-1:] if found else []
-    wrong = lines[:1] if len(lines) < 2 else [f"{len(lines)} lines of {NAME} aren't done here, which `{PRINTS}` prints"]
+    wrong = lines[:1] if len(lines) < 2 else [f"{len(lines)} lines of {NAME} have no effect in roam; `{PRINTS}` prints them"]
     return "; ".join([*said, *wrong])

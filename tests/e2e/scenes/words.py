@@ -55,7 +55,7 @@ def words(folder):
 
 def slips():
     """What is nearly a word of mux starts no session, and what is quit behind a pipe says nothing."""
-    for name, told in (("lst", "'lst' is no word of mux; did you mean ls?"), ("a", "a is a word of tmux; roam has `mux attach NAME`"),
+    for name, told in (("lst", "'lst' is no command of mux; did you mean ls?"), ("a", "a is a word of tmux; roam has `mux attach NAME`"),
                        ("list-sessions", "list-sessions is a word of tmux; roam has `mux ls`"),
                        ("next-window", "next-window is a word of tmux; roam has C-b n"),
                        ("swap-pane", "swap-pane: tmux has this, roam hasn't")):
