@@ -59,13 +59,18 @@ class FirstWord(Case):
         self.assertEqual(self.says("help", "mux"), (0, "mux help\n", ""))
         self.assertEqual(self.says("mux", "ls", "-x"), (0, "mux ls -x\n", ""))
 
+    def test_version(self):
+        """The tools say which build it is."""
+        for word in ("-V", "--version"):
+            self.assertEqual(self.says(word), (0, "mux --version\n", ""))
+
     def test_words_of_mux(self):
         """A word of mux is refused with what was meant, but for those that the program has with options."""
         for word in loaded("mux").WORDS:
             if word not in ("attach", "help", "far"):
                 self.assertEqual(self.says(word, "work"), (2, "", f"roam: sessions by name are those of mux: `roam mux {word}`\n"))
         self.assertEqual(self.says("attach", "work"), (2, "", "roam: sessions by name are those of mux: `roam mux attach work`\n"))
-        for words in (("attach", "--dir", "d"), ("attach",), ("serve", "--dir", "d"), ("show",), ("--version",), ("far",)):
+        for words in (("attach", "--dir", "d"), ("attach",), ("serve", "--dir", "d"), ("show",), ("--version", "x"), ("far",)):
             self.assertEqual(self.says(*words), (0, f"program {' '.join(words)}\n", ""))
 
 

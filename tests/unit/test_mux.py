@@ -648,13 +648,6 @@ class Words(Mux):
             self.assertEqual(self.mux("help"), 0)
             self.assertTrue(self.text.getvalue().startswith("roam mux [NAME] | WORD"))
 
-    def test_version(self):
-        with mock.patch.object(mux, "program", return_value="/roam"), mock.patch.object(mux.os, "execv", side_effect=SystemExit) as becomes:
-            for word in ("-V", "--version"):
-                with self.assertRaises(SystemExit):
-                    self.mux(word)
-        self.assertEqual(becomes.call_args_list, [mock.call("/roam", ["/roam", "--version"])] * 2)
-
     def test_words(self):
         """The words are those of the page roam-mux(1)."""
         page = PAGE.read_text(encoding="utf-8")

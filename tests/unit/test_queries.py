@@ -2,10 +2,10 @@
 import unittest
 
 from aids import Case
-from roam_live.common.process import TOOLS
+from roam_live.common.build_info import version
 from roam_live.input.keys import Key, Keys
 from roam_live.protocol.colours import ASKED, Colours, colour_of, told_in
-from roam_live.protocol.queries import VERSION, holds_frames, query_in
+from roam_live.protocol.queries import holds_frames, query_in
 
 ANSWERS = ("\x1b]10;rgb:ffff/ffff/ffff\x07", "\x1b]11;rgb:1e/1E/2e\x1b\\")
 
@@ -18,7 +18,7 @@ class Answered(Case):
         colours = Colours()
         colours.take("colour background 1e1e/1e1e/2e2e")
         for line, wanted, unheld in (
-                ("query 1 7 version", f"\x1bP>|roam {VERSION}\x1b\\", None),
+                ("query 1 7 version", f"\x1bP>|roam {version()}\x1b\\", None),
                 ("query 1 7 pastes", "\x1b[?2004;2$y", None), ("query 1 7 pastes set", "\x1b[?2004;1$y", None),
                 ("query 1 7 frames", "\x1b[?2026;2$y", "\x1b[?2026;0$y"), ("query 1 7 frames set", "\x1b[?2026;1$y", "\x1b[?2026;0$y"),
                 ("query 1 7 background", "\x1b]11;rgb:1e1e/1e1e/2e2e\x1b\\", None),
@@ -31,11 +31,6 @@ class Answered(Case):
         for line in ("", "query", "query 1 7", "query 1 x version", "query 1 7 name", "query 1 7 version set", "query 1 7 pastes bell",
                      "modes 1 7", "query 1 7 pastes set set", "query \u0661 7 version"):
             self.assertIsNone(query_in(line), line)
-
-    def test_version(self):
-        """The version that is told is that of the program."""
-        source = (TOOLS.parent / "crates/roam_cli/src/commands.rt").read_text(encoding="utf-8")
-        self.assertIn(f'.version("{VERSION}")', source)
 
     def test_frames(self):
         """Whether a server holds frames together is told by its words, and not known where these can't be read."""

@@ -77,8 +77,9 @@ def unforeseen(fault: Exception) -> str:
 
 def run_tool(main: Callable[[], int | None]) -> NoReturn:
     """Runs a tool; a fault is one line on standard error and status 1. `python3 -X dev` shows where one comes from that nobody foresaw. The
-    programs that it runs tell why they ended."""
+    programs that it runs tell why they ended. With --version alone it prints which build this is."""
     os.environ.setdefault(ASKS_WHY, "1")
+    main = print_version if sys.argv[1:] in (["--version"], ["-V"]) else main
     signal.signal(signal.SIGINT, signal.default_int_handler)
     try:
         status = main()
@@ -97,6 +98,13 @@ def run_tool(main: Callable[[], int | None]) -> NoReturn:
         if sys.flags.dev_mode:
             raise
         sys.exit(unforeseen(fault))
+
+
+def print_version() -> None:
+    """Print which build of roam this is."""
+    from roam_live.common.build_info import build
+
+    print(build().line())
 
 
 def nobody_reads() -> bool:

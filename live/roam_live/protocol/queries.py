@@ -3,15 +3,15 @@ from __future__ import annotations
 
 import pathlib
 
+from roam_live.common.build_info import version
 from roam_live.protocol.colours import NUMBERS, Colours
 
 # What a server is asked for by who answers, and the word that begins each line of that. No number there has more digits.
 QUERIES, QUERY = "queries", "query"
 MOST_DIGITS = 19
 
-# What the terminal of a pane is called (XTVERSION).
-VERSION = "0.1.0"
-NAMED = b"\x1bP>|roam %s\x1b\\" % VERSION.encode()
+# What the terminal of a pane is called (XTVERSION): its name and version.
+NAMED = b"\x1bP>|roam %s\x1b\\"
 
 # The modes of which it is asked whether they are set, by the words of a line, and what is answered (DECRPM): 1 where one is set, 2 where it
 # isn't, 0 where it isn't known.
@@ -47,7 +47,7 @@ class PaneQuery:
     def answer(self, colours: Colours, has_frames: bool) -> bytes:
         """What is typed for it: nothing where a colour isn't known."""
         if self.what == "version":
-            return NAMED
+            return NAMED % version().encode()
         if self.what in MODES:
             state = SET if self.more else RESET
             return mode_told(MODES[self.what], state if has_frames or self.what != "frames" else UNKNOWN)

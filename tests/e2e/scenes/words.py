@@ -5,6 +5,7 @@ import subprocess
 import xml.etree.ElementTree
 
 from tried import Outer, PROGRAM, check, comes, failed, listed, noted, said, scene, tool, window_of
+from roam_live.common.build_info import version
 from roam_live.common.process import TOOLS
 from roam_live.config.environment import PREFIXES
 from roam_live.frontend.bindings import Keymap, help_with
@@ -16,7 +17,7 @@ from roam_live.input.keys import Key, Keys
 @scene
 def words(folder):
     """The words of `mux` that a script uses, and what they refuse."""
-    check("mux --version tells the program's", said("--version")[:2] == (0, "roam 0.1.0\n"), said("--version"))
+    check("mux --version tells the build", said("--version")[1].startswith(f"roam {version()} (commit "), said("--version"))
     helps = {word: said(word, "--help") for word in "attach new detach ls list watch kill send paste capture env ssh far help".split()}
     odd = {word: told for word, told in helps.items() if told[0] != 0 or not told[1].startswith(f"usage: mux {word} ")}
     check("each word of mux has a help", not odd, odd)

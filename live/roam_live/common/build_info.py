@@ -1,0 +1,82 @@
+"""Which build of roam this is: its version, its commit, and the kit that proved it.
+
+An installed roam has a file `build_info` beside its tools, which `make install` and the packages write. A clone has the file VERSION at its
+top, and git.
+"""
+from __future__ import annotations
+
+import contextlib
+import functools
+import subprocess
+from collections import namedtuple
+
+from roam_live.common.process import TOOLS
+from roam_live.common.text import printable
+
+INSTALLED = TOOLS / "build_info"
+CLONE = TOOLS.parent
+
+# A value of the file has so many characters at most, and a command so many seconds.
+LONGEST = 100
+WAIT = 5.0
+
+UNKNOWN = "unknown"
+
+
+class BuildInfo(namedtuple("BuildInfo", "version commit kit gate", defaults=(UNKNOWN, UNKNOWN, UNKNOWN, UNKNOWN))):
+    """A build: its version, the commit of its sources, the kit, and the last line of the gate that proved it."""
+
+    version: str
+    commit: str
+    kit: str
+    gate: str
+
+    def line(self) -> str:
+        """Return what `--version` prints."""
+        return f"roam {self.version} (commit {self.commit}, {self.kit.split(' ')[0]})"
+
+
+def word_of(text: str) -> str:
+    """Return a printable value of bounded length, or "unknown" if there is none."""
+    return printable(text.strip())[:LONGEST] or UNKNOWN
+
+
+def in_file() -> BuildInfo:
+    """Return what the file of an installed roam says. OSError if there is none."""
+    lines = INSTALLED.read_text(encoding="ascii", errors="replace").splitlines()
+    words = (line.partition(" ") for line in lines)
+    return BuildInfo(**{name: word_of(value) for name, _, value in words if name in BuildInfo._fields})
+
+
+def said_by(*words: str) -> str:
+    """Return the line that a command prints, or "unknown" if there is none."""
+    with contextlib.suppress(OSError, subprocess.SubprocessError):
+        ran = subprocess.run(words, stdin=subprocess.DEVNULL, stdout=subprocess.PIPE, stderr=subprocess.DEVNULL, timeout=WAIT, check=True)
+        return word_of(ran.stdout.decode("ascii", "replace"))
+    return UNKNOWN
+
+
+@functools.lru_cache(maxsize=None)
+def version() -> str:
+    """Return the version alone."""
+    with contextlib.suppress(OSError):
+        return str(in_file().version)
+    with contextlib.suppress(OSError):
+        return word_of((CLONE / "VERSION").read_text(encoding="ascii", errors="replace"))
+    return UNKNOWN
+
+
+def build() -> BuildInfo:
+    """Return all that is known of this build. In a clone git and the kit are asked."""
+    with contextlib.suppress(OSError):
+        return in_file()
+    commit = said_by("git", "-C", str(CLONE), "rev-parse", "--short=12", "HEAD")
+    return BuildInfo(version(), commit, said_by("rt", "version"))
+
+
+def identity() -> str:
+    """Return what tells two installed builds apart, a word or two: the version, and the commit if a file has it."""
+    with contextlib.suppress(OSError):
+        found = in_file()
+        return found.version if found.commit == UNKNOWN else f"{found.version} {found.commit}"
+    return version()
