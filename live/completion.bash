@@ -11,7 +11,7 @@ _roam_mux_windows() {
     "${@:2}" list-windows "$1" 2> /dev/null | while read -r number _; do echo "$number"; done
 }
 
-_roam_mux_words="attach new ls list list-windows new-window rename-window clients watch kill send paste capture log buffer env cmd settings ssh help --help
+_roam_mux_words="attach new ls list list-windows new-window rename-window clients watch kill send paste capture log buffer env cmd upgrade settings ssh help --help
     --version"
 
 _roam_commands="bind bind-key choose-buffer choose-tree choose-window command-prompt copy-mode detach detach-client display display-message display-panes displayp kill-pane kill-window killp killw last last-pane last-window lastp list-keys lsk new-window neww next next-layout next-window nextl paste-buffer pasteb prev previous-window refresh refresh-client rename-window renamew resize-pane resizep run run-shell select-layout select-pane select-window selectl selectp selectw send send-keys send-prefix set set-option set-window-option setw source source-file split-window splitw suspend-client suspendc synchronize-panes toggle-mouse toggle-status unbind unbind-key"

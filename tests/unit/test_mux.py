@@ -654,7 +654,7 @@ class Words(Mux):
         for word in mux.WORDS:
             self.assertRegex(page, rf"\b{word}\b")
         self.assertEqual(list(mux.WORDS), "attach new detach ls list list-windows new-window rename-window clients watch kill send paste "
-                         "capture log buffer env cmd settings ssh far help".split())
+                         "capture log buffer env cmd upgrade settings ssh far help".split())
 
     def test_ssh_words(self):
         asked = mux.asked_by("ssh", ["-p", "22", "--far", "f", "there"])

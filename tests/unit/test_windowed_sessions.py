@@ -8,10 +8,11 @@ import time
 from unittest import mock
 
 from aids import Case, line_of, read_now
-from roam_live.cli import targets, windows as cli_windows
+from roam_live.cli import targets, upgrade, windows as cli_windows
 from roam_live.cli.targets import session_of, target_of, window_of
 from roam_live.cli.windows import (WindowsAsked, check_title, detach_others, is_there, list_clients, list_windows, new_window, rename, shut,
                                    windows_of)
+from roam_live.common.build_info import identity
 from roam_live.common.errors import Fault
 from roam_live.common.process import begun, end_words, is_running
 from roam_live.common.unix_socket import is_listened
@@ -164,6 +165,24 @@ class Found(Sessions):
         self.noted("main", 7, server=[1, 1])
         self.assertEqual(line_of(session, PLACES), "main         23 by 80     1 pane   0 terminals")
 
+    def test_other_build(self):
+        """A line of `ls` and `mux upgrade` name another build by which a session was begun; this one, and an odd note, are not named."""
+        session = self.session()
+        begins = "main         23 by 80     2 panes  0 terminals, 2 windows: 2 7"
+        for noted, told in ((identity(), ""), (7, ""), (None, ""), ("0.1.0 0123", ", runs roam 0.1.0 0123, which `mux upgrade` explains"),
+                            ("\x1b" * 99, f", runs roam {'?' * 60}, which `mux upgrade` explains")):
+            session.state["build"] = noted
+            self.assertEqual(line_of(session, PLACES), begins + told)
+        session.state["build"] = "0.1.0 0123"
+        lines = upgrade.report([session])
+        self.assertEqual((lines[0][:15], lines[1], lines[-2]),
+                         (f"this is roam {identity()[:2]}", "main runs roam 0.1.0 0123", "  mux kill main && mux new main"))
+        session.served = "relay"
+        self.assertEqual(upgrade.report([session])[-2], "  mux kill main; then `mux ssh` again")
+        session.state = None
+        self.assertEqual(upgrade.report([session])[1:], [upgrade.SAME])
+        self.assertEqual(upgrade.report([])[1:], [upgrade.SAME])
+
     def test_ending(self):
         """A window's end is on purpose where that was noted, beside others."""
         window = self.session().window(2)
@@ -274,7 +293,7 @@ class Launched(Sessions):
             ("host", [str(roles.TOOLS / "pane_shells"), "--windows", "--first", str(self.base / "new"), "vi", "x"]),
             ("server", ["/roam", "serve", "--normalize", "--dir", str(folder)])])
         self.assertEqual((self.new.state, folder.stat().st_mode & 0o777, folder.parent.stat().st_mode & 0o777),
-                         ({"version": WINDOWS_VERSION, "command": ["vi", "x"], "host": self.own}, 0o700, 0o700))
+                         ({"version": WINDOWS_VERSION, "command": ["vi", "x"], "build": identity(), "host": self.own}, 0o700, 0o700))
         role, test = self.waits[0]
         self.assertEqual((role, test()), ("server", False))
         (folder / "session").touch()

@@ -7,7 +7,6 @@ from __future__ import annotations
 
 import contextlib
 import functools
-import subprocess
 from collections import namedtuple
 
 from roam_live.common.process import TOOLS
@@ -50,6 +49,8 @@ def in_file() -> BuildInfo:
 
 def said_by(*words: str) -> str:
     """Return the line that a command prints, or "unknown" if there is none."""
+    import subprocess
+
     with contextlib.suppress(OSError, subprocess.SubprocessError):
         ran = subprocess.run(words, stdin=subprocess.DEVNULL, stdout=subprocess.PIPE, stderr=subprocess.DEVNULL, timeout=WAIT, check=True)
         return word_of(ran.stdout.decode("ascii", "replace"))

@@ -6,9 +6,11 @@ import json
 import os
 import time
 
+from roam_live.common.build_info import identity
 from roam_live.common.errors import Fault
 from roam_live.common.files import is_locked, is_own_folder, replace_text
 from roam_live.common.process import age_of, begun, end_words, is_stopped
+from roam_live.common.text import printable
 from roam_live.common.unix_socket import is_listened
 from roam_live.protocol.panes import ASKED, MOST_CLIENTS, asked_places
 from roam_live.session.environment import LINK
@@ -16,7 +18,7 @@ from roam_live.session.front_end_lock import FRONT_ENDS, has_front_ends
 from roam_live.session.names import LONGEST_PATH
 from roam_live.session.processes import START_WAIT, Processes
 from roam_live.session.roles import ROLES, client_words
-from roam_live.session.window_state import REMOTE_CLIENTS, WINDOWS_VERSION, note_ends
+from roam_live.session.window_state import BUILD, REMOTE_CLIENTS, WINDOWS_VERSION, note_ends
 
 TYPE_CHECKING = False
 if TYPE_CHECKING:
@@ -38,6 +40,9 @@ MANY_CLIENTS = 32
 
 # So many columns a name has in `mux ls` at least.
 LEAST_NAME = 12
+
+# So many characters of another build's name are shown.
+LONGEST_BUILD = 60
 
 # What `mux ls` says of a session that did not say how many terminals it has.
 NO_ANSWER = ", its pty host does not answer"
@@ -297,7 +302,14 @@ class SessionFolder(Processes):
         named = " ".join(f"{window.number}:{window.title()}" if window.title() else f"{window.number}" for window in windows)
         more = f", {len(windows)} windows: {named}" if len(windows) > 1 else ""
         lacking = self.lacking() or (NO_ANSWER if terminals is None else "")
+        other = self.other_build()
+        lacking += f", runs roam {other}, which `mux upgrade` explains" if other else ""
         return f"{listed(self.name, size, panes, terminals, width)}{many_clients(places)}{more}{lacking}"
+
+    def other_build(self) -> str:
+        """Return the build of roam with which its processes began, if that is another than this one; "" otherwise, or if it is unknown."""
+        told = (self.state or {}).get(BUILD)
+        return printable(told)[:LONGEST_BUILD] if isinstance(told, str) and told != identity() else ""
 
     def lacking(self) -> str:
         """What `mux ls` says of the pty host, where that doesn't run."""

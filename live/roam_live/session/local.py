@@ -6,6 +6,7 @@ import os
 import pathlib
 import time
 
+from roam_live.common.build_info import identity
 from roam_live.common.errors import Fault
 from roam_live.common.process import begun, end_words, holder_of
 from roam_live.common.unix_socket import is_listened
@@ -14,7 +15,7 @@ from roam_live.session.folder import SessionFolder
 from roam_live.session.names import LONGEST_PATH, base, check_name
 from roam_live.session.processes import end_left
 from roam_live.session.roles import ROLES, host_words, server_words
-from roam_live.session.window_state import JOINED, SPARE, WINDOWS, WINDOWS_VERSION, is_spare_server, note_ends, numbers_in
+from roam_live.session.window_state import BUILD, JOINED, SPARE, WINDOWS, WINDOWS_VERSION, is_spare_server, note_ends, numbers_in
 
 TYPE_CHECKING = False
 if TYPE_CHECKING:
@@ -130,7 +131,7 @@ class LocalSession(SessionFolder):
 
     def spawn_host(self, more: Iterable[str] = ()) -> None:
         """Spawns the pty host."""
-        self.state = self.state or {"version": WINDOWS_VERSION, "command": []}
+        self.state = {**(self.state or {"version": WINDOWS_VERSION, "command": []}), BUILD: identity()}
         self.spawned("host", host_words(self.folder, self.state.get("command", ()), more))
 
     def demand_host(self) -> None:

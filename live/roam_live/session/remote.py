@@ -6,11 +6,12 @@ import os
 import signal
 import time
 
+from roam_live.common.build_info import identity
 from roam_live.common.errors import Fault
 from roam_live.common.process import end_words, holder_of
 from roam_live.session.folder import SessionFolder
 from roam_live.session.roles import relay_words
-from roam_live.session.window_state import WINDOWS, WINDOWS_VERSION, numbers_in
+from roam_live.session.window_state import BUILD, WINDOWS, WINDOWS_VERSION, numbers_in
 
 TYPE_CHECKING = False
 if TYPE_CHECKING:
@@ -109,7 +110,7 @@ class RemoteSession(SessionFolder):
         tells the status of one that didn't answer, and leaves no folder then."""
         self.clean()
         (self.folder / "ended").unlink(missing_ok=True)
-        self.state = {"version": WINDOWS_VERSION}
+        self.state = {"version": WINDOWS_VERSION, BUILD: identity()}
         with self.whole():
             relay = self.spawned("relay", relay_words(self.folder, self.log, ALONE, host, command), in_front, is_heard=True)
             try:

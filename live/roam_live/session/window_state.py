@@ -20,6 +20,9 @@ SPARE_VARIABLE = "ROAM_SPARE"
 # In a window's folder: which client processes of other machines its server knows.
 REMOTE_CLIENTS = "remote_clients"
 
+# In the note of a session: the build of roam whose pty host or relay was started last.
+BUILD = "build"
+
 # What a note of such a session is like.
 WINDOWS_VERSION = 4
 
