@@ -545,7 +545,7 @@ class Sizes(unittest.TestCase):
     def test_less_than_any(self):
         """A terminal on which no part has room is told so; one that has it shows a part, and gives the session no size that can't be."""
         person = Person(2, 30, told=places(24, 80))
-        self.assertEqual((person.shown(), person.said()), (["too small: 2 by 30 of 3 by 4", "C-b d leaves"], []))
+        self.assertEqual((person.shown(), person.said()), (["too small: 3 by 4 is needed", "C-b d leaves"], []))
         self.assertEqual(person.types(b"\x02r"), [])
         self.assertEqual(Person(24, 3, told=places(24, 80)).said(), [])
         person = Person(3, 30, told=places(24, 80))

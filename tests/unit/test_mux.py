@@ -133,7 +133,7 @@ class Attaches(Mux):
         """Nor on one that can't place its cursor."""
         self.environment(TERM="dumb")
         for words in ((), ("new", "x"), ("ssh", "there")):
-            self.refuses("TERM is dumb: this terminal can't show a session", *words)
+            self.refuses("TERM is dumb: this terminal cannot place its cursor; set TERM to its real type, such as xterm-256color", *words)
         self.assertEqual((self.done, list(self.base.iterdir())), ([], []))
 
     def test_each_end(self):

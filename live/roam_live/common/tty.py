@@ -51,7 +51,7 @@ DUMB = "dumb"
 def demand_able() -> None:
     """Refuses a terminal that says it can't place its cursor, as tmux does."""
     if os.environ.get("TERM") == DUMB:
-        raise Fault(f"TERM is {DUMB}: this terminal can't show a session")
+        raise Fault(f"TERM is {DUMB}: this terminal cannot place its cursor; set TERM to its real type, such as xterm-256color")
 
 
 def unwrapped(text: str) -> bytes:

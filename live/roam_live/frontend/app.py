@@ -17,6 +17,7 @@ from roam_live.frontend.display import Display
 from roam_live.frontend.interpreter import Interpreter
 from roam_live.frontend.modes import ModeStack
 from roam_live.frontend.settings import FrontSettings, StatusRow, format_values
+from roam_live.frontend.surroundings import advice
 from roam_live.frontend.window_views import LOSS_TOLD, ViewMaker, WindowView, WindowViews
 from roam_live.frontend.windows import WindowWishes
 from roam_live.protocol.client_link import LAST_WAIT
@@ -213,7 +214,7 @@ class FrontEnd:
         try:
             self.display.outer.enter()
             self.ask_colours()
-            self.settings.tell()
+            self.settings.tell(advice(self.settings.prefix))
             self.settings.run_file()
             self.connection.connect()
             if self.views.view.server is None:

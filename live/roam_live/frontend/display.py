@@ -68,7 +68,7 @@ class Display:
         """Ask for what is to be shown if that isn't what was asked for; else if it has to be asked for anew, or be painted."""
         rows, cols = self.outer.size()
         if rows < tty.LEAST_SHOWN[0] or cols < tty.LEAST_SHOWN[1]:
-            line = "{}: {} by {} of {} by {}".format(TOO_SMALL, rows, cols, *tty.LEAST_SHOWN)
+            line = "{}: {} by {} is needed".format(TOO_SMALL, *tty.LEAST_SHOWN)
             self.show("\n".join(filter(None, (line, self.row.leaves_line))))
             return
         if self.notice.startswith(TOO_SMALL):

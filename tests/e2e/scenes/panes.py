@@ -128,7 +128,7 @@ def sizes(folder):
     outer.type(b"\x02q1clear; stty size\r")
     check("the programs are told", outer.shows("39 59"), outer.rows)
     outer.resize(2, 30)
-    check("a very small one shows a line", comes(lambda: outer.rows()[0].startswith("too small: 2 by 30 of 3 by 4")), outer.rows)
+    check("a very small one shows a line", comes(lambda: outer.rows()[0].startswith("too small: 3 by 4 is needed")), outer.rows)
     outer.type(b"echo un''seen\r")
     outer.resize(40, 120)
     check("then all is as it was", outer.status("[1] 2  3") and outer.stands(3, 59, "\u2502"), outer.rows)

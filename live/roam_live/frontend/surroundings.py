@@ -1,0 +1,34 @@
+"""What around a front end may surprise its user: a locale without UTF-8, and a session that is shown inside tmux or another roam."""
+from __future__ import annotations
+
+import os
+
+from roam_live.common.text import printable
+from roam_live.config.environment import PREFIX
+from roam_live.session.foreground import own_pane
+
+TYPE_CHECKING = False
+if TYPE_CHECKING:
+    from collections.abc import Mapping
+
+# The variables that name the locale of characters; the first that is set counts (setlocale(3)).
+LOCALE = ("LC_ALL", "LC_CTYPE", "LANG")
+LONGEST = 20
+
+
+def wrong_locale(environment: Mapping[str, str]) -> str:
+    """Return the name of a locale that has no UTF-8, "" if it has."""
+    name = next(filter(None, map(environment.get, LOCALE)), "C")
+    return "" if "utf8" in name.lower().replace("-", "") else printable(name)[:LONGEST]
+
+
+def advice(prefix: str, environment: Mapping[str, str] = os.environ) -> str:
+    """Return a line that says what is wrong and what helps, "" if nothing is wrong."""
+    name = wrong_locale(environment)
+    if name:
+        return f"locale {name} has no UTF-8, so programs may print ? for letters; set LC_ALL=C.UTF-8"
+    if prefix != PREFIX or environment.get("ROAM_PREFIX"):
+        # A user of nested sessions chose another prefix already.
+        return ""
+    outer = "a pane of another session" if own_pane()[0] else "tmux" if environment.get("TMUX") else ""
+    return f"inside {outer}: type {prefix} twice to reach this session, or set ROAM_PREFIX=C-a" if outer else ""
