@@ -1,7 +1,7 @@
 # `make` proves what the program stands on and builds it; `make show` builds the program that has `roam show` alone; `make test` is the
 # whole gate; `make bench` runs the benchmarks; `make try` tries the built program as processes and as a person would, and `make install
-# PREFIX=/usr/local` puts it, its tools and their pages there. All need the kit's `rt` on the PATH; the benchmarks a C compiler and Python
-# too.
+# PREFIX=/usr/local` puts it, its tools and their pages there; `make deb` and `make dist` pack these. All need the kit's `rt` on the PATH; the
+# benchmarks a C compiler and Python too.
 # What one goal stands on, or all: a word a crate, those below it first, NAME:DEP:DEP.
 goal := $(patsubst crates/%/out/built,%,$(filter crates/%/out/built,$(MAKECMDGOALS)))
 crates := $(shell tools/crates_below $(if $(word 2,$(MAKECMDGOALS)),,$(goal)) | tr ' ' ':')
@@ -11,7 +11,7 @@ files := $(shell find crates/*/src crates/*/specs crates/*/proofs -type f)
 sources = $(filter crates/$(1)/%,$(files))
 built = $(patsubst %,crates/%/out/built,$(1))
 
-.PHONY: all show test bench try install clean
+.PHONY: all show test bench try install deb dist clean
 
 all: program = roam
 show: program = roam_show_bin
@@ -49,31 +49,15 @@ try: all
 	tests/stress/try_windows
 
 PREFIX ?= /usr/local
-installed = $(DESTDIR)$(PREFIX)
-completions = $(installed)/share/bash-completion/completions
-# The modules of the Python packages, below live/.
-modules = $(shell cd live && find roam_live -name '*.py')
+# The last line of the gate that proved these files, for the file that says which build it is.
+GATE ?=
 
 install: all
-	install -d $(installed)/bin $(installed)/lib/roam $(installed)/share/man/man1 $(installed)/share/man/man5 $(completions)
-	install crates/roam/out/roam live/attach live/mux live/pane_shells live/picture live/relay $(installed)/lib/roam
-	install -m 644 live/first_word $(installed)/lib/roam
-	for module in $(modules); do install -D -m 644 live/$$module $(installed)/lib/roam/$$module || exit 1; done
-	cd $(installed)/lib/roam && python3 -m compileall -q -f -d $(PREFIX)/lib/roam/roam_live roam_live
-	install live/installed $(installed)/bin/roam
-	ln -sf ../lib/roam/mux $(installed)/bin/roam-mux
-	ln -sf ../lib/roam/attach $(installed)/bin/roam-attach
-	ln -sf ../lib/roam/pane_shells $(installed)/bin/roam-pane-shells
-	ln -sf ../lib/roam/relay $(installed)/bin/roam-relay
-	install -m 644 docs/man/*.1 $(installed)/share/man/man1
-	install -m 644 docs/man/*.5 $(installed)/share/man/man5
-	ln -sf roam-mux.1 $(installed)/share/man/man1/roam-attach.1
-	ln -sf roam-mux.1 $(installed)/share/man/man1/roam-pane-shells.1
-	install -m 644 live/completion.bash $(completions)/roam
-	ln -sf roam $(completions)/roam-mux
-	ln -sf roam $(completions)/roam-attach
-	ln -sf roam $(completions)/roam-pane-shells
-	ln -sf roam $(completions)/roam-relay
+	@tools/package install --gate "$(GATE)" --root "$(DESTDIR)" "$(PREFIX)"
+
+# Packages, in out: of Debian, and a tarball for any x86-64 Linux whose C library is new enough.
+deb dist: all
+	@tools/package $@ --gate "$(GATE)"
 
 clean:
-	rm -rf crates/*/out
+	rm -rf crates/*/out out

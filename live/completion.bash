@@ -11,10 +11,27 @@ _roam_mux_windows() {
     "${@:2}" list-windows "$1" 2> /dev/null | while read -r number _; do echo "$number"; done
 }
 
-_roam_mux_words="attach new ls list list-windows new-window rename-window clients watch kill send paste capture log buffer env cmd upgrade settings ssh help --help
-    --version"
+# What follows is written by tools/completions.
+_roam_mux_words="attach new ls list list-windows new-window rename-window clients watch kill send paste capture log buffer env cmd upgrade settings ssh help --help --version"
+
+# The options of a word of mux.
+_roam_mux_options() {
+    case $1 in
+    attach) echo "-d --predict --help" ;;
+    new) echo "-d --predict --help" ;;
+    new-window) echo "-n --help" ;;
+    kill) echo "-f --help" ;;
+    send) echo "-l -a --help" ;;
+    paste) echo "--raw --help" ;;
+    capture) echo "--svg -S -E -e -J --help" ;;
+    log) echo "-e -J --help" ;;
+    ssh) echo "--ssh --far --predict --help" ;;
+    *) echo --help ;;
+    esac
+}
 
 _roam_commands="bind bind-key choose-buffer choose-tree choose-window command-prompt copy-mode detach detach-client display display-message display-panes displayp kill-pane kill-window killp killw last last-pane last-window lastp list-keys lsk new-window neww next next-layout next-window nextl paste-buffer pasteb prev previous-window refresh refresh-client rename-window renamew resize-pane resizep run run-shell select-layout select-pane select-window selectl selectp selectw send send-keys send-prefix set set-option set-window-option setw source source-file split-window splitw suspend-client suspendc synchronize-panes toggle-mouse toggle-status unbind unbind-key"
+# Up to here.
 
 # Keys by their names, of which C- and M- begin more.
 _roam_keys="Enter Escape Tab BTab Space BSpace Up Down Left Right Home End PPage NPage IC DC C-c C-d C-l C-u C-z $(printf 'F%s ' {1..12})"
@@ -69,23 +86,19 @@ _roam_mux() {
         mapfile -t COMPREPLY < <(compgen -W "$words" -- "$word")
         return
     fi
-    case ${COMP_WORDS[COMP_CWORD - 1]} in
-    ssh) mapfile -t COMPREPLY < <(compgen -A hostname -W "--ssh --far --predict --help" -- "$word") && return ;;
+    local before=${COMP_WORDS[COMP_CWORD - 1]}
+    case $before in
+    ssh) mapfile -t COMPREPLY < <(compgen -A hostname -W "$(_roam_mux_options ssh)" -- "$word") && return ;;
     mux | roam-mux | */mux | */roam-mux) words="$_roam_mux_words $(_roam_mux_names "${mux[@]}")" ;;
-    attach) words="-d --predict --help $(_roam_mux_names "${mux[@]}")" ;;
     :) words=$(_roam_mux_windows "${COMP_WORDS[COMP_CWORD - 2]}" "${mux[@]}") ;;
-    new-window) words="-n --help $(_roam_mux_names "${mux[@]}")" ;;
     -n) words= ;;
-    watch | env | cmd | list-windows | rename-window | clients) words="--help $(_roam_mux_names "${mux[@]}")" ;;
-    send) words="-l -a --help $(_roam_mux_names "${mux[@]}")" ;;
-    paste) words="--raw --help $(_roam_mux_names "${mux[@]}")" ;;
-    kill) words="-f --help $(_roam_mux_names "${mux[@]}")" ;;
-    capture) words="--svg -S -E -e -J --help $(_roam_mux_names "${mux[@]}")" ;;
-    log) words="-e -J --help $(_roam_mux_names "${mux[@]}")" ;;
+    attach | new-window | watch | env | cmd | list-windows | rename-window | clients | send | paste | kill | capture | log)
+        words="$(_roam_mux_options "$before") $(_roam_mux_names "${mux[@]}")"
+        ;;
     buffer) words="list show set paste --help" ;;
     -S | -E) words="-" ;;
     --svg | --raw | -f | -e | -J | -d) words=$(_roam_mux_names "${mux[@]}") ;;
-    new) words="-d --predict --help" ;;
+    new) words=$(_roam_mux_options new) ;;
     --predict) words="adaptive always never" ;;
     help) words=$_roam_mux_words ;;
     esac

@@ -1,9 +1,17 @@
-"""What bash completes behind the tools' words."""
+"""What bash, zsh and fish complete behind the tools' words. The last two are tried where they are installed."""
+import fcntl
+import os
 import pathlib
+import pty
+import select
+import shutil
 import subprocess
 import tempfile
+import termios
+import time
 import unittest
 
+from aids import Case
 from roam_live.common.process import TOOLS
 
 COMPLETES = r"""
@@ -108,6 +116,86 @@ class Completion(unittest.TestCase):
         self.assertEqual(completed("_roam_mux", "mux", "at"), ["attach"])
         self.assertEqual(completed("_roam_mux", "mux", "en"), ["env"])
         self.assertEqual(completed("_roam_mux", "mux", "env", "w"), ["work"])
+
+
+# What a shell completes a line to in the end: the completion of the line, by what of it, in zsh and in fish.
+LINES = (
+    ("roam mux atta", "attach"), ("roam-mux ki", "kill"), ("roam mux attach wor", "work"), ("roam-mux kill ma", "main"),
+    ("roam mux send work Ente", "Enter"), ("roam mux cmd work split-w", "split-window"), ("roam mux buffer sho", "show"),
+    ("roam mux upg", "upgrade"), ("roam ser", "serve"), ("roam mux help list-w", "list-windows"), ("roam mux attach --pred", "--predict"),
+)
+
+# Lists two sessions, as `roam mux` and as `roam-mux`.
+PLAYED = "#!/bin/sh\n[ \"$1\" != mux ] || shift\n[ \"$1\" != ls ] || printf 'main  23 by 80\\nwork  23 by 80\\n'\n"
+
+
+class Tables(unittest.TestCase):
+    """The files that are written by the tables."""
+
+    def test_written(self):
+        run = subprocess.run([str(TOOLS.parent / "tools/completions"), "--check"], stdout=subprocess.PIPE, check=False)
+        self.assertEqual((run.stdout.decode(), run.returncode), ("", 0))
+
+
+class OtherShells(Case):
+    """zsh and fish, with a roam that is played."""
+
+    def setUp(self):
+        self.folder = self.made_folder()
+        for name in ("roam", "roam-mux"):
+            (self.folder / name).write_text(PLAYED, encoding="ascii")
+            (self.folder / name).chmod(0o755)
+        self.known = {**os.environ, "PATH": f"{self.folder}:{os.environ['PATH']}", "HOME": str(self.folder), "TERM": "dumb"}
+
+    @unittest.skipUnless(shutil.which("fish"), "fish isn't installed")
+    def test_fish(self):
+        for line, wanted in LINES:
+            words = ["fish", "--no-config", "-c", f"source {TOOLS}/completion.fish; complete -C '{line}'"]
+            run = subprocess.run(words, env=self.known, cwd=self.folder, stdout=subprocess.PIPE, check=True)
+            found = [one.partition("\t")[0] for one in run.stdout.decode().splitlines()]
+            self.assertEqual(found, [wanted], line)
+        offered = subprocess.run(["fish", "--no-config", "-c", f"source {TOOLS}/completion.fish; complete -C 'roam mux send -a work sp'"],
+                                 env=self.known, stdout=subprocess.PIPE, check=True).stdout.decode()
+        self.assertEqual(offered.splitlines(), ["split down", "split right"])
+
+    @unittest.skipUnless(shutil.which("zsh"), "zsh isn't installed")
+    def test_zsh(self):
+        functions = self.folder / "functions"
+        functions.mkdir()
+        shutil.copy(TOOLS / "completion.zsh", functions / "_roam")
+        shell = Zsh({**self.known, "PS1": "> ", "ZDOTDIR": str(self.folder)}, self.folder)
+        self.addCleanup(shell.end)
+        shell.types(f"fpath=({functions} $fpath); autoload -U compinit; compinit -u -D; print re''ady\n", "ready\r")
+        for line, wanted in LINES:
+            begun = line.rpartition(" ")[0]
+            shell.types(f"{line}\t", f"{begun} {wanted}")
+            shell.types("\x15print ne''xt\n", "next\r")
+
+
+class Zsh:
+    """zsh at a pseudo-terminal."""
+
+    def __init__(self, known, folder):
+        self.master, slave = pty.openpty()
+        ends = {"stdin": slave, "stdout": slave, "stderr": slave}
+        self.process = subprocess.Popen(["zsh", "-f", "-i"], **ends, env=known, cwd=folder, start_new_session=True,
+                                        preexec_fn=lambda: fcntl.ioctl(0, termios.TIOCSCTTY, 0))
+        os.close(slave)
+
+    def types(self, keys, wanted):
+        """Types keys, and reads until a text comes."""
+        os.write(self.master, keys.encode())
+        read, end = "", time.monotonic() + 10
+        while wanted not in read:
+            if not select.select([self.master], [], [], max(0, end - time.monotonic()))[0]:
+                raise AssertionError(f"{wanted!r} doesn't come behind {keys!r}: {read!r}")
+            read += os.read(self.master, 65536).decode("utf-8", "replace").replace("\a", "")
+
+    def end(self):
+        """Ends it."""
+        self.process.kill()
+        self.process.wait()
+        os.close(self.master)
 
 
 if __name__ == "__main__":

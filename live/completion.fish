@@ -1,0 +1,194 @@
+# Completion of roam and roam-mux for fish: put it into a folder of completions. It is written by tools/completions.
+
+# The words behind mux that are typed already, without the one that is being completed.
+function __roam_words
+    set -l words (commandline -opc)
+    if string match -q '*roam-mux' -- $words[1]
+        string join \n -- $words[2..-1]
+    else if test "$words[2]" = mux
+        string join \n -- $words[3..-1]
+    end
+end
+
+# Whether a word of mux comes next.
+function __roam_begins
+    set -l words (commandline -opc)
+    string match -q '*roam-mux' -- $words[1]; and test (count $words) = 1; and return
+    test "$words[2]" = mux; and test (count $words) = 2
+end
+
+# Whether one of these words of mux is typed.
+function __roam_is
+    set -l words (__roam_words)
+    contains -- "$words[1]" $argv
+end
+
+# Whether so many arguments stand behind the word of mux, options left out.
+function __roam_has
+    set -l words (__roam_words)
+    set -l others (string match -v -- '-*' $words[2..-1])
+    test (count $others) = $argv[1]
+end
+
+function __roam_sessions
+    set -l words (commandline -opc)
+    set -l call $words[1]
+    string match -q '*roam-mux' -- $call; or set -a call mux
+    $call ls 2> /dev/null | string replace -r ' .*' ''
+end
+
+function __roam_program
+    set -l words (commandline -opc)
+    not string match -q '*roam-mux' -- $words[1]; and test (count $words) -ge 2; and test "$words[2]" = $argv[1]
+end
+
+function __roam_first
+    test (count (commandline -opc)) = 1
+end
+
+complete -c roam -n '__roam_first' -f -a mux -d 'keeps sessions by name'
+complete -c roam -n '__roam_first' -f -a serve -d 'serves a session'
+complete -c roam -n '__roam_first' -f -a attach -d 'runs a client of a session'
+complete -c roam -n '__roam_first' -f -a show -d 'prints the screen that bytes produce'
+complete -c roam -n '__roam_first' -f -a rows -d 'prints the rows that scroll off'
+complete -c roam -n '__roam_first' -f -a world -d 'replays a script of network events'
+complete -c roam -n '__roam_program serve' -F -l dir -r
+complete -c roam -n '__roam_program serve' -f -l port -x
+complete -c roam -n '__roam_program serve' -f -l session -x
+complete -c roam -n '__roam_program serve' -f -l turns -x
+complete -c roam -n '__roam_program serve' -f -l normalize
+complete -c roam -n '__roam_program attach' -F -l dir -r
+complete -c roam -n '__roam_program attach' -f -l port -x
+complete -c roam -n '__roam_program attach' -f -l session -x
+complete -c roam -n '__roam_program attach' -f -l client -x
+complete -c roam -n '__roam_program attach' -F -l keys -r
+complete -c roam -n '__roam_program attach' -F -l acts -r
+complete -c roam -n '__roam_program attach' -F -l terminals -r
+complete -c roam -n '__roam_program attach' -f -l watch
+complete -c roam -n '__roam_program attach' -f -l wire -x
+complete -c roam -n '__roam_program attach' -f -l turns -x
+complete -c roam -n '__roam_program show' -f -l rows -x
+complete -c roam -n '__roam_program show' -f -l cols -x
+complete -c roam -n '__roam_program rows' -f -l normalize
+complete -c roam -n '__roam_begins' -f -a attach -d 'attaches to a session that is running, main where none is named'
+complete -c roam -n '__roam_begins' -f -a new -d 'launches a session that isn'\''t running, main where none is named, and attaches to it; options stand before NAME'
+complete -c roam -n '__roam_begins' -f -a ls -d 'lists the sessions: name, rows and columns, panes, terminals'
+complete -c roam -n '__roam_begins' -f -a list -d 'lists the sessions: name, rows and columns, panes, terminals'
+complete -c roam -n '__roam_begins' -f -a list-windows -d 'lists the windows of a session: number, name, size, panes, what runs there'
+complete -c roam -n '__roam_begins' -f -a new-window -d 'opens a window in a session that is running, and prints its name'
+complete -c roam -n '__roam_begins' -f -a rename-window -d 'gives a window a name, or none where no title is named'
+complete -c roam -n '__roam_begins' -f -a clients -d 'lists the terminals at a session: number, name, size, window, since when'
+complete -c roam -n '__roam_begins' -f -a watch -d 'shows a session without typing there'
+complete -c roam -n '__roam_begins' -f -a kill -d 'ends a session and the programs in it, or a window or a pane; it asks where one is no shell'
+complete -c roam -n '__roam_begins' -f -a send -d 'types keys and texts, or acts, into a session or a pane, and ends once the session has taken all of it'
+complete -c roam -n '__roam_begins' -f -a paste -d 'pastes standard input into a session or a pane, in one piece'
+complete -c roam -n '__roam_begins' -f -a capture -d 'prints the rows that a session, or a pane, shows, or rows of a pane that left its screen'
+complete -c roam -n '__roam_begins' -f -a log -d 'prints each row of a pane as it leaves the screen, until the pane ends'
+complete -c roam -n '__roam_begins' -f -a buffer -d 'lists, prints, sets or pastes the texts that were copied last in a session'
+complete -c roam -n '__roam_begins' -f -a env -d 'prints the lines by which a shell has what new panes have of the last attach'
+complete -c roam -n '__roam_begins' -f -a cmd -d 'does a command in tmux'\''s words, as split-window -h'
+complete -c roam -n '__roam_begins' -f -a upgrade -d 'lists the sessions that run another build of roam than this one, and says what to do'
+complete -c roam -n '__roam_begins' -f -a settings -d 'tells where the settings file is looked for, and which of its lines aren'\''t done'
+complete -c roam -n '__roam_begins' -f -a ssh -d 'attaches to a session of another machine over ssh'
+complete -c roam -n '__roam_begins' -f -a help -d 'explains the words, or one of them'
+complete -c roam -n '__roam_begins' -f -a '(__roam_sessions)' -d 'a session'
+complete -c roam -n '__roam_is attach' -f -s d -d 'all other terminals leave it first'
+complete -c roam -n '__roam_is attach' -f -l predict -x -a 'adaptive always never' -d 'when what keys will show is predicted and shown: adaptive, always, never'
+complete -c roam -n '__roam_is attach; and __roam_has 0' -f -a '(__roam_sessions)'
+complete -c roam -n '__roam_is new' -f -s d -d 'without a front end'
+complete -c roam -n '__roam_is new' -f -l predict -x -a 'adaptive always never' -d 'when what keys will show is predicted and shown: adaptive, always, never'
+complete -c roam -n '__roam_is list-windows; and __roam_has 0' -f -a '(__roam_sessions)'
+complete -c roam -n '__roam_is new-window' -f -s n -x -d 'the name that it has then'
+complete -c roam -n '__roam_is new-window; and __roam_has 0' -f -a '(__roam_sessions)'
+complete -c roam -n '__roam_is rename-window; and __roam_has 0' -f -a '(__roam_sessions)'
+complete -c roam -n '__roam_is clients; and __roam_has 0' -f -a '(__roam_sessions)'
+complete -c roam -n '__roam_is watch; and __roam_has 0' -f -a '(__roam_sessions)'
+complete -c roam -n '__roam_is kill' -f -s f -d 'without a question'
+complete -c roam -n '__roam_is kill; and __roam_has 0' -f -a '(__roam_sessions)'
+complete -c roam -n '__roam_is send' -f -s l -d 'all words are typed as their characters'
+complete -c roam -n '__roam_is send' -f -s a -d 'the words are acts, as '\''char 61'\'' or '\''split right'\'', or keys'
+complete -c roam -n '__roam_is send; and __roam_has 0' -f -a '(__roam_sessions)'
+complete -c roam -n '__roam_is send; and not __roam_has 0; and not contains -- -a (__roam_words)' -f -a 'Enter Escape Tab BTab Space BSpace Up Down Left Right Home End PPage NPage IC DC C-c C-d C-l C-u C-z F1 F2 F3 F4 F5 F6 F7 F8 F9 F10 F11 F12'
+complete -c roam -n '__roam_is send; and not __roam_has 0; and contains -- -a (__roam_words)' -f -a '(printf "split right\nsplit down\nclose\nnext\nkey return\nkey backspace\nkey up\nkey down\nkey left\nkey right\nfocus 1\nfocus 2\nfocus 3\nfocus 4\nfocus 5\nfocus 6\nfocus 7\nfocus 8\nfocus 9\n")'
+complete -c roam -n '__roam_is paste' -f -l raw -d 'keeps its escapes'
+complete -c roam -n '__roam_is paste; and __roam_has 0' -f -a '(__roam_sessions)'
+complete -c roam -n '__roam_is capture' -f -l svg -d 'draws a picture, an SVG'
+complete -c roam -n '__roam_is capture' -f -s S -x -d 'from a row on: 0 is the first of the screen, -1 the last above it, - the first'
+complete -c roam -n '__roam_is capture' -f -s E -x -d 'up to a row; - is the last'
+complete -c roam -n '__roam_is capture' -f -s e -d 'with their styles'
+complete -c roam -n '__roam_is capture' -f -s J -d 'those as one line that went on in the next'
+complete -c roam -n '__roam_is capture; and __roam_has 0' -f -a '(__roam_sessions)'
+complete -c roam -n '__roam_is log' -f -s e -d 'with their styles'
+complete -c roam -n '__roam_is log' -f -s J -d 'those as one line that went on in the next'
+complete -c roam -n '__roam_is log; and __roam_has 0' -f -a '(__roam_sessions)'
+complete -c roam -n '__roam_is buffer; and __roam_has 0' -f -a 'list show set paste'
+complete -c roam -n '__roam_is buffer; and __roam_has 1' -f -a '(__roam_sessions)'
+complete -c roam -n '__roam_is env; and __roam_has 0' -f -a '(__roam_sessions)'
+complete -c roam -n '__roam_is cmd; and __roam_has 0' -f -a '(__roam_sessions)'
+complete -c roam -n '__roam_is cmd; and __roam_has 1' -f -a 'bind bind-key choose-buffer choose-tree choose-window command-prompt copy-mode detach detach-client display display-message display-panes displayp kill-pane kill-window killp killw last last-pane last-window lastp list-keys lsk new-window neww next next-layout next-window nextl paste-buffer pasteb prev previous-window refresh refresh-client rename-window renamew resize-pane resizep run run-shell select-layout select-pane select-window selectl selectp selectw send send-keys send-prefix set set-option set-window-option setw source source-file split-window splitw suspend-client suspendc synchronize-panes toggle-mouse toggle-status unbind unbind-key'
+complete -c roam -n '__roam_is ssh' -f -l ssh -x -d 'how ssh is called here'
+complete -c roam -n '__roam_is ssh' -f -l far -x -d 'how roam-mux is called there'
+complete -c roam -n '__roam_is ssh' -f -l predict -x -a 'adaptive always never' -d 'when what keys will show is predicted and shown: adaptive, always, never'
+complete -c roam -n '__roam_is ssh; and __roam_has 0' -f -a '(__fish_print_hostnames)'
+complete -c roam -n '__roam_is help; and __roam_has 0' -f -a 'attach new ls list list-windows new-window rename-window clients watch kill send paste capture log buffer env cmd upgrade settings ssh help'
+complete -c roam-mux -n '__roam_begins' -f -a attach -d 'attaches to a session that is running, main where none is named'
+complete -c roam-mux -n '__roam_begins' -f -a new -d 'launches a session that isn'\''t running, main where none is named, and attaches to it; options stand before NAME'
+complete -c roam-mux -n '__roam_begins' -f -a ls -d 'lists the sessions: name, rows and columns, panes, terminals'
+complete -c roam-mux -n '__roam_begins' -f -a list -d 'lists the sessions: name, rows and columns, panes, terminals'
+complete -c roam-mux -n '__roam_begins' -f -a list-windows -d 'lists the windows of a session: number, name, size, panes, what runs there'
+complete -c roam-mux -n '__roam_begins' -f -a new-window -d 'opens a window in a session that is running, and prints its name'
+complete -c roam-mux -n '__roam_begins' -f -a rename-window -d 'gives a window a name, or none where no title is named'
+complete -c roam-mux -n '__roam_begins' -f -a clients -d 'lists the terminals at a session: number, name, size, window, since when'
+complete -c roam-mux -n '__roam_begins' -f -a watch -d 'shows a session without typing there'
+complete -c roam-mux -n '__roam_begins' -f -a kill -d 'ends a session and the programs in it, or a window or a pane; it asks where one is no shell'
+complete -c roam-mux -n '__roam_begins' -f -a send -d 'types keys and texts, or acts, into a session or a pane, and ends once the session has taken all of it'
+complete -c roam-mux -n '__roam_begins' -f -a paste -d 'pastes standard input into a session or a pane, in one piece'
+complete -c roam-mux -n '__roam_begins' -f -a capture -d 'prints the rows that a session, or a pane, shows, or rows of a pane that left its screen'
+complete -c roam-mux -n '__roam_begins' -f -a log -d 'prints each row of a pane as it leaves the screen, until the pane ends'
+complete -c roam-mux -n '__roam_begins' -f -a buffer -d 'lists, prints, sets or pastes the texts that were copied last in a session'
+complete -c roam-mux -n '__roam_begins' -f -a env -d 'prints the lines by which a shell has what new panes have of the last attach'
+complete -c roam-mux -n '__roam_begins' -f -a cmd -d 'does a command in tmux'\''s words, as split-window -h'
+complete -c roam-mux -n '__roam_begins' -f -a upgrade -d 'lists the sessions that run another build of roam than this one, and says what to do'
+complete -c roam-mux -n '__roam_begins' -f -a settings -d 'tells where the settings file is looked for, and which of its lines aren'\''t done'
+complete -c roam-mux -n '__roam_begins' -f -a ssh -d 'attaches to a session of another machine over ssh'
+complete -c roam-mux -n '__roam_begins' -f -a help -d 'explains the words, or one of them'
+complete -c roam-mux -n '__roam_begins' -f -a '(__roam_sessions)' -d 'a session'
+complete -c roam-mux -n '__roam_is attach' -f -s d -d 'all other terminals leave it first'
+complete -c roam-mux -n '__roam_is attach' -f -l predict -x -a 'adaptive always never' -d 'when what keys will show is predicted and shown: adaptive, always, never'
+complete -c roam-mux -n '__roam_is attach; and __roam_has 0' -f -a '(__roam_sessions)'
+complete -c roam-mux -n '__roam_is new' -f -s d -d 'without a front end'
+complete -c roam-mux -n '__roam_is new' -f -l predict -x -a 'adaptive always never' -d 'when what keys will show is predicted and shown: adaptive, always, never'
+complete -c roam-mux -n '__roam_is list-windows; and __roam_has 0' -f -a '(__roam_sessions)'
+complete -c roam-mux -n '__roam_is new-window' -f -s n -x -d 'the name that it has then'
+complete -c roam-mux -n '__roam_is new-window; and __roam_has 0' -f -a '(__roam_sessions)'
+complete -c roam-mux -n '__roam_is rename-window; and __roam_has 0' -f -a '(__roam_sessions)'
+complete -c roam-mux -n '__roam_is clients; and __roam_has 0' -f -a '(__roam_sessions)'
+complete -c roam-mux -n '__roam_is watch; and __roam_has 0' -f -a '(__roam_sessions)'
+complete -c roam-mux -n '__roam_is kill' -f -s f -d 'without a question'
+complete -c roam-mux -n '__roam_is kill; and __roam_has 0' -f -a '(__roam_sessions)'
+complete -c roam-mux -n '__roam_is send' -f -s l -d 'all words are typed as their characters'
+complete -c roam-mux -n '__roam_is send' -f -s a -d 'the words are acts, as '\''char 61'\'' or '\''split right'\'', or keys'
+complete -c roam-mux -n '__roam_is send; and __roam_has 0' -f -a '(__roam_sessions)'
+complete -c roam-mux -n '__roam_is send; and not __roam_has 0; and not contains -- -a (__roam_words)' -f -a 'Enter Escape Tab BTab Space BSpace Up Down Left Right Home End PPage NPage IC DC C-c C-d C-l C-u C-z F1 F2 F3 F4 F5 F6 F7 F8 F9 F10 F11 F12'
+complete -c roam-mux -n '__roam_is send; and not __roam_has 0; and contains -- -a (__roam_words)' -f -a '(printf "split right\nsplit down\nclose\nnext\nkey return\nkey backspace\nkey up\nkey down\nkey left\nkey right\nfocus 1\nfocus 2\nfocus 3\nfocus 4\nfocus 5\nfocus 6\nfocus 7\nfocus 8\nfocus 9\n")'
+complete -c roam-mux -n '__roam_is paste' -f -l raw -d 'keeps its escapes'
+complete -c roam-mux -n '__roam_is paste; and __roam_has 0' -f -a '(__roam_sessions)'
+complete -c roam-mux -n '__roam_is capture' -f -l svg -d 'draws a picture, an SVG'
+complete -c roam-mux -n '__roam_is capture' -f -s S -x -d 'from a row on: 0 is the first of the screen, -1 the last above it, - the first'
+complete -c roam-mux -n '__roam_is capture' -f -s E -x -d 'up to a row; - is the last'
+complete -c roam-mux -n '__roam_is capture' -f -s e -d 'with their styles'
+complete -c roam-mux -n '__roam_is capture' -f -s J -d 'those as one line that went on in the next'
+complete -c roam-mux -n '__roam_is capture; and __roam_has 0' -f -a '(__roam_sessions)'
+complete -c roam-mux -n '__roam_is log' -f -s e -d 'with their styles'
+complete -c roam-mux -n '__roam_is log' -f -s J -d 'those as one line that went on in the next'
+complete -c roam-mux -n '__roam_is log; and __roam_has 0' -f -a '(__roam_sessions)'
+complete -c roam-mux -n '__roam_is buffer; and __roam_has 0' -f -a 'list show set paste'
+complete -c roam-mux -n '__roam_is buffer; and __roam_has 1' -f -a '(__roam_sessions)'
+complete -c roam-mux -n '__roam_is env; and __roam_has 0' -f -a '(__roam_sessions)'
+complete -c roam-mux -n '__roam_is cmd; and __roam_has 0' -f -a '(__roam_sessions)'
+complete -c roam-mux -n '__roam_is cmd; and __roam_has 1' -f -a 'bind bind-key choose-buffer choose-tree choose-window command-prompt copy-mode detach detach-client display display-message display-panes displayp kill-pane kill-window killp killw last last-pane last-window lastp list-keys lsk new-window neww next next-layout next-window nextl paste-buffer pasteb prev previous-window refresh refresh-client rename-window renamew resize-pane resizep run run-shell select-layout select-pane select-window selectl selectp selectw send send-keys send-prefix set set-option set-window-option setw source source-file split-window splitw suspend-client suspendc synchronize-panes toggle-mouse toggle-status unbind unbind-key'
+complete -c roam-mux -n '__roam_is ssh' -f -l ssh -x -d 'how ssh is called here'
+complete -c roam-mux -n '__roam_is ssh' -f -l far -x -d 'how roam-mux is called there'
+complete -c roam-mux -n '__roam_is ssh' -f -l predict -x -a 'adaptive always never' -d 'when what keys will show is predicted and shown: adaptive, always, never'
+complete -c roam-mux -n '__roam_is ssh; and __roam_has 0' -f -a '(__fish_print_hostnames)'
+complete -c roam-mux -n '__roam_is help; and __roam_has 0' -f -a 'attach new ls list list-windows new-window rename-window clients watch kill send paste capture log buffer env cmd upgrade settings ssh help'
