@@ -5,11 +5,13 @@ import os
 import shutil
 import signal
 import socket
+import sys
 from unittest import mock
 
 import aids
 from aids import Asker, Case, StillLoop, unled
 from roam_live.common import process as common_process
+from roam_live.common.build_info import identity
 from roam_live.common.errors import Fault
 from roam_live.common.process import begun
 from roam_live.host import common as host_common, pane as host_pane, repair, window as host_window, window_processes, windows
@@ -880,7 +882,8 @@ class Mended(Played):
             (self.folder / "state.json").write_text(json.dumps(state))
             self.minutes()
         self.assertEqual(sorted(path.name for path in self.folder.iterdir()), ["lock", "state.json"])
-        self.assertEqual(json.loads((more / "state.json").read_text())["host"][0], os.getpid())
+        noted = json.loads((more / "state.json").read_text())
+        self.assertEqual((noted["host"][0], noted["build"]), (os.getpid(), identity()))
         self.assertEqual(json.loads((more / "w/2/state.json").read_text())["server"][0], 2000)
         words = repair.RENAMED.format(more.name)
         self.assertIn(words, self.said.getvalue())
@@ -898,6 +901,15 @@ class Mended(Played):
         with mock.patch("roam_live.common.listener.listening", side_effect=OSError(28, "No space left on device")):
             self.minutes(3)
         self.assertEqual(self.said.getvalue().count(host_window.UNMENDED.format("No space left on device")), 1)
+        self.minutes()
+        self.assertEqual(len(self.names()), 2)
+
+    def test_removed(self):
+        """Nor where the files of roam were removed; all goes on, and it is made anew once they are there."""
+        self.clean()
+        with mock.patch.dict(sys.modules, {"roam_live.session.local": None}):
+            self.minutes(3)
+        self.assertEqual(self.said.getvalue().count("the session's socket was removed and cannot be restored: import of "), 1)
         self.minutes()
         self.assertEqual(len(self.names()), 2)
 

@@ -8,13 +8,14 @@ import json
 import os
 import stat
 
+from roam_live.common.build_info import identity
 from roam_live.common.errors import Fault, log_to, reason
 from roam_live.common.files import replace_text
 from roam_live.common.process import begun
 from roam_live.host.window import MENDED, UNMENDED
 from roam_live.session.environment import begin_agent
 from roam_live.session.roles import ROLES
-from roam_live.session.window_state import WINDOWS_VERSION, window_folder, windows_folder
+from roam_live.session.window_state import BUILD, WINDOWS_VERSION, window_folder, windows_folder
 
 TYPE_CHECKING = False
 if TYPE_CHECKING:
@@ -49,6 +50,8 @@ class Mending:
 
     def __init__(self, windows: Windows) -> None:
         self.windows = windows
+        # The build of this process, before roam is upgraded.
+        self.build = identity()
         # The last message about a failure: it isn't repeated.
         self.said = ""
 
@@ -60,16 +63,19 @@ class Mending:
         """Restore what is missing, unless somebody holds the session's lock, as one who launches something there."""
         if self.windows.common.socket.is_found():
             return
-        from roam_live.session.local import LocalSession
-
-        session = LocalSession(self.windows.asked.common)
         try:
+            from roam_live.session.local import LocalSession
+
+            session = LocalSession(self.windows.asked.common)
             with session.locked(may_wait=False):
                 self.mend(session)
                 self.said = ""
         except BlockingIOError:
             # The next look tries again.
             pass
+        except ImportError as fault:
+            # The files of roam were removed or replaced.
+            self.tell(UNMENDED.format(fault))
         except (Fault, OSError) as fault:
             self.tell(UNMENDED.format(reason(fault)))
 
@@ -128,7 +134,7 @@ class Mending:
         """Write the note of this process, and which window was shown last."""
         asked = self.windows.asked
         command = [] if asked.instead else asked.command
-        state = {"version": WINDOWS_VERSION, "command": command, "host": [os.getpid(), begun(os.getpid())]}
+        state = {"version": WINDOWS_VERSION, "command": command, BUILD: self.build, "host": [os.getpid(), begun(os.getpid())]}
         replace_text(os.path.join(common, "state.json"), json.dumps(state))
         os.makedirs(windows_folder(common), 0o700, exist_ok=True)
         if self.windows.last:
