@@ -1,0 +1,101 @@
+"""roam where it is installed: what goes on while it is upgraded and removed, and what is said as somebody attaches for the first time."""
+import os
+import shutil
+import subprocess
+
+from tried import LIVE, Outer, PROGRAM, SESSION, check, comes, said, scene, tool
+from roam_live.common.process import program
+
+# The commit of the build that is installed over the first one.
+NEWER = "feedfeedfeed"
+
+
+def install(prefix, commit=""):
+    """Installs the tree below a prefix, as another build if a commit is named."""
+    words = [str(LIVE.parent / "tools/package"), "install", "--program", PROGRAM or program(), str(prefix)]
+    subprocess.run(words, check=True)
+    info = prefix / "lib/roam/build_info"
+    lines = info.read_text(encoding="ascii").splitlines()
+    changed = [f"commit {commit}" if commit and line.startswith("commit ") else line for line in lines]
+    info.write_text("\n".join(changed) + "\n", encoding="ascii")
+
+
+def run(prefix, *words):
+    """What the installed `roam mux` prints: its status, standard output and errors."""
+    ran = subprocess.run([str(prefix / "bin/roam"), "mux", *words], stdin=subprocess.DEVNULL, stdout=subprocess.PIPE, stderr=subprocess.PIPE,
+                         check=False)
+    return ran.returncode, ran.stdout.decode(), ran.stderr.decode()
+
+
+def goes_on(outer, number):
+    """Checks that an attached terminal has a shell, a split, copy mode and no fault."""
+    outer.type(f"echo goes''on{number}\r".encode())
+    check(f"{number}: what is typed is shown", outer.shows(f"goeson{number}"), outer.rows)
+    outer.type(b"\x02%")
+    check(f"{number}: a pane is split", comes(lambda: " 1 [2]" in outer.rows()[-1]), outer.rows)
+    outer.type(b"exit\r")
+    comes(lambda: "[1] " in outer.rows()[-1])
+    outer.type(b"\x02[")
+    check(f"{number}: copy mode opens", comes(lambda: "copy mode" in outer.rows()[-1]), outer.rows)
+    outer.type(b"q")
+    comes(lambda: "copy mode" not in outer.rows()[-1])
+
+
+@scene
+def installed(folder):
+    """A session and its terminal go on while roam is upgraded and removed; a session of another build is named."""
+    os.environ.pop("ROAM", None)
+    prefix = folder / "prefix"
+    install(prefix)
+    outer = Outer([str(prefix / "bin/roam"), "mux", SESSION])
+    check("an installed roam shows a shell", outer.shows("$ ") and outer.status("[1] 1:"), outer.rows)
+    told = run(prefix, "ls")
+    check("ls says nothing of the build", told[0] == 0 and "runs roam" not in told[1], told)
+    told = run(prefix, "upgrade")
+    check("nor does upgrade", told[1].endswith("all sessions run this build\n"), told)
+    install(prefix, NEWER)
+    told = run(prefix, "ls")
+    check("ls names the build of a session that another build began", "runs roam" in told[1] and "mux upgrade" in told[1], told)
+    told = run(prefix, "upgrade")
+    check("upgrade says what to do", NEWER in told[1].splitlines()[0] and f"mux kill {SESSION} && mux new {SESSION}" in told[1], told)
+    goes_on(outer, 1)
+    outer.type(b"\x02c")
+    check("a window is opened", comes(lambda: "2:" in outer.rows()[-1]), outer.rows)
+    other = Outer([str(prefix / "bin/roam"), "mux", "attach", SESSION])
+    check("a terminal attaches by the new build", other.shows("$ ") and comes(lambda: "2:" in other.rows()[-1]), other.rows)
+    other.type(b"\x02d")
+    check("and leaves", other.ends() and other.is_restored(), other.rows)
+    shutil.rmtree(prefix)
+    goes_on(outer, 2)
+    outer.type(b"\x02c")
+    check("without its files no window is opened, and that is said", outer.shows("no window is opened"), outer.rows)
+    outer.type(b"\x02d")
+    check("and the terminal is given back", outer.ends() and outer.is_restored(), outer.rows)
+    told = said("ls")
+    check("the session runs on", told[1].startswith(f"{SESSION} "), told)
+    told = said("kill", "-f", SESSION)
+    check("and ends", told == (0, "", ""), told)
+
+
+@scene
+def first_start(folder):
+    """What is wrong with a locale, or stands round the terminal, is said as somebody attaches; a terminal that can't be used is refused."""
+    for known, line in (({"LC_ALL": "C"}, "locale C has no UTF-8"), ({"TMUX": "/tmp/tmux-0/default,1,0"}, "inside tmux: type C-b twice")):
+        outer = Outer(tool("mux", SESSION), environment=known)
+        check(f"{known} is said", outer.shows(line), outer.rows)
+        outer.type(b"\x02d")
+        outer.ends()
+    outer = Outer(tool("mux", SESSION))
+    outer.shows("$ ")
+    outer.type(f"clear; {tool('mux')[0]} new other\r".encode())
+    check("so is another session round it", outer.shows("inside a pane of another session: type C-b twice"), outer.rows)
+    outer.type(b"\x02\x02d")
+    check("and C-b C-b d leaves the inner one", outer.shows("[detached]"), outer.rows)
+    dumb = Outer(tool("mux", SESSION), environment={"TERM": "dumb"})
+    check("a terminal that cannot place its cursor is refused", dumb.ends() and dumb.shows("set TERM to its real type"), dumb.rows)
+    small = Outer(tool("mux", SESSION), (2, 30))
+    check("one that is too small is told what it needs", small.shows("too small: 3 by 4 is needed"), small.rows)
+    small.type(b"\x02d")
+    check("and leaves", small.ends(), small.rows)
+    outer.type(b"\x02d")
+    outer.ends()
