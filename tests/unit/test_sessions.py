@@ -147,7 +147,10 @@ class Listed(Sessions):
         found = lookup.sessions_here()
         wanted = ["main", "ssh:me@there.example:work:0badcafe", "ssh:there:main"]
         self.assertEqual([session.name for session in found], wanted)
-        self.assertEqual([line.split()[0] for line in survey.surveyed([(one, one.windows()) for one in found])], wanted)
+        lines = survey.surveyed([(one, one.windows()) for one in found])
+        self.assertEqual([line.split()[0] for line in lines], wanted)
+        # The other columns are below each other, however long a name is.
+        self.assertEqual({line.index(" terminals") - len(" ?") for line in lines}, {lines[1].index(" terminals") - 2})
         self.assertIsInstance(lookup.session_named("ssh:there:main"), RemoteSession)
         for name in ("ssh:none:main", "ssh:there/../x:main", "../main", "ssh:there:main:1"):
             with self.assertRaises(Fault):
