@@ -84,7 +84,7 @@ def switched(folder, words, count):
         wanted = person.typed[window]
         check(f"window {window} has all that was typed there, in order, and nothing else", comes(lambda: typed_in(path) == wanted, 60),
               lambda: differs(typed_in(path), wanted))
-    check("the last row has the windows", outer.stands(23, 0, "[1] 1:"), outer.rows)
+    check("the last row has the windows", outer.status("[1] 1:"), outer.rows)
     return outer
 
 
