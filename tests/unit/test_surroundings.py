@@ -6,8 +6,8 @@ from roam_live.frontend import surroundings
 from roam_live.frontend.surroundings import advice
 
 UTF8 = {"LANG": "C.UTF-8"}
-LOCALE = "locale {} has no UTF-8, so programs may print ? for letters; set LC_ALL=C.UTF-8"
-INSIDE = "inside {}: type C-b twice to reach this session, or set ROAM_PREFIX=C-a"
+LOCALE = "locale {} has no UTF-8: programs may print ?; set LC_ALL=C.UTF-8"
+INSIDE = "inside {}: C-b C-b reaches this one; ROAM_PREFIX=C-a avoids that"
 
 # The environment, the prefix, the pane in which the front end runs, and the line.
 ROWS = (
@@ -18,13 +18,13 @@ ROWS = (
     ({}, "C-b", "", LOCALE.format("C")),
     ({"LANG": "POSIX"}, "C-b", "", LOCALE.format("POSIX")),
     ({"LC_ALL": "de_DE.ISO-8859-1", "LANG": "C.UTF-8"}, "C-b", "", LOCALE.format("de_DE.ISO-8859-1")),
-    ({"LANG": "\x1b[2J" + "x" * 99}, "C-b", "", LOCALE.format("?[2J" + "x" * 16)),
+    ({"LANG": "\x1b[2J" + "x" * 99}, "C-b", "", LOCALE.format("?[2J" + "x" * 14)),
     ({"LANG": "C", "TMUX": "/tmp/t"}, "C-b", "", LOCALE.format("C")),
     ({**UTF8, "TMUX": "/tmp/t"}, "C-b", "", INSIDE.format("tmux")),
     ({**UTF8, "TMUX": "/tmp/t"}, "C-a", "", ""),
     ({**UTF8, "TMUX": ""}, "C-b", "", ""),
-    (UTF8, "C-b", "/run/roam/main/w/1", INSIDE.format("a pane of another session")),
-    ({**UTF8, "TMUX": "/tmp/t"}, "C-b", "/run/roam/main/w/1", INSIDE.format("a pane of another session")),
+    (UTF8, "C-b", "/run/roam/main/w/1", INSIDE.format("another session")),
+    ({**UTF8, "TMUX": "/tmp/t"}, "C-b", "/run/roam/main/w/1", INSIDE.format("another session")),
     ({**UTF8, "ROAM_PREFIX": "C-b"}, "C-b", "/run/roam/main/w/1", ""),
 )
 
@@ -36,6 +36,8 @@ class Advice(unittest.TestCase):
         for environment, prefix, pane, line in ROWS:
             with mock.patch.object(surroundings, "own_pane", return_value=(pane, 1 if pane else 0)):
                 self.assertEqual(advice(prefix, environment), line, (environment, prefix, pane))
+                # It has room in a terminal of 80 columns.
+                self.assertLessEqual(len(line), 80)
 
 
 if __name__ == "__main__":

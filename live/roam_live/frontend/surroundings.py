@@ -13,7 +13,7 @@ if TYPE_CHECKING:
 
 # The variables that name the locale of characters; the first that is set counts (setlocale(3)).
 LOCALE = ("LC_ALL", "LC_CTYPE", "LANG")
-LONGEST = 20
+LONGEST = 18
 
 
 def wrong_locale(environment: Mapping[str, str]) -> str:
@@ -26,9 +26,9 @@ def advice(prefix: str, environment: Mapping[str, str] = os.environ) -> str:
     """Return a line that says what is wrong and what helps, "" if nothing is wrong."""
     name = wrong_locale(environment)
     if name:
-        return f"locale {name} has no UTF-8, so programs may print ? for letters; set LC_ALL=C.UTF-8"
+        return f"locale {name} has no UTF-8: programs may print ?; set LC_ALL=C.UTF-8"
     if prefix != PREFIX or environment.get("ROAM_PREFIX"):
         # A user of nested sessions chose another prefix already.
         return ""
-    outer = "a pane of another session" if own_pane()[0] else "tmux" if environment.get("TMUX") else ""
-    return f"inside {outer}: type {prefix} twice to reach this session, or set ROAM_PREFIX=C-a" if outer else ""
+    outer = "another session" if own_pane()[0] else "tmux" if environment.get("TMUX") else ""
+    return f"inside {outer}: {prefix} {prefix} reaches this one; ROAM_PREFIX=C-a avoids that" if outer else ""

@@ -80,19 +80,20 @@ def installed(folder):
 @scene
 def first_start(folder):
     """What is wrong with a locale, or stands round the terminal, is said as somebody attaches; a terminal that can't be used is refused."""
-    for known, line in (({"LC_ALL": "C"}, "locale C has no UTF-8"), ({"TMUX": "/tmp/tmux-0/default,1,0"}, "inside tmux: type C-b twice")):
+    said("new", "-d", SESSION)
+    for known, line in (({"LC_ALL": "C"}, "locale C has no UTF-8"), ({"TMUX": "/tmp/tmux-0/default,1,0"}, "inside tmux: C-b C-b reaches this one")):
         outer = Outer(tool("mux", SESSION), environment=known)
-        check(f"{known} is said", outer.shows(line), outer.rows)
+        check(f"{known} is said", outer.was_told(line), outer.rows)
         outer.type(b"\x02d")
         outer.ends()
     outer = Outer(tool("mux", SESSION))
     outer.shows("$ ")
     outer.type(f"clear; {tool('mux')[0]} new other\r".encode())
-    check("so is another session round it", outer.shows("inside a pane of another session: type C-b twice"), outer.rows)
+    check("so is another session round it", outer.shows("inside another session: C-b C-b reaches this one"), outer.rows)
     outer.type(b"\x02\x02d")
     check("and C-b C-b d leaves the inner one", outer.shows("[detached]"), outer.rows)
     dumb = Outer(tool("mux", SESSION), environment={"TERM": "dumb"})
-    check("a terminal that cannot place its cursor is refused", dumb.ends() and dumb.shows("set TERM to its real type"), dumb.rows)
+    check("a terminal that cannot place its cursor is refused", dumb.ends() and dumb.shows("TERM is dumb: this terminal cannot place its cursor"), dumb.rows)
     small = Outer(tool("mux", SESSION), (2, 30))
     check("one that is too small is told what it needs", small.shows("too small: 3 by 4 is needed"), small.rows)
     small.type(b"\x02d")
