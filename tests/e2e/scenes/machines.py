@@ -306,7 +306,7 @@ def far_sizes(folder):
     is_new = first.shows("$ ") and first.status("[1]") and not first.shows("too small", 0.1)
     check("a new session there has this terminal's size", is_new, first.rows)
     # The shell is told by what notes where its pane is.
-    comes(lambda: listed()[1:4] == ["12", "by", "40"])
+    comes(lambda: listed()[1:4] == ["11", "by", "40"])
     first.type(b"stty size\r")
     check("and its shell knows it", first.shows("11 40"), first.rows)
     first.type(b"\x02d")
@@ -316,7 +316,7 @@ def far_sizes(folder):
     check("it grows for a larger terminal alone", is_grown, alone.rows)
     small = Outer(words, size=(12, 40))
     is_part = fits(small) and small.shows("$ ")
-    check("and isn't made smaller again", is_part and listed()[1:4] == ["24", "by", "80"], (small.rows(), listed()))
+    check("and isn't made smaller again", is_part and listed()[1:4] == ["23", "by", "80"], (small.rows(), listed()))
     alone.type(b"exit\r")
     for one in (alone, small):
         check("its end is told at each", one.shows("[the session has ended]") and one.ends(), one.rows)
@@ -335,7 +335,7 @@ def far_alone(folder):
     # For two seconds a new session goes by each size.
     time.sleep(3)
     outer.resize(20, 60)
-    check("a lone terminal that is drawn smaller has the session there follow", comes(lambda: listed()[1:4] == ["20", "by", "60"]), listed)
+    check("a lone terminal that is drawn smaller has the session there follow", comes(lambda: listed()[1:4] == ["19", "by", "60"]), listed)
     ways = (("here", words, {}), ("there", tool("mux", "attach", "other"), {"XDG_RUNTIME_DIR": str(far)}))
     for where, more, environment in ways:
         second = Outer(more, (20, 60), environment)
@@ -344,13 +344,13 @@ def far_alone(folder):
         outer.resize(18, 50)
         check(f"beside one {where} it shows a part", fits(outer), outer.rows)
         time.sleep(1)
-        check("and nothing shrinks", listed()[1:4] == ["20", "by", "60"], listed)
+        check("and nothing shrinks", listed()[1:4] == ["19", "by", "60"], listed)
         outer.resize(20, 60)
         outer.status("[1] 1:")
         second.type(b"\x02d")
         check("the second leaves", second.ends() and second.is_restored(), second.rows)
     time.sleep(1)
     outer.resize(19, 58)
-    check("alone again it has it follow", comes(lambda: listed()[1:4] == ["19", "by", "58"]), listed)
+    check("alone again it has it follow", comes(lambda: listed()[1:4] == ["18", "by", "58"]), listed)
     outer.type(b"exit\r")
     check("its end is told", outer.shows("[the session has ended]") and outer.ends(), outer.rows)

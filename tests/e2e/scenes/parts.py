@@ -118,7 +118,7 @@ def two_sizes(folder):
     for outer in (small, second):
         outer.type(b"\x02d")
         check("it leaves", outer.ends() and outer.is_restored(), outer.rows)
-    check("and the session has its size all the while", listed()[1:4] == ["24", "by", "80"] and are_right([first]), listed())
+    check("and the session has its size all the while", listed()[1:4] == ["23", "by", "80"] and are_right([first]), listed())
     subprocess.run(tool("mux", "kill", "-f", "other"), check=True)
 
 
@@ -137,7 +137,7 @@ def small_and_back(folder):
     small.type(b"\x15")
     small.resize(14, 36)
     check("drawn otherwise it shows another", small.status("[1]", end=FITS) and are_right([small]), small.rows)
-    check("and the session has its size", listed()[1:4] == ["24", "by", "100"], listed())
+    check("and the session has its size", listed()[1:4] == ["23", "by", "100"], listed())
     small.type(b"\x02d")
     small.ends()
     again = Outer(tool("mux", "other"), (24, 100))
