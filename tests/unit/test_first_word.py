@@ -59,6 +59,10 @@ class FirstWord(Case):
         self.assertEqual(self.says("help", "mux"), (0, "mux help\n", ""))
         self.assertEqual(self.says("mux", "ls", "-x"), (0, "mux ls -x\n", ""))
 
+    def test_attach(self):
+        """What the program asks for behind attach is led by what a person meant."""
+        self.assertEqual(self.says("attach"), (0, "program attach\n", "roam mux attach attaches to a session by its name\n"))
+
     def test_version(self):
         """The tools say which build it is."""
         for word in ("-V", "--version"):
@@ -70,7 +74,7 @@ class FirstWord(Case):
             if word not in ("attach", "help", "far"):
                 self.assertEqual(self.says(word, "work"), (2, "", f"roam: sessions by name are those of mux: `roam mux {word}`\n"))
         self.assertEqual(self.says("attach", "work"), (2, "", "roam: sessions by name are those of mux: `roam mux attach work`\n"))
-        for words in (("attach", "--dir", "d"), ("attach",), ("serve", "--dir", "d"), ("show",), ("--version", "x"), ("far",)):
+        for words in (("attach", "--dir", "d"), ("serve", "--dir", "d"), ("show",), ("--version", "x"), ("far",)):
             self.assertEqual(self.says(*words), (0, f"program {' '.join(words)}\n", ""))
 
 
