@@ -9,7 +9,7 @@ from roam_live.cli import paste, scrollback
 from roam_live.cli.scrollback import RowWriter, text_of
 from roam_live.common.errors import Fault
 from roam_live.common.event_loop import ready
-from roam_live.host.paste_buffers import EMPTY, MOST_BUFFER, TOO_LONG
+from roam_live.protocol.paste_text import BUFFER_EMPTY, BUFFER_TOO_LONG, MOST_BUFFER
 from test_scrollback_queries import Rows
 
 
@@ -172,8 +172,8 @@ class Buffered(Asked):
 
     def test_refused(self):
         """One that is empty, or too long."""
-        self.refuses(EMPTY, scrollback.set_buffer, "")
-        self.refuses(TOO_LONG, scrollback.set_buffer, "x" * (MOST_BUFFER + 1))
+        self.refuses(BUFFER_EMPTY, scrollback.set_buffer, "")
+        self.refuses(BUFFER_TOO_LONG, scrollback.set_buffer, "x" * (MOST_BUFFER + 1))
 
     def test_pasted(self):
         """A buffer's mark is typed once the host holds it as a text."""

@@ -119,7 +119,7 @@ class Kept(Host):
                 self.turn()
         self.made[1].send(b"three")
         self.turn()
-        self.assertEqual((read_now(panes[1]), pane.has_ended), (b"three", False))
+        self.assertEqual((read_now(panes[1]), pane.state.has_ended), (b"three", False))
         with mock.patch.object(pane.keypad, "fed", side_effect=ValueError("wrong")):
             self.made[1].send(b"four")
             self.turn(4)
@@ -141,16 +141,16 @@ class Kept(Host):
             for _ in range(3):
                 self.made[0].send(b"x")
                 self.turn()
-        self.assertEqual((pane.terminal, pane.process, self.host.is_over), (None, None, False))
+        self.assertEqual((pane.terminal, pane.state.process, self.host.is_over), (None, None, False))
         read_now(end)
         end.send(b"k")
         self.turn()
-        self.assertIsNone(pane.process)
+        self.assertIsNone(pane.state.process)
         self.now += 1.0
         self.turn()
         self.made[1].send(b"new")
         self.turn()
-        self.assertEqual((pane.process, read_now(end), self.host.common.windows), (72, b"new", {0: self.host}))
+        self.assertEqual((pane.state.process, read_now(end), self.host.common.windows), (72, b"new", {0: self.host}))
 
     def test_moment(self):
         """Exceptions in a timer, a hook and `tend` are logged, and everything else goes on."""

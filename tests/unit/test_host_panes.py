@@ -17,6 +17,7 @@ from roam_live.common.process import TOOLS
 from roam_live.host import pane as host_pane
 from roam_live.host.input_queue import TypedQueue
 from roam_live.host.pending_pastes import PendingPastes
+from roam_live.host.state import PaneState, SessionState
 from roam_live.session.environment import PaneEnvironment
 from roam_live.session.foreground import group_in_front, working_folder
 
@@ -93,8 +94,8 @@ class Typed(unittest.TestCase):
 
     def test_dropped(self):
         """65,536 bytes wait; what is above is dropped, which is told once until all was read."""
-        typed = TypedQueue(PendingPastes(StillLoop(), lambda name, word: None), lambda: False)
-        pane = host_pane.PaneCommand(host_pane.Options(folder="/no"), StillLoop(), 4, 1, (23, 80), False, "", typed)
+        typed = TypedQueue(PendingPastes(SessionState(), StillLoop(), lambda name, word: None), lambda: False)
+        pane = host_pane.PaneCommand(host_pane.Options(folder="/no"), StillLoop(), PaneState(number=4, generation=1, size=(23, 80)), False, typed)
         said = io.StringIO()
         with contextlib.redirect_stderr(said):
             for _ in range(3):

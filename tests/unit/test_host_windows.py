@@ -14,7 +14,9 @@ from roam_live.common import process as common_process
 from roam_live.common.build_info import identity
 from roam_live.common.errors import Fault
 from roam_live.common.process import begun
+from roam_live.common.record import written
 from roam_live.host import common as host_common, pane as host_pane, repair, window as host_window, window_processes, windows
+from roam_live.host.state import WindowState, state_in
 from roam_live.host.window_commands import ASKED_AGAIN
 from roam_live.host.window_processes import CLIENT, SERVER, WindowProcesses
 from roam_live.host.windows import ENDING, ENDS, FULL, OPENS, OVER, THERE, Windows
@@ -53,7 +55,9 @@ class Played(Case):
         self.addCleanup(self.leave)
 
     def leave(self):
-        """Closes what a host has."""
+        """Closes what a host has, whose state has its windows and can be written and read back whatever was done."""
+        self.assertEqual(state_in(written(self.common.state)), self.common.state)
+        self.assertEqual(list(self.common.state.windows), list(self.windows.windows))
         for window in self.windows.windows.values():
             if isinstance(window.sizes, windows.SizeAct):
                 window.sizes.close()
@@ -226,10 +230,9 @@ class Opened(Played):
         told = []
         self.windows.open(None, 0, lambda *words: told.append(words))
         self.assertEqual(self.spawned[-1], (2, SERVER))
-        self.windows.windows.update({number: mock.Mock(state=ENDING, host=None) for number in range(4, MOST_WINDOWS + 1)})
-        self.windows.open(None, 0, lambda *words: told.append(words))
+        with mock.patch.dict(self.windows.windows, {number: mock.Mock(stage=ENDING, host=None) for number in range(4, MOST_WINDOWS + 1)}):
+            self.windows.open(None, 0, lambda *words: told.append(words))
         self.assertEqual(told, [(0, FULL)])
-        self.windows.windows = {1: self.windows.windows[1]}
         self.common.is_over = True
         self.windows.open(None, 0, lambda *words: told.append(words))
         self.assertEqual(told[1:], [(0, OVER)])
@@ -346,10 +349,10 @@ class Ready(Played):
         self.windows.end_spare()
         self.turns(3)
         self.assertEqual((self.killed[0], self.alive, numbers_in(str(self.folder / "w"))), ((2000, signal.SIGTERM), {1000}, [1]))
-        other = WindowProcesses(str(self.folder), 6)
+        other = WindowProcesses(str(self.folder), WindowState(number=6))
         other.make_folder()
         other.mark_spare(True)
-        other.noted = {SERVER: (6000, 1)}
+        other.noted.update({SERVER: (6000, 1)})
         other.note()
         self.alive.add(6000)
         self.windows.take_over()
@@ -404,7 +407,7 @@ class Told(Played):
         self.comes_up(2)
         self.assertIn(b"window 2 " + b"logs".hex().encode() + b"\nopened 2\n", read_now(one).replace(b"activity 2\n", b""))
         panes = self.windows.windows[2].host.panes
-        self.assertEqual([(pane.command, pane.folder) for pane in panes.values()], [(["htop", "-d"], "/")])
+        self.assertEqual([(pane.state.command, pane.state.folder) for pane in panes.values()], [(["htop", "-d"], "/")])
         self.assertEqual(self.windows.windows[2].host.handed_to(Rect(1, 1, 9, 9)), None)
         # It may be handed over by another, at another window.
         self.asker(2, b"").end.send(f"2 run {'a' * 16} window {len(data)}\n".encode() + data)
@@ -412,7 +415,7 @@ class Told(Played):
         one.send(f"open 30 90 {'a' * 16}\n".encode())
         self.turns(3)
         self.comes_up(3)
-        self.assertEqual([pane.command for pane in self.windows.windows[3].host.panes.values()], [["htop", "-d"]])
+        self.assertEqual([pane.state.command for pane in self.windows.windows[3].host.panes.values()], [["htop", "-d"]])
         read_now(one)
         self.assertEqual(self.said_by(one, f"open 30 90 {name}\n".encode()).replace(b"activity 2\n", b""),
                          b"opened none its command isn't there\n")
@@ -553,7 +556,7 @@ class Told(Played):
         self.assertEqual((aids.read_now(first), aids.read_now(second)),
                          (b"1 gone %d\n1 others 0\n" % number, b"2 there %d a:/dev/pts/1 24 80 read-write\n2 others 1\n" % number))
         self.assertTrue(aids.read_now(mover).endswith(b"2 others 0\n"))
-        self.assertEqual(self.windows.last, 2)
+        self.assertEqual(self.windows.state.last_window, 2)
         # What is said of another window doesn't move it.
         mover.number = 1
         mover.send(b"zoom 24 80 48 160\n")
@@ -624,7 +627,7 @@ class Ended(Played):
         self.windows.shut(2)
         self.now += ENDS / 2
         self.turns(2)
-        self.assertEqual(self.windows.windows[2].state, ENDING)
+        self.assertEqual(self.windows.windows[2].stage, ENDING)
         self.now += ENDS / 2
         self.turns(3)
         self.assertIn((2000, signal.SIGKILL), self.killed)
@@ -685,8 +688,8 @@ class TakenOver(Played):
         """Windows whose servers run are gone on with, by their names, with new shells; what is left of others is removed."""
         for number in (2, 5, 7):
             os.makedirs(self.path(number, ""), 0o700)
-            processes = WindowProcesses(str(self.folder), number)
-            processes.noted = {SERVER: (1000 * number, 1), CLIENT: (1000 * number + 1, 1)}
+            processes = WindowProcesses(str(self.folder), WindowState(number=number))
+            processes.noted.update({SERVER: (1000 * number, 1), CLIENT: (1000 * number + 1, 1)})
             processes.note()
         self.path(5, "name").write_text("6162\n", encoding="ascii")
         self.alive |= {5000, 7001}
@@ -712,7 +715,7 @@ class TakenOver(Played):
         os.makedirs(self.path(3, ""), 0o700)
         self.path(3, "state.json").write_text("[", encoding="ascii")
         self.listening(self.path(3, "clients"))
-        processes = WindowProcesses(str(self.folder), 3)
+        processes = WindowProcesses(str(self.folder), WindowState(number=3))
         processes.find()
         self.assertEqual(processes.noted, {SERVER: (os.getpid(), begun(os.getpid()))})
 
@@ -740,7 +743,7 @@ class Noted(Case):
         """A process notes itself before it runs its words, has a session of its own, and no name of a pane."""
         folder = self.made_folder()
         self.environment(ROAM_PANE="/x:1")
-        processes = WindowProcesses(str(folder), 4)
+        processes = WindowProcesses(str(folder), WindowState(number=4))
         processes.make_folder()
         told = folder / "told"
         does = f"echo $ROAM_PANE. > {told}.new; mv {told}.new {told}; cat {processes.path('state.json')} > {told}; exec sleep 60"
@@ -756,7 +759,7 @@ class Noted(Case):
     def test_stands_ready(self):
         """A server that only stands ready is known by its environment too, which no other process has of it."""
         self.environment(ROAM_SPARE="1")
-        processes = WindowProcesses(str(self.made_folder()), 4)
+        processes = WindowProcesses(str(self.made_folder()), WindowState(number=4))
         processes.make_folder()
         for is_spare in (False, True):
             if is_spare:
@@ -775,7 +778,7 @@ class Noted(Case):
         reader, writer = self.pipe()
         before = signal.signal(signal.SIGTERM, lambda number, frame: None), signal.set_wakeup_fd(writer, warn_on_full_buffer=False)
         self.addCleanup(lambda: (signal.set_wakeup_fd(before[1]), signal.signal(signal.SIGTERM, before[0])))
-        processes = WindowProcesses(str(self.made_folder()), 4)
+        processes = WindowProcesses(str(self.made_folder()), WindowState(number=4))
         self.patch_of(processes, "become", lambda role, words: (signal.pause(), os._exit(0)))
         process = processes.spawn(SERVER, [])
         os.kill(process, signal.SIGTERM)

@@ -1,7 +1,8 @@
 """How a pane's keypad is, by what its programs write."""
 import unittest
 
-from roam_live.host.output_scan import Keypad
+from roam_live.host.output_scan import KeypadScan
+from roam_live.host.state import PaneState
 
 # What a program writes, and whether its keypad is an application's then (VT220 Programmer Reference: DECKPAM, DECKPNM, DECSTR; RIS).
 WRITTEN = (
@@ -18,19 +19,19 @@ class Modes(unittest.TestCase):
         """It is found whole, and cut at each place."""
         for text, wanted in WRITTEN:
             for cut in range(len(text) + 1):
-                keypad = Keypad()
+                keypad = KeypadScan(PaneState(number=1, generation=4, size=(24, 80)))
                 keypad.fed(text[:cut])
                 keypad.fed(text[cut:])
-                self.assertEqual(keypad.is_application, wanted, (text, cut))
+                self.assertEqual(keypad.state.has_application_keypad, wanted, (text, cut))
 
     def test_bytewise(self):
         """It is found byte by byte, and little is kept."""
         for text, wanted in WRITTEN:
-            keypad = Keypad()
+            keypad = KeypadScan(PaneState(number=1, generation=4, size=(24, 80)))
             for byte in text:
                 keypad.fed(bytes([byte]))
                 self.assertLess(len(keypad.rest), 4)
-            self.assertEqual(keypad.is_application, wanted, text)
+            self.assertEqual(keypad.state.has_application_keypad, wanted, text)
 
 
 if __name__ == "__main__":

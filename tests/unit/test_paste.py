@@ -426,7 +426,7 @@ class Given(Sockets):
             self.assertEqual((self.told[5:], link.unstored), ([(name, "stored", "") for name in names[2:4]], {}))
             link.store(names[4], b"text")
             self.turn()
-            self.assertEqual((self.told[7:], self.socket.uploads.texts.coming), ([(names[4], "stored", "")], 0))
+            self.assertEqual((self.told[7:], self.socket.uploads.coming(False)), ([(names[4], "stored", "")], 0))
             for name in names:
                 self.socket.uploads.texts.drop(self.socket.uploads.texts.placed(name))
             names = self.names = [f"{number:016x}" for number in range(5, 10)]
@@ -467,7 +467,7 @@ class Given(Sockets):
         link.loop.turn()
         self.socket.drop(self.socket.peers[0])
         self.turn(2)
-        self.assertEqual((list(link.unstored), list(link.stored), self.socket.uploads.texts.coming), ([self.names[1]], [self.names[0]], 0))
+        self.assertEqual((list(link.unstored), list(link.stored), self.socket.uploads.coming(False)), ([self.names[1]], [self.names[0]], 0))
         self.socket.uploads.texts.placed(self.names[0])
         self.now += PAUSES[0]
         self.turn()

@@ -11,10 +11,11 @@ from roam_live.common import tty
 from roam_live.common.event_loop import comes
 from roam_live.host import input_queue, pane
 from roam_live.host.input_queue import Placeholders, TypedQueue
-from roam_live.host.pending_pastes import KEPT, MOST_SPENT, PendingPaste, PendingPastes
+from roam_live.host.pending_pastes import KEPT, PendingPastes
+from roam_live.host.state import PaneState, PendingPaste, SessionState
 from roam_live.host.socket_peer import LONGEST_LINE
 from roam_live.protocol import paste_text
-from roam_live.protocol.paste_text import (CLOSES, INSERTED, LOST, MOST_BYTES, MOST_TEXTS, OPENS, STORED, TOO_LONG, TOO_MANY, cleaned,
+from roam_live.protocol.paste_text import (CLOSES, INSERTED, LOST, MOST_BYTES, MOST_SPENT, MOST_TEXTS, OPENS, STORED, TOO_LONG, TOO_MANY, cleaned,
                                            placeholder_acts, random_name, without_brackets)
 from test_socket_server import NAMED, Sockets
 
@@ -99,10 +100,10 @@ class Unread(Case):
 
     def setUp(self):
         self.loop = StillLoop(lambda: self.now)
-        self.texts = PendingPastes(self.loop, lambda name, word: None)
+        self.texts = PendingPastes(SessionState(), self.loop, lambda name, word: None)
         self.queue = TypedQueue(self.texts, lambda: True)
         asked = pane.Options(folder="/nowhere", command=["sh"])
-        self.pane = pane.PaneCommand(asked, self.loop, 1, 4, (24, 80), False, "", self.queue)
+        self.pane = pane.PaneCommand(asked, self.loop, PaneState(number=1, generation=4, size=(24, 80)), False, self.queue)
         self.master, self.slave = os.openpty()
         for end in (self.master, self.slave):
             self.addCleanup(os.close, end)
@@ -113,7 +114,7 @@ class Unread(Case):
         """Writes what the terminal takes, of texts of these names too."""
         for name in names:
             self.texts.spent.clear()
-            self.texts.take(PendingPaste(name, b"line of a text\n" * 4000, False))
+            self.texts.take(PendingPaste.of(name, b"line of a text\n" * 4000, False))
             self.queue.take(placeholder(name))
         for _ in range(40):
             self.queue.write(self.master)
@@ -164,14 +165,14 @@ class Queues(Case):
 
     def setUp(self):
         self.loop, self.told = StillLoop(lambda: self.now), []
-        self.texts = PendingPastes(self.loop, lambda name, word: self.told.append((name, word)))
+        self.texts = PendingPastes(SessionState(), self.loop, lambda name, word: self.told.append((name, word)))
         self.wants = True
         self.queue = TypedQueue(self.texts, lambda: self.wants)
         self.reader, self.writer = self.pipe()
 
     def give(self, name, data, is_plain=False):
         """Gives a text."""
-        self.texts.take(PendingPaste(name, data, is_plain))
+        self.texts.take(PendingPaste.of(name, data, is_plain))
 
     def written(self):
         """What the programs read until nothing waits."""
@@ -344,12 +345,12 @@ class Waiting(Case):
 
     def setUp(self):
         self.loop, self.told = StillLoop(lambda: self.now), []
-        self.texts = PendingPastes(self.loop, lambda name, word: self.told.append((name, word)))
+        self.texts = PendingPastes(SessionState(), self.loop, lambda name, word: self.told.append((name, word)))
 
     def test_states(self):
         """A text waits for 60 seconds, and is lost then; a name of which nothing is known is lost."""
         self.assertEqual((self.texts.state(NAME), self.loop.wait_time()), (LOST, None))
-        self.texts.take(PendingPaste(NAME, b"text", False))
+        self.texts.take(PendingPaste.of(NAME, b"text", False))
         self.assertEqual((self.texts.state(NAME), self.loop.wait_time()), (STORED, KEPT))
         self.now += KEPT - 1
         self.loop.turn()
@@ -361,22 +362,20 @@ class Waiting(Case):
     def test_room(self):
         """16 MB wait together, those that are put too until they are read, and 64 texts; above it that is told in words."""
         self.assertEqual((MOST_BYTES, MOST_TEXTS, KEPT, MOST_SPENT), (1 << 24, 64, 60.0, 1024))
-        self.texts.take(PendingPaste(NAME, bytes(MOST_BYTES - 10), False))
-        self.assertEqual((self.texts.refusal(10), self.texts.refusal(11)), ("", TOO_LONG))
-        self.texts.coming = 1
-        self.assertEqual((self.texts.refusal(9), self.texts.refusal(10)), ("", "16 MB wait to be pasted"))
-        self.texts.coming = 0
+        self.texts.take(PendingPaste.of(NAME, bytes(MOST_BYTES - 10), False))
+        self.assertEqual((self.texts.refusal(10, 0), self.texts.refusal(11, 0)), ("", TOO_LONG))
+        self.assertEqual((self.texts.refusal(9, 1), self.texts.refusal(10, 1)), ("", "16 MB wait to be pasted"))
         text = self.texts.placed(NAME)
-        self.assertEqual(self.texts.refusal(11), TOO_LONG)
+        self.assertEqual(self.texts.refusal(11, 0), TOO_LONG)
         self.texts.drop(text)
         self.texts.drop(text)
         for number in range(MOST_TEXTS):
-            self.assertEqual(self.texts.refusal(1), "")
-            self.texts.take(PendingPaste(f"{number:016x}", b"x", False))
-        self.assertEqual((self.texts.refusal(1), TOO_MANY), (TOO_MANY, "64 texts wait to be pasted"))
+            self.assertEqual(self.texts.refusal(1, 0), "")
+            self.texts.take(PendingPaste.of(f"{number:016x}", b"x", False))
+        self.assertEqual((self.texts.refusal(1, 0), TOO_MANY), (TOO_MANY, "64 texts wait to be pasted"))
         for number in range(3000):
-            self.texts.drop(PendingPaste(f"{number:016x}", b"x", False))
-            self.texts.take(PendingPaste(f"{number + 1:016x}", b"x", False))
+            self.texts.drop(PendingPaste.of(f"{number:016x}", b"x", False))
+            self.texts.take(PendingPaste.of(f"{number + 1:016x}", b"x", False))
         self.assertLessEqual(len(self.texts.spent), MOST_SPENT)
         self.assertEqual(paste_text.INSERTED, "inserted")
 
@@ -434,7 +433,7 @@ class Given(Sockets):
     def test_stalled(self):
         """Who gives half of a text, and nothing for 60 seconds, is let go, and takes no room; so is it with who leaves."""
         one = self.connect(f"paste {NAME} {MOST_BYTES}\nhalf".encode())
-        self.assertEqual(self.socket.uploads.texts.coming, MOST_BYTES)
+        self.assertEqual(self.socket.uploads.coming(False), MOST_BYTES)
         self.now += KEPT - 1
         self.say(one, b"more")
         self.now += KEPT - 1
@@ -442,10 +441,10 @@ class Given(Sockets):
         self.assertEqual(len(self.socket.peers), 1)
         self.now += 1
         self.loop.turns(2)
-        self.assertEqual((self.socket.peers, self.socket.uploads.texts.coming), ([], 0))
+        self.assertEqual((self.socket.peers, self.socket.uploads.coming(False)), ([], 0))
         self.connect(f"paste {NAME} 100\n".encode()).close()
         self.loop.turns(2)
-        self.assertEqual((self.socket.uploads.texts.coming, self.loop.due), (0, {}))
+        self.assertEqual((self.socket.uploads.coming(False), self.loop.due), (0, {}))
 
     def test_chance(self):
         """Whatever comes, in whatever chunks, is taken or told to be no line, or its sender let go; nothing is kept without bound."""
@@ -465,7 +464,7 @@ class Given(Sockets):
             self.assertLessEqual(len(self.socket.uploads.texts.texts), 1)
         one.close()
         self.loop.turns(3)
-        self.assertEqual((self.socket.peers, self.socket.uploads.texts.coming), ([], 0))
+        self.assertEqual((self.socket.peers, self.socket.uploads.coming(False)), ([], 0))
 
     def test_names(self):
         """Of 64 texts at most one is told what becomes of them."""

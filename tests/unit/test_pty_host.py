@@ -11,14 +11,16 @@ from filtered import played
 from roam_live.common.errors import Fault
 from roam_live.common.event_loop import READ, WRITE
 from roam_live.common.process import begun
+from roam_live.common.record import written
 from roam_live.host import common, options, pane as host_pane, scrollback, window
 from roam_live.session import tmp_keepalive
 from roam_live.host.input_queue import TypedQueue
 from roam_live.host.pending_pastes import PendingPastes
+from roam_live.host.state import PaneState, SessionState, state_in
 
 def queue():
     """A queue of what is typed into a pane, for which no text was given."""
-    return TypedQueue(PendingPastes(StillLoop(), lambda name, word: None), lambda: False)
+    return TypedQueue(PendingPastes(SessionState(), StillLoop(), lambda name, word: None), lambda: False)
 
 
 tool = loaded("pane_shells")
@@ -56,7 +58,8 @@ class Host(Case):
         return host
 
     def leave(self, host):
-        """Closes what a host has."""
+        """Closes what a host has, whose state can be written and read back whatever was done."""
+        self.assertEqual(state_in(written(host.common.state)), host.common.state)
         host.common.socket.close()
         for number in list(host.panes):
             host.drop(number)
@@ -96,7 +99,7 @@ class Panes(Host):
     def test_begun(self):
         """Each pane has a command of its size, and bytes go both ways."""
         panes = self.begin()
-        self.assertEqual([pane.size for pane in self.host.panes.values()], [(23, 39), (23, 40)])
+        self.assertEqual([pane.state.size for pane in self.host.panes.values()], [(23, 39), (23, 40)])
         self.made[0].send(b"out")
         panes[0].send(b"in")
         self.made[1].send(b"two")
@@ -112,7 +115,7 @@ class Panes(Host):
         sizes.assert_called_once_with(self.host.panes[2].terminal, 11, 40)
         sizes.side_effect = OSError(5, "gone")
         self.tell("1 1 1 20 39 4")
-        self.assertEqual(self.host.panes[1].size, (20, 39))
+        self.assertEqual(self.host.panes[1].state.size, (20, 39))
 
     def test_gone(self):
         """A pane that goes is hung up, and one of another life takes its place."""
@@ -121,7 +124,7 @@ class Panes(Host):
         self.assertEqual([call[0] for call in self.kills.call_args_list], [(72, signal.SIGHUP), (72, signal.SIGCONT)])
         self.assertEqual((panes[1].recv(1), list(self.host.panes), self.host.common.hung), (b"", [1], [72]))
         self.tell("1 1 1 23 80 6", "focus 1")
-        self.assertEqual((panes[0].recv(1), self.host.panes[1].process, self.host.panes[1].generation), (b"", 73, 6))
+        self.assertEqual((panes[0].recv(1), self.host.panes[1].state.process, self.host.panes[1].state.generation), (b"", 73, 6))
         self.kills.side_effect = PermissionError(1, "another's")
         self.tell("1 gone")
         self.assertEqual(self.host.panes, {})
@@ -136,7 +139,7 @@ class Panes(Host):
     def test_commands(self):
         """What runs in front is told there, and looked up again after something was typed or written."""
         names = {1: "sh", 2: "vi"}
-        self.patch_of(window.Fronts, "look", lambda fronts, pane: fronts.tells(pane.number, pane.generation, names[pane.number]))
+        self.patch_of(window.Fronts, "look", lambda fronts, pane: fronts.tells(pane.state.number, pane.state.generation, names[pane.state.number]))
         panes = self.begin()
         one = Asker(self, self.folder)
         one.send(b"commands\n")
@@ -287,7 +290,7 @@ class Panes(Host):
         self.begin()
         self.assertEqual([call[0][0] for call in works.call_args_list], [[4711], [4711]])
         self.tell("3 1 1 5 5 1", "focus 3")
-        self.assertEqual((works.call_args[0][0], self.host.panes[3].folder), ([99, 71, 4711], "/there"))
+        self.assertEqual((works.call_args[0][0], self.host.panes[3].state.folder), ([99, 71, 4711], "/there"))
 
     def test_folder_taken(self):
         """A host whose folder was removed, and made anew by another session, goes to none of its sockets, and writes nothing there."""
@@ -364,7 +367,7 @@ class Refused(Host):
         self.patch_of(host_pane.spawn, "forked", side_effect=self.forked)
         panes[0].send(b"x")
         self.turn()
-        self.assertEqual((self.host.panes[1].process, self.host.panes[2].process, read_now(self.made[0])), (71, None, b""))
+        self.assertEqual((self.host.panes[1].state.process, self.host.panes[2].state.process, read_now(self.made[0])), (71, None, b""))
 
     def test_connection(self):
         """A pane that can't be connected says so, is told of once, and is tried again each quarter of a second."""
@@ -384,7 +387,7 @@ class Refused(Host):
         self.assertEqual(self.said.getvalue().count("pane 1: Too many open files; tried again\n"), 1)
         self.now += 0.25
         self.turn()
-        self.assertEqual(("again" in self.host.loop.due, self.host.common.refused, self.host.panes[1].process), (False, set(), 71))
+        self.assertEqual(("again" in self.host.loop.due, self.host.common.refused, self.host.panes[1].state.process), (False, set(), 71))
 
     def test_not_there(self):
         """A pane whose socket isn't there is no place to say so."""
@@ -439,7 +442,7 @@ class Ended(Host):
         self.end(71)
         pane, got = self.host.panes[1], b""
         panes[0].send(b"typed")
-        self.assertEqual((pane.has_ended, self.host.done()), (True, []))
+        self.assertEqual((pane.state.has_ended, self.host.done()), (True, []))
         for _ in range(100):
             got += read_now(panes[0])
             self.turn(1)
@@ -497,7 +500,7 @@ class Ended(Host):
         self.turn()
         self.assertEqual(read_now(self.server), b"close 1 4 2\n")
         self.tell("1 gone", "focus 2")
-        self.assertEqual((self.host.is_over, self.host.history), (False, [2]))
+        self.assertEqual((self.host.is_over, self.host.state.history), (False, [2]))
 
     def test_other(self):
         """A pane that hasn't the focus leaves it, and the focus goes to none whose command has ended."""
@@ -511,7 +514,7 @@ class Ended(Host):
 
     def test_last(self):
         """The end of the last is the session's: it is noted, and the server is told to end."""
-        self.host.asked.close, self.host.asked.server, self.host.server_began = True, 4711, 17
+        self.host.asked.close, self.host.asked.server, self.host.state.processes["server"] = True, 4711, (4711, 17)
         self.tell("1 1 1 23 80 4", "focus 1")
         self.kills.side_effect = ProcessLookupError(3, "none")
         self.end(71)
@@ -543,11 +546,12 @@ class Ended(Host):
             end.close()
         self.turn()
         self.assertFalse(self.host.is_over)
-        self.host.asked.server, self.host.server_began = os.getpid(), begun(os.getpid())
+        began = begun(os.getpid())
+        self.host.state.processes["server"] = os.getpid(), began
         self.now += 0.1
         self.turn()
         self.assertFalse(self.host.is_over)
-        self.host.server_began -= 1
+        self.host.state.processes["server"] = os.getpid(), began - 1
         self.now += 1
         self.turn()
         self.assertTrue(self.host.is_over)
@@ -764,7 +768,7 @@ class Words(Case):
     def test_child(self):
         """What is forked becomes the command, of the pane's size and in its folder, and ends where it can't."""
         asked = host_pane.Options(folder="/d", command=["vi"])
-        pane = host_pane.PaneCommand(asked, StillLoop(), 3, 1, (5, 40), False, "/tmp", queue())
+        pane = host_pane.PaneCommand(asked, StillLoop(), PaneState(number=3, generation=1, size=(5, 40), folder="/tmp"), False, queue())
         with mock.patch.object(host_pane.spawn, "forked", return_value=(0, 0)) as forks, \
                 mock.patch.object(host_pane.spawn, "become") as becomes, \
                 mock.patch.object(host_pane.os, "_exit", side_effect=InterruptedError) as exits, \

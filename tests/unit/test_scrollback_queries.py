@@ -5,8 +5,9 @@ from unittest import mock
 from aids import read_now
 from filtered import played
 from roam_live.host import scrollback, socket_server
-from roam_live.host.paste_buffers import (EMPTY, MOST_BUFFER, MOST_BUFFERS, MOST_COMING, READ_ONLY, TOO_LONG, TOO_MUCH, UNKNOWN, Buffers,
-                                          sample)
+from roam_live.host.state import PasteBuffers, sample
+from roam_live.protocol.paste_text import (BUFFER_EMPTY, BUFFER_READ_ONLY, BUFFER_TOO_LONG, BUFFER_UNKNOWN, BUFFERS_TOO_MANY, MOST_BUFFER,
+                                           MOST_BUFFERS, MOST_COMING)
 from roam_live.host.scrollback import SCREEN_WAIT, Scrollback
 from roam_live.host.socket_peer import HostPeer
 from roam_live.host.socket_server import UNREAD
@@ -70,7 +71,7 @@ class Asked(Rows):
         """Questions come in any chunks."""
         text = b"count 1 5\nrows 1 5 0 2\nbuffer add 3\na\nbfind 1 5 0 on be\nbuffer list\n"
         for cut in range(len(text)):
-            self.socket.uploads.buffers = Buffers()
+            self.socket.uploads.buffers = PasteBuffers()
             one = self.connect(text[:cut])
             self.say(one, text[cut:])
             self.loop.turns(2)
@@ -304,21 +305,27 @@ class Buffered(Rows):
             left -= one.send(b"x" * min(left, 65536))
             self.loop.turns(2)
         self.loop.turns(20)
-        self.assertEqual(read_now(one), f"buffer add none {TOO_LONG}\n".encode())
-        self.assertEqual(self.asked(one, "buffer add 0"), f"buffer add none {EMPTY}\n".encode())
-        self.assertEqual(self.asked(watching, "buffer add 2\na"), f"buffer add none {READ_ONLY}\n".encode())
-        self.assertEqual(self.socket.uploads.buffers.coming, 0)
-        self.socket.uploads.buffers.coming = MOST_COMING - 1
-        self.assertEqual(self.asked(one, "buffer add 2\na"), f"buffer add none {TOO_MUCH}\n".encode())
-        self.socket.uploads.buffers.coming -= 1
+        self.assertEqual(read_now(one), f"buffer add none {BUFFER_TOO_LONG}\n".encode())
+        self.assertEqual(self.asked(one, "buffer add 0"), f"buffer add none {BUFFER_EMPTY}\n".encode())
+        self.assertEqual(self.asked(watching, "buffer add 2\na"), f"buffer add none {BUFFER_READ_ONLY}\n".encode())
+        self.assertEqual(self.socket.uploads.coming(True), 0)
+        more = [self.connect() for _ in range(4)]
+        for each in more:
+            self.say(each, f"buffer add {MOST_BUFFER}\n".encode())
+        more.pop().close()
+        self.say(more[0], b"x")
+        third = self.connect(f"buffer add {MOST_BUFFER - 1}\n".encode())
+        self.assertEqual(self.asked(one, "buffer add 2\na"), f"buffer add none {BUFFERS_TOO_MANY}\n".encode())
+        third.close()
+        self.connect(f"buffer add {MOST_BUFFER - 2}\n".encode())
         self.assertEqual(self.asked(other, "buffer add 2\na"), b"buffer add 1 2\n")
-        self.assertEqual(self.socket.uploads.buffers.coming, MOST_COMING - 2)
-        self.socket.uploads.buffers = Buffers()
+        self.assertEqual(self.socket.uploads.coming(True), MOST_COMING - 2)
+        self.socket.uploads.buffers = PasteBuffers()
         self.say(other, b"buffer add 2\na")
-        self.assertEqual(self.socket.uploads.buffers.coming, 2)
+        self.assertEqual(self.socket.uploads.coming(True), MOST_COMING)
         other.close()
         self.loop.turns(2)
-        self.assertEqual((self.socket.uploads.buffers.coming, self.asked(one, "buffer list")), (0, b"buffers 0\n"))
+        self.assertEqual((self.socket.uploads.coming(True), self.asked(one, "buffer list")), (MOST_COMING - 2, b"buffers 0\n"))
 
     def test_given(self):
         """A buffer is given as a text: what of it is pasted, once; an unknown one is refused."""
@@ -327,8 +334,8 @@ class Buffered(Rows):
         self.assertEqual(self.asked(one, f"paste {NAME} buffer 1"), f"stored {NAME}\n".encode())
         self.assertEqual(self.socket.uploads.texts.texts[NAME].data, b"a\rb\t[201~c\r")
         self.assertEqual(self.asked(one, f"paste {NAME} buffer 9"), f"stored {NAME}\n".encode())
-        self.assertEqual(self.asked(one, f"paste {NAME[::-1]} buffer 9"), f"refused {NAME[::-1]} {UNKNOWN}\n".encode())
-        self.assertEqual((self.socket.uploads.texts.coming, len(self.socket.uploads.texts.texts)), (0, 1))
+        self.assertEqual(self.asked(one, f"paste {NAME[::-1]} buffer 9"), f"refused {NAME[::-1]} {BUFFER_UNKNOWN}\n".encode())
+        self.assertEqual((self.socket.uploads.coming(False), len(self.socket.uploads.texts.texts)), (0, 1))
         self.assertEqual(self.asked(one, f"status {NAME}", f"status {NAME[::-1]}"), f"stored {NAME}\nlost {NAME[::-1]}\n".encode())
 
     def test_sample(self):

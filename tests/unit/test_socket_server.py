@@ -8,6 +8,7 @@ from unittest import mock
 from aids import Case, LinkedClient, StillLoop, read_now, without_numbers
 from roam_live.host import foreground_watch
 from roam_live.host.socket_peer import LONGEST_LINE, HostPeer
+from roam_live.host.state import PaneState
 from roam_live.host.socket_server import MOST_PEERS, RECONNECTS, HostSocket
 from roam_live.host.window_channel import WindowChannel
 from roam_live.protocol import presence
@@ -153,7 +154,7 @@ class Fronts(Case):
         self.loop, self.told = StillLoop(lambda: self.now), []
         self.fronts = foreground_watch.Fronts(self.loop, lambda *words: self.told.append(words))
         self.fronts.is_wanted = True
-        self.pane = mock.Mock(number=3, generation=7, terminal=5)
+        self.pane = mock.Mock(state=PaneState(number=3, generation=7, size=(24, 80)), terminal=5)
         self.looks = self.patch_of(foreground_watch, "group_in_front", return_value=70)
         self.patch_of(foreground_watch, "name_of", side_effect=lambda group: f"a{group}")
 

@@ -14,8 +14,8 @@ from roam_live.common.event_loop import READ, WRITE, ready
 from roam_live.common.io import read, write
 from roam_live.common.text import printable
 from roam_live.common.unix_socket import connected_in
-from roam_live.host.paste_buffers import EMPTY, MOST_BUFFER, TOO_LONG
 from roam_live.protocol.host_lines import led
+from roam_live.protocol.paste_text import BUFFER_EMPTY, BUFFER_TOO_LONG, MOST_BUFFER
 from roam_live.protocol.scrollback_client import (LOG, MOST_ROWS, Answer, AnswerReader, BadAnswer, BufferNote, ScrollbackClient, Snapshot,
                                                   number_at, rows_in)
 
@@ -213,7 +213,7 @@ def set_buffer(session: SessionFolder, text: str | None) -> int:
     """Has a text kept as a buffer, or what is read from standard input."""
     data = sys.stdin.buffer.read(MOST_BUFFER + 1) if text is None else os.fsencode(text)
     if not 0 < len(data) <= MOST_BUFFER:
-        raise Fault(TOO_LONG if data else EMPTY)
+        raise Fault(BUFFER_TOO_LONG if data else BUFFER_EMPTY)
     asked = RowsAsked(session)
     number: int | None = asked.answer(lambda told: asked.link.add_buffer(data, told))
     if number is None:

@@ -12,6 +12,7 @@ from roam_live.common.io import read
 from roam_live.host.options import Spare, has_ended
 from roam_live.host.scrollback import Scrollback, pane_of_key
 from roam_live.host.socket_server import HostSocket
+from roam_live.host.state import SessionState
 from roam_live.protocol.panes import OTHER
 from roam_live.session.tmp_keepalive import LOOKS
 
@@ -50,7 +51,8 @@ class Common:
             self.spare.keep()
         self.rows = Scrollback(self.loop, self.tell)
         self.rows.is_other = self.shows_other
-        self.socket = HostSocket(self.loop, self.rows)
+        self.state = SessionState()
+        self.socket = HostSocket(self.loop, self.rows, self.state)
         self.loop.faults = self.take_fault
         self.rows.hears_changed = self.see_to_panes
         # Called once a minute to look after folders.

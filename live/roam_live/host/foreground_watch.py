@@ -11,11 +11,12 @@ TYPE_CHECKING = False
 if TYPE_CHECKING:
     from typing import Protocol
 
-    class LookedUp(Protocol):
-        """A pane whose program is looked up: its number, which making of that it is, and its pseudo-terminal while it has one."""
+    from roam_live.host.state import PaneState
 
-        number: int
-        generation: int
+    class LookedUp(Protocol):
+        """A pane whose program is looked up: what is known of it, and its pseudo-terminal while it has one."""
+
+        state: PaneState
         terminal: int | None
 
 # So many seconds after something came it is looked up, since a program that was begun is in front a moment later; and so many lie between
@@ -36,17 +37,17 @@ class Fronts:
 
     def touched(self, pane: LookedUp, soon: float = SOON) -> None:
         """Takes note that something was typed or written in a pane."""
-        name = f"{self.leads}front {pane.number}"
+        name = f"{self.leads}front {pane.state.number}"
         if self.is_wanted and name not in self.loop.due:
-            moment = max(self.loop.clock() + soon, self.looked.get(pane.number, -math.inf) + APART)
+            moment = max(self.loop.clock() + soon, self.looked.get(pane.state.number, -math.inf) + APART)
             self.loop.at(name, moment, lambda: self.look(pane))
 
     def look(self, pane: LookedUp) -> None:
         """Looks up what runs in a pane."""
-        self.looked[pane.number] = self.loop.clock()
+        self.looked[pane.state.number] = self.loop.clock()
         group = None if pane.terminal is None else group_in_front(pane.terminal)
         if group:
-            self.tells(pane.number, pane.generation, name_of(group))
+            self.tells(pane.state.number, pane.state.generation, name_of(group))
 
     def drop(self, number: int) -> None:
         """Forgets a pane that is gone."""

@@ -23,12 +23,12 @@ OPENS = 10.0
 
 
 class HostedWindow:
-    """A window: its processes, its panes once they are followed, its name, and who is told once it is there."""
+    """A window: its processes, its panes once they are followed, and who is told once it is there."""
 
-    def __init__(self, number: int, processes: WindowProcesses, told: Callable[[int, str], object]) -> None:
-        self.number, self.processes, self.told = number, processes, told
-        self.state = OPENING
-        self.name = processes.name()
+    def __init__(self, processes: WindowProcesses, told: Callable[[int, str], object]) -> None:
+        self.number, self.state, self.processes, self.told = processes.number, processes.state, processes, told
+        self.stage = OPENING
+        processes.read_name()
         self.host: WindowHost | None = None
         self.size: Size | None = None
         self.sizes: SizeAct | None = None
@@ -43,8 +43,6 @@ class HostedWindow:
         self.until = 0.0
         # When it may be told again that something was written there.
         self.active_at = 0.0
-        # What runs in front in its pane in focus, as it was told.
-        self.runs = ""
 
     def has_terminals(self) -> bool:
         """Whether somebody is there."""

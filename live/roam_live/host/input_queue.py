@@ -6,8 +6,9 @@ from collections import deque
 from collections.abc import Callable
 
 from roam_live.common.io import UNREAD_LIMIT, keep, write
-from roam_live.host.pending_pastes import PendingPaste, PendingPastes
-from roam_live.protocol.paste_text import CLOSES, OPENS, without_brackets
+from roam_live.host.pending_pastes import PendingPastes
+from roam_live.host.state import PendingPaste
+from roam_live.protocol.paste_text import CLOSES
 
 # A placeholder: APC, a name and ST, in their forms of U+009F and U+009C, in UTF-8; and the beginning of one at the end of what came.
 PLACEHOLDER = re.compile(rb"\xc2\x9f([0-9a-f]{16})\xc2\x9c")
@@ -36,49 +37,13 @@ class Placeholders:
         return parts
 
 
-class PlacedText:
-    """A text at its place: what of it, and of the brackets round it, is still to be typed."""
-
-    def __init__(self, text: PendingPaste) -> None:
-        self.text = text
-        self.waiting = bytearray()
-        self.length = self.tail = 0
-        self.has_begun = self.is_over = False
-
-    def __len__(self) -> int:
-        return len(self.waiting) if self.has_begun or self.is_over else self.text.length
-
-    def begin(self, is_bracketed: bool) -> None:
-        """Begins to type it: between brackets where it isn't plain and the program wants them."""
-        self.has_begun = True
-        data, self.text.data = self.text.data, b""
-        if is_bracketed and not self.text.is_plain:
-            self.waiting += OPENS + without_brackets(data) + CLOSES
-            self.tail = len(CLOSES)
-        else:
-            self.waiting += data
-        self.length = len(self.waiting)
-
-    def stop(self) -> None:
-        """Drops what of it isn't typed yet, but for brackets that are begun, and the rest of a character."""
-        self.is_over, self.text.data = True, b""
-        if not self.has_begun:
-            return
-        head = OPENS[self.length - len(self.waiting) :] if self.tail else b""
-        end = max(len(self.waiting) - self.tail, len(head))
-        cut = len(head)
-        while cut < end and self.waiting[cut] & 0xC0 == 0x80:
-            cut += 1
-        del self.waiting[cut:end]
-
-
 class TypedQueue:
     """What waits for a pane's programs, in the order in which it was typed: one text after the other, each whole."""
 
     def __init__(self, texts: PendingPastes, wants_brackets: Callable[[], object]) -> None:
         self.texts, self.wants_brackets = texts, wants_brackets
         self.placeholders = Placeholders()
-        self.parts: deque[bytearray | PlacedText] = deque()
+        self.parts: deque[bytearray | PendingPaste] = deque()
         # How many bytes wait that were typed as such.
         self.typed = 0
         # True if part of a pasted text was written since the last interrupt, and if it was bracketed; the number of typed bytes that were
@@ -91,7 +56,7 @@ class TypedQueue:
         return bool(self.parts)
 
     def __len__(self) -> int:
-        return self.typed + sum(len(part) for part in self.parts if isinstance(part, PlacedText))
+        return self.typed + sum(len(part.data) for part in self.parts if isinstance(part, PendingPaste))
 
     def take(self, typed: bytes) -> bool:
         """Has what was typed wait, a text in the place of its placeholder, and tells whether all of it was kept. A placeholder of a text
@@ -108,9 +73,7 @@ class TypedQueue:
         """Puts the text of a name here."""
         text = self.texts.placed(name)
         if text:
-            placed = PlacedText(text)
-            text.stop = placed.stop
-            self.parts.append(placed)
+            self.parts.append(text)
 
     def add(self, typed: bytes) -> bool:
         """Queue bytes, as far as there is room, and return True if all were kept. An interrupt drops what is unread of texts before it."""
@@ -135,17 +98,17 @@ class TypedQueue:
         have dropped it.
         """
         is_dropped = self.is_pasted and self.drops_unread(self.behind)
-        first = next((place for place, part in enumerate(self.parts) if isinstance(part, PlacedText)), len(self.parts))
+        first = next((place for place, part in enumerate(self.parts) if isinstance(part, PendingPaste)), len(self.parts))
         if first == len(self.parts) and not is_dropped:
             self.is_pasted = self.is_bracketed = False
             return typed
         closes = CLOSES if is_dropped and self.is_bracketed and self.wants_brackets() else b""
         self.is_pasted = self.is_bracketed = False
         begun = self.parts[0] if self.parts and not is_dropped else None
-        if isinstance(begun, PlacedText) and begun.has_begun:
+        if isinstance(begun, PendingPaste) and begun.has_begun:
             # Its closing bracket is still typed, and the rest of a character.
             begun.stop()
-            self.texts.drop(begun.text)
+            self.texts.drop(begun)
             first = 1
         self.drop_from(0 if is_dropped else first)
         return closes + INTERRUPT * typed.count(INTERRUPT) + typed.rpartition(INTERRUPT)[2]
@@ -154,18 +117,18 @@ class TypedQueue:
         """Drop the parts of the queue from an index on."""
         while len(self.parts) > place:
             part = self.parts.pop()
-            if isinstance(part, PlacedText):
+            if isinstance(part, PendingPaste):
                 part.stop()
-                self.texts.drop(part.text)
+                self.texts.drop(part)
             else:
                 self.typed -= len(part)
 
     def write(self, end: int) -> None:
         """Writes what the programs take now; what is gone takes no more."""
         part = self.parts[0] if self.parts else bytearray()
-        if isinstance(part, PlacedText) and not (part.has_begun or part.is_over):
+        if isinstance(part, PendingPaste) and not (part.has_begun or part.is_over):
             part.begin(bool(self.wants_brackets()))
-        waiting = part if isinstance(part, bytearray) else part.waiting
+        waiting = part if isinstance(part, bytearray) else part.data
         before = len(waiting)
         if waiting and not write(end, waiting):
             self.clear()
@@ -176,26 +139,27 @@ class TypedQueue:
         if self.parts and not waiting:
             self.end_first()
 
-    def note_written(self, part: bytearray | PlacedText, count: int) -> None:
+    def note_written(self, part: bytearray | PendingPaste, count: int) -> None:
         """Count bytes of a part that were written to the terminal."""
         if isinstance(part, bytearray):
             self.typed -= count
             self.behind += count
         elif count:
+            part.typed += count
             self.is_pasted, self.behind = True, 0
-            self.is_bracketed = self.is_bracketed or part.tail > 0
+            self.is_bracketed = self.is_bracketed or part.is_bracketed
 
     def renew(self) -> None:
         """Has texts wait longer, since the programs read."""
         for part in self.parts:
-            if isinstance(part, PlacedText):
-                self.texts.renew(part.text)
+            if isinstance(part, PendingPaste):
+                self.texts.renew(part)
 
     def end_first(self) -> None:
         """Goes on behind what is written whole."""
         part = self.parts.popleft()
-        if isinstance(part, PlacedText):
-            self.texts.drop(part.text)
+        if isinstance(part, PendingPaste):
+            self.texts.drop(part)
 
     def clear(self) -> None:
         """Drops all, since nobody is there any more."""

@@ -19,7 +19,8 @@ from roam_live.common.io import UNREAD_LIMIT, read, write
 from roam_live.common.unix_socket import connected_now
 from roam_live.host.input_queue import TypedQueue
 from roam_live.host.options import Options, entered, surroundings
-from roam_live.host.output_scan import Keypad
+from roam_live.host.output_scan import KeypadScan
+from roam_live.host.state import PaneState
 from roam_live.session.environment import PaneEnvironment
 from roam_live.session.foreground import group_in_front
 
@@ -60,31 +61,25 @@ class PaneCommand:
     It has no socket before it is connected, and no terminal before its command is run.
     """
 
-    def __init__(self, asked: Options, loop: Loop, number: int, generation: int, size: tty.Size, is_again: bool, folder: str,
-                 typed: TypedQueue) -> None:
-        self.asked, self.loop, self.number, self.generation, self.size, self.is_again = asked, loop, number, generation, size, is_again
-        self.path = f"{asked.dir}/p{number}"
-        self.named = asked.named(number)
-        # Where its command begins; and its own one, where it isn't that of all panes.
-        self.folder = folder
-        self.command: list[str] = []
+    def __init__(self, asked: Options, loop: Loop, state: PaneState, is_again: bool, typed: TypedQueue) -> None:
+        self.asked, self.loop, self.state, self.is_again = asked, loop, state, is_again
+        self.path = f"{asked.dir}/p{state.number}"
+        self.named = asked.named(state.number)
         self.peer: socket.socket | None = None
-        self.process: int | None = None
         self.terminal: int | None = None
         self.is_connected = self.is_told = False
         self.to_pane, self.to_terminal = bytearray(), typed
         typed.drops_unread = self.drops_unread
         # Whether something that was typed was dropped since its programs had read all.
         self.is_dropping = False
-        # True once the command has ended; bytes read since then, when the terminal was first found empty, and a last line to show.
-        self.has_ended = False
+        # Bytes read since the command has ended, when the terminal was first found empty, and a last line to show.
         self.last_read, self.empty_at, self.last_words = 0, math.inf, b""
         # How much was written there, and whether what was typed before another kept the shell may still come.
         self.written = 0
         self.is_settling = False
         # When its close is asked for anew.
         self.asked_until = 0.0
-        self.keypad = Keypad()
+        self.keypad = KeypadScan(state)
         # True if something was typed or written, or written, since the last look. `touches` is called then, and at the end of a command.
         self.is_touched = self.has_news = False
         self.touches: Callable[[], object] = lambda: None
@@ -138,14 +133,14 @@ class PaneCommand:
     def run(self) -> None:
         """Runs the command; where it can't be spawned a line in the pane says why."""
         try:
-            self.process, self.terminal = spawn.forked(self.size)
+            self.state.process, self.terminal = spawn.forked(self.state.size)
         except OSError as fault:
             self.show(NOT_RUN.format(reason(fault)).encode())
             return
-        if self.process == 0:
+        if self.state.process == 0:
             try:
-                environment = {**surroundings(self.asked, self.number, self.pane_environment), **entered(self.folder)}
-                spawn.become(self.command or self.asked.command, environment, None if self.command else self.asked.instead)
+                environment = {**surroundings(self.asked, self.state.number, self.pane_environment), **entered(self.state.folder)}
+                spawn.become(self.state.command or self.asked.command, environment, None if self.state.command else self.asked.instead)
             finally:
                 os._exit(127)
         os.set_inheritable(self.terminal, False)
@@ -159,10 +154,10 @@ class PaneCommand:
 
     def resize(self, size: tty.Size) -> None:
         """Tells the programs a new size."""
-        if size != self.size and self.terminal is not None:
+        if size != self.state.size and self.terminal is not None:
             with contextlib.suppress(OSError):
                 tty.set_size(self.terminal, *size)
-        self.size = size
+        self.state.size = size
 
     def close_terminal(self) -> None:
         """Closes the terminal, which hangs up the programs that are left there."""
@@ -196,7 +191,7 @@ class PaneCommand:
         """End the programs after too many failures. The next key starts the command anew."""
         self.end_programs()
         self.to_pane.clear()
-        self.process, self.has_ended = None, False
+        self.state.process, self.state.has_ended = None, False
         self.show(GIVEN_UP)
 
     def hang_up(self) -> None:
@@ -209,26 +204,30 @@ class PaneCommand:
     def end_programs(self) -> None:
         """Ends the pane's programs."""
         self.close_terminal()
-        if self.process is not None and self.runs():
+        if self.state.process is not None and self.runs():
             for number in (signal.SIGHUP, signal.SIGCONT):
                 # A process that has become another user's is hung up by its terminal alone.
                 with contextlib.suppress(OSError):
-                    os.kill(self.process, number)
+                    os.kill(self.state.process, number)
 
     def runs(self) -> bool:
         """Whether its command was spawned, and hasn't ended."""
-        return self.process is not None and not self.has_ended
+        return self.state.process is not None and not self.state.has_ended
+
+    def running(self) -> list[int]:
+        """Return the process of its command, if that runs."""
+        return [self.state.process] if self.state.process is not None and not self.state.has_ended else []
 
     def is_typed_into(self) -> bool:
         """Return True if a program may read what is typed."""
-        return self.terminal is not None and not self.has_ended
+        return self.terminal is not None and not self.state.has_ended
 
     def ends(self, words: bytes = b"") -> None:
         """Note that the command has ended: type nothing more, and read its last output as the pane takes it. `words` are shown behind it.
 
         Processes that it left behind are hung up once that output is read.
         """
-        self.has_ended, self.last_words = True, words
+        self.state.has_ended, self.last_words = True, words
         self.to_terminal.clear()
         if self.terminal is None:
             self.finish()
@@ -274,7 +273,7 @@ class PaneCommand:
             self.settle()
         elif self.is_typed_into():
             self.wait_typed(typed or b"")
-        elif typed and self.process is None:
+        elif typed and self.state.process is None:
             self.run()
 
     def touch(self) -> None:
@@ -296,7 +295,7 @@ class PaneCommand:
             self.take(b"".join(chunks))
         if written == b"":
             self.take(written)
-        elif self.has_ended:
+        elif self.state.has_ended:
             self.note_last(sum(map(len, chunks)), room > 0)
 
     def write_terminal(self) -> None:
@@ -315,7 +314,7 @@ class PaneCommand:
         self.written += waiting - len(self.to_pane)
         if waiting >= LIMIT:
             self.see_to_ends()
-        if self.has_ended and not self.to_pane:
+        if self.state.has_ended and not self.to_pane:
             self.touches()
 
     def is_unread(self) -> bool:
@@ -362,13 +361,13 @@ class PaneCommand:
 
     def in_front(self) -> list[int | None]:
         """The processes by whose working folder a new pane's is chosen: the first of those in front here, and this pane's command."""
-        return [group_in_front(self.terminal), self.process] if self.terminal is not None else []
+        return [group_in_front(self.terminal), self.state.process] if self.terminal is not None else []
 
     def take(self, written: bytes | None) -> None:
         """Takes what the programs wrote; where none has the terminal any more it is closed."""
         if written == b"":
             self.close_terminal()
-            if self.has_ended:
+            if self.state.has_ended:
                 self.finish()
         elif written:
             self.has_news = True

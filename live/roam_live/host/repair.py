@@ -96,8 +96,8 @@ class Mending:
         for window in self.there():
             window.processes.make_folder()
             window.processes.note()
-            if window.name:
-                window.processes.note_name(window.name)
+            if window.state.name:
+                window.processes.note_name()
             if window.host and window.processes.folder == window.host.asked.dir:
                 window.host.lasting.own = window.host.lasting.found()
         self.windows.common.socket.listen_again(common)
@@ -137,6 +137,6 @@ class Mending:
         state = {"version": WINDOWS_VERSION, "command": command, BUILD: self.build, "host": [os.getpid(), begun(os.getpid())]}
         replace_text(os.path.join(common, "state.json"), json.dumps(state))
         os.makedirs(windows_folder(common), 0o700, exist_ok=True)
-        if self.windows.last:
+        if self.windows.state.last_window:
             self.windows.note_last()
         self.windows.lasting.own = self.windows.lasting.found()

@@ -15,6 +15,7 @@ from roam_live.common.io import LongLine, read
 from roam_live.common.listener import Listener
 from roam_live.host.scrollback_queries import RowAsker
 from roam_live.host.socket_peer import HostPeer, client_line
+from roam_live.host.state import SessionState
 from roam_live.host.uploads import Uploads
 from roam_live.protocol.colours import Colours
 from roam_live.protocol.host_lines import SESSION, led, parted
@@ -60,8 +61,8 @@ class HostSocket:
     What is of one window is in its channel. If windows can be opened, `lines` answers what is asked of them.
     """
 
-    def __init__(self, loop: Loop, rows: Scrollback | None = None) -> None:
-        self.loop, self.rows = loop, rows
+    def __init__(self, loop: Loop, rows: Scrollback | None = None, state: SessionState | None = None) -> None:
+        self.loop, self.rows, self.state = loop, rows, state or SessionState()
         if rows:
             rows.logs_came, rows.waits_for_logs = self.tell_logged, self.has_full_log
             rows.came = self.see_to_rows
@@ -71,9 +72,9 @@ class HostSocket:
         self.last = 0
         # By it those who come again know whether this is the host that was there before.
         self.name = random_name()
-        self.pane_environment = PaneEnvironment()
+        self.pane_environment = PaneEnvironment(self.state.environment)
         self.uploads = Uploads(self)
-        self.colours = Colours()
+        self.colours = Colours(self.state.colours)
         self.attended = Attended()
         # The moment from which it is known who is at the session.
         self.knows_at = 0.0
@@ -119,7 +120,7 @@ class HostSocket:
     def channel(self, number: int) -> WindowChannel | None:
         """Return the channel of a window. Of the session, return that of its only window, else of the one where somebody was last, else the
         first."""
-        last = self.lines.table.last if self.lines and number == SESSION else number
+        last = self.state.last_window if number == SESSION else number
         found = self.channels.get(number) or self.channels.get(last)
         return found or (self.channels[min(self.channels)] if self.channels and number == SESSION else None)
 

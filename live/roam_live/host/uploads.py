@@ -3,11 +3,11 @@ from __future__ import annotations
 
 import re
 
-from roam_live.host.paste_buffers import NOTHING, READ_ONLY, UNKNOWN, Buffers
-from roam_live.host.pending_pastes import KEPT, PendingPaste, PendingPastes
+from roam_live.host.pending_pastes import KEPT, PendingPastes
 from roam_live.host.socket_peer import HostPeer, Upload
+from roam_live.host.state import PendingPaste
 from roam_live.protocol.host_lines import SESSION, led
-from roam_live.protocol.paste_text import LOST, cleaned
+from roam_live.protocol.paste_text import BUFFER_NOTHING, BUFFER_READ_ONLY, BUFFER_UNKNOWN, LOST, cleaned
 from roam_live.protocol.spawn_request import RAN, REFUSED, RUN
 from roam_live.session.environment import ENVIRONMENT
 
@@ -30,7 +30,12 @@ class Uploads:
 
     def __init__(self, socket: HostSocket) -> None:
         self.socket = socket
-        self.texts, self.buffers = PendingPastes(socket.loop, self.tell_text), Buffers()
+        self.texts, self.buffers = PendingPastes(socket.state, socket.loop, self.tell_text), socket.state.buffers
+
+    def coming(self, is_buffer: bool) -> int:
+        """Return how many bytes come of texts to be pasted, or of buffers."""
+        found = [peer.upload for peer in self.socket.peers if peer.upload and peer.upload.is_kept and peer.upload.beside is None]
+        return sum(upload.length for upload in found if upload.is_buffer == is_buffer)
 
     def take_line(self, peer: HostPeer, line: str) -> bool:
         """Take a line about a text, a buffer, a command or the environment of new panes, and return True if it is one."""
@@ -49,9 +54,8 @@ class Uploads:
     def begin_upload(self, peer: HostPeer, name: str, length: int, is_plain: bool) -> None:
         """Takes a text, whose bytes follow, where there is room; one that was given before is known."""
         is_known = self.texts.state(name) != LOST
-        refusal = "" if is_known else self.texts.refusal(length)
+        refusal = "" if is_known else self.texts.refusal(length, self.coming(False))
         peer.upload = Upload(name, length, is_plain, not is_known and not refusal, refusal)
-        self.texts.coming += length if peer.upload.is_kept else 0
         peer.wants(name)
 
     def take_buffer_line(self, peer: HostPeer, line: str) -> bool:
@@ -72,9 +76,8 @@ class Uploads:
 
     def begin_buffer(self, peer: HostPeer, length: int) -> None:
         """Takes a text that is to be a buffer, whose bytes follow."""
-        refusal = READ_ONLY if peer.is_read_only() else self.buffers.refusal(length)
+        refusal = BUFFER_READ_ONLY if peer.is_read_only() else self.buffers.refusal(length, self.coming(True))
         peer.upload = Upload("", length, False, not refusal, refusal, is_buffer=True)
-        self.buffers.coming += 0 if refusal else length
 
     def take_run_line(self, peer: HostPeer, line: str) -> bool:
         """Takes a command for a new pane, whose bytes follow, of who doesn't only watch; tells whether the line is one."""
@@ -98,7 +101,7 @@ class Uploads:
         """Takes a buffer for a text, as if its characters were given."""
         text = cleaned((data or b"").decode("utf-8", "replace")).encode()
         if not text and self.texts.state(name) == LOST:
-            self.socket.send(peer, [f"refused {name} {UNKNOWN if data is None else NOTHING}"])
+            self.socket.send(peer, [f"refused {name} {BUFFER_UNKNOWN if data is None else BUFFER_NOTHING}"])
             return
         self.begin_upload(peer, name, len(text), False)
         if peer.upload:
@@ -120,18 +123,12 @@ class Uploads:
             self.socket.send(peer, [f"buffer add {told}"])
             return
         if upload.is_kept:
-            self.texts.take(PendingPaste(upload.name, bytes(upload.data), upload.is_plain))
+            self.texts.take(PendingPaste.of(upload.name, upload.data, upload.is_plain))
         state = self.texts.state(upload.name)
         self.socket.send(peer, [f"refused {upload.name} {upload.refusal}" if upload.refusal else f"{state} {upload.name}"])
 
     def drop(self, peer: HostPeer) -> None:
         """Waits for no more of a text."""
-        upload = peer.upload
-        is_counted = upload and upload.is_kept and upload.beside is None
-        if upload and is_counted and upload.is_buffer:
-            self.buffers.coming -= upload.length
-        elif upload and is_counted:
-            self.texts.coming -= upload.length
         peer.upload = None
         self.socket.loop.drop(f"upload by {peer.number}")
 

@@ -17,7 +17,9 @@ from roam_live.host.input_queue import TypedQueue
 from roam_live.host.options import Options, has_ended
 from roam_live.host.pane import PaneCommand, say_in
 from roam_live.host.scrollback import pane_key
+from roam_live.host.state import PaneState
 from roam_live.host.window_channel import WindowChannel
+from roam_live.host.window_processes import SERVER
 from roam_live.protocol.panes import BRACKETED, FOCUS, PanesState, Rect
 from roam_live.protocol.panes_client import PROBE, HostSubscription
 from roam_live.protocol.queries import QUERY, holds_frames, query_in
@@ -54,12 +56,11 @@ class WindowHost:
     def __init__(self, asked: Options, common: Common, peer: socket.socket | None = None, size: Size | None = None,
                  folder: str = "", first: Begins | None = None) -> None:
         self.asked, self.common, self.loop, self.rows = asked, common, common.loop, common.rows
+        self.state = common.state.window(asked.window)
         self.lasting = Lasting(asked.dir)
         self.panes: dict[int, PaneCommand] = {}
         # The panes of which nothing was told since they are followed anew.
         self.untold: set[int] = set()
-        self.focus = 0
-        self.history: list[int] = []
         # What was told of the panes since they are followed, as which modes their programs have set.
         self.panes_state, self.is_new = PanesState(), False
         # Whether it is over, and on purpose: its last command has ended.
@@ -84,15 +85,14 @@ class WindowHost:
         common.see_to(self.last)
         self.subscription = HostSubscription(f"{asked.dir}/panes", self.loop, self.hear, self.lost, self.tell, peer)
         # The process whose end is the window's: who listens there, where it isn't named.
-        self.server = asked.server or self.subscription.server or None
-        self.server_began = begun(self.server) if self.server else None
+        server = asked.server or self.subscription.server
+        if server and self.server() != server:
+            self.state.processes[SERVER] = server, begun(server)
         if asked.again and not asked.window:
             common.socket.await_terminals()
         self.channel = WindowChannel(common.socket, asked.window, self.look_at_fronts)
         common.socket.listen(asked.common)
         self.channel.handed.rect_of, self.channel.handed.folder_beside = self.rect_of, self.folder_beside
-        # What runs in front in panes, as far as that was looked up.
-        self.in_front: dict[int, str] = {}
         self.fronts = Fronts(self.loop, self.tell_front, f"window {asked.window} " if asked.window else "")
         common.windows[asked.window] = self
         if not asked.window:
@@ -112,9 +112,9 @@ class WindowHost:
         if not is_known:
             self.take_other(words, line)
         elif words[0] == "focus":
-            before, self.focus, self.is_again = self.focus, int(words[1]), False
+            before, self.state.focus, self.is_again = self.state.focus, int(words[1]), False
             self.report_focus(before)
-            self.history = [self.focus] + [pane for pane in self.history if pane != self.focus]
+            self.state.history = [self.state.focus] + [pane for pane in self.state.history if pane != self.state.focus]
             # The focus is told behind all panes.
             for number in self.untold & self.panes.keys():
                 self.drop(number)
@@ -134,22 +134,22 @@ class WindowHost:
         """Types the answer to what a pane's program asks of its terminal, where its host knows one."""
         query = query_in(line)
         pane = self.panes.get(query.pane) if query else None
-        if query and pane and pane.generation == query.generation and pane.is_typed_into():
-            pane.type(query.answer(self.common.socket.colours, holds_frames(self.server)))
+        if query and pane and pane.state.generation == query.generation and pane.is_typed_into():
+            pane.type(query.answer(self.common.socket.colours, holds_frames(self.server())))
 
     def report_focus(self, before: int) -> None:
         """Reports to the programs of the pane that had the focus before, and of that which has it now, that it went, where they asked for
         that."""
-        for number, report in ((before, FOCUS_OUT), (self.focus, FOCUS_IN)):
+        for number, report in ((before, FOCUS_OUT), (self.state.focus, FOCUS_IN)):
             pane = self.panes.get(number)
-            if before != self.focus and pane and pane.is_typed_into() and self.panes_state.has_set(number, FOCUS):
+            if before != self.state.focus and pane and pane.is_typed_into() and self.panes_state.has_set(number, FOCUS):
                 pane.type(report)
 
     def there_is(self, number: int, rect: Rect, generation: int) -> None:
         """Makes, moves or sizes a pane."""
         pane, size = self.panes.get(number), self.awaited_size((rect.rows, rect.cols))
         self.untold.discard(number)
-        if pane and pane.generation == generation:
+        if pane and pane.state.generation == generation:
             self.channel.handed.moved(number, rect)
             pane.resize(size)
             self.rows.resize(self.key(number), size)
@@ -157,16 +157,16 @@ class WindowHost:
             folder, begins = self.folder_of_new(), self.handed_to(rect)
             self.drop(number)
             typed = TypedQueue(self.common.socket.uploads.texts, lambda: self.panes_state.has_set(number, BRACKETED))
-            self.panes[number] = PaneCommand(self.asked, self.loop, number, generation, size, self.is_again,
-                                              begins and begins.folder or folder, typed)
-            self.panes[number].command = begins.command() if begins else []
-            self.panes[number].follows, self.panes[number].pane_environment = self.follow_now, self.common.socket.pane_environment
-            self.panes[number].gives_up = functools.partial(self.give_up, self.panes[number])
-            self.panes[number].touches = functools.partial(self.note, self.panes[number])
+            state = PaneState(number=number, generation=generation, size=size, folder=begins and begins.folder or folder,
+                              command=begins.command() if begins else [])
+            self.state.panes[number] = state
+            pane = self.panes[number] = PaneCommand(self.asked, self.loop, state, self.is_again, typed)
+            pane.follows, pane.pane_environment = self.follow_now, self.common.socket.pane_environment
+            pane.gives_up, pane.touches = functools.partial(self.give_up, pane), functools.partial(self.note, pane)
             key = self.key(number)
             self.rows.begin(key, generation, size)
-            self.panes[number].keeps, self.panes[number].hears = lambda data: self.rows.feed(key, data), self.rows.hears
-            self.begin(self.panes[number])
+            pane.keeps, pane.hears = lambda data: self.rows.feed(key, data), self.rows.hears
+            self.begin(pane)
 
     def awaited_size(self, told: Size) -> Size:
         """The size of a pane that is told: while another is awaited that, which is so no more once it is told."""
@@ -192,13 +192,13 @@ class WindowHost:
 
     def folder_beside(self, number: int) -> str:
         """Where the program in front in a pane works, or in that in focus for 0."""
-        pane = self.panes.get(number or self.focus)
+        pane = self.panes.get(number or self.state.focus)
         return working_folder([*(pane.in_front() if pane else []), self.asked.server])
 
     def rect_of(self, number: int, generation: int) -> Rect | None:
         """Where that making of a pane is; None where it isn't there."""
         pane = self.panes.get(number)
-        return self.panes_state.rects.get(number) if pane and pane.generation == generation else None
+        return self.panes_state.rects.get(number) if pane and pane.state.generation == generation else None
 
     def handed_to(self, rect: Rect) -> Begins | None:
         """What a new pane begins with, where that was handed over for it."""
@@ -239,22 +239,23 @@ class WindowHost:
     def drop(self, number: int) -> None:
         """Hangs up the programs of a pane that is gone."""
         pane = self.panes.pop(number, None)
-        self.history = [other for other in self.history if other != number]
+        self.state.history = [other for other in self.state.history if other != number]
         if pane:
-            self.channel.tell_keypad(number, False)
+            del self.state.panes[number]
+            if pane.state.has_application_keypad != pane.keypad.is_news:
+                self.channel.tell_keypad(number, False)
             self.fronts.drop(number)
-            self.in_front.pop(number, None)
             self.rows.drop(self.key(number))
             pane.hang_up()
-            self.common.hung += [pane.process] if pane.process is not None and pane.runs() else []
+            self.common.hung += pane.running()
 
     def give_up(self, pane: PaneCommand) -> None:
         """End the programs of a pane after too many exceptions, and close it. The only pane of a window stays and shows a line instead."""
-        if self.panes.get(pane.number) is not pane:
+        if self.panes.get(pane.state.number) is not pane:
             return
-        self.common.hung += [pane.process] if pane.process is not None and pane.runs() else []
+        self.common.hung += pane.running()
         pane.give_up()
-        pane.has_ended = self.asked.close and len(self.panes) > 1
+        pane.state.has_ended = self.asked.close and len(self.panes) > 1
         self.note(pane)
 
     def hear(self, lines: list[str]) -> None:
@@ -282,7 +283,12 @@ class WindowHost:
 
     def has_server(self) -> bool:
         """Whether the server's process runs; where it isn't known somebody has to be at its socket."""
-        return is_running(self.server, self.server_began) if self.server else not self.subscription.is_gone
+        noted = self.state.processes.get(SERVER)
+        return is_running(*noted) if noted else not self.subscription.is_gone
+
+    def server(self) -> int | None:
+        """Return the server's process, None if it is unknown."""
+        return self.state.processes[SERVER][0] if SERVER in self.state.processes else None
 
     def goes_on(self) -> None:
         """Sees to it that the session ends with the server; where it can't be followed from the start a pane says so."""
@@ -302,12 +308,12 @@ class WindowHost:
     def reap(self) -> None:
         """Takes note of commands that ended."""
         for pane in self.panes.values():
-            if pane.process is not None and pane.runs() and has_ended(pane.process):
+            if any(map(has_ended, pane.running())):
                 pane.ends(b"" if self.asked.close else ENDED)
 
     def done(self) -> list[PaneCommand]:
         """The panes whose command has ended, and whose last words are written."""
-        return [pane for pane in self.panes.values() if pane.has_ended and pane.terminal is None and not pane.to_pane]
+        return [pane for pane in self.panes.values() if pane.state.has_ended and pane.terminal is None and not pane.to_pane]
 
     def close_ended(self) -> None:
         """Has panes closed whose commands have ended; the last one's end is the session's."""
@@ -315,7 +321,7 @@ class WindowHost:
         if done and len(self.panes) == 1:
             self.is_over = self.is_meant = True
             if self.asked.server and not self.asked.window:
-                note_end(self.asked.common, self.asked.server, self.server_began)
+                note_end(self.asked.common, *self.state.processes[SERVER])
                 with contextlib.suppress(ProcessLookupError):
                     os.kill(self.asked.server, signal.SIGTERM)
             return
@@ -327,9 +333,9 @@ class WindowHost:
 
     def close_line(self, pane: PaneCommand) -> str:
         """The line that closes a pane, and where the focus goes if it has it: to the pane that had it before, of those that stay."""
-        others = [number for number in self.history if number in self.panes and not self.panes[number].has_ended]
-        heir = f" {others[0]}" if pane.number == self.focus and others else ""
-        return f"close {pane.number} {pane.generation}{heir}"
+        others = [number for number in self.state.history if number in self.panes and not self.panes[number].state.has_ended]
+        heir = f" {others[0]}" if pane.state.number == self.state.focus and others else ""
+        return f"close {pane.state.number} {pane.state.generation}{heir}"
 
     def last(self) -> None:
         """Sees to what has to last of the folder."""
@@ -348,7 +354,7 @@ class WindowHost:
 
     def note(self, pane: PaneCommand) -> None:
         """Note that a pane has news; `tend` handles it before the next wait."""
-        self.touched[pane.number] = pane
+        self.touched[pane.state.number] = pane
         self.loop.soon(self.tend)
 
     def listen_again(self) -> None:
@@ -374,8 +380,7 @@ class WindowHost:
         """Sees to what is new of the panes."""
         touched, self.touched = self.touched, {}
         for pane in touched.values():
-            if self.panes.get(pane.number) is pane:
-                self.channel.tell_keypad(pane.number, pane.keypad.is_application)
+            if self.panes.get(pane.state.number) is pane:
                 self.touch(pane)
         if self.asked.close and not self.is_over and self.is_followed():
             self.close_ended()
@@ -384,11 +389,11 @@ class WindowHost:
     def look(self, pane: PaneCommand) -> None:
         """Tells of a pane whose programs have written for a while what the server doesn't read."""
         if pane.is_unread():
-            self.tell(UNREAD.format(f"pane {pane.number}"))
+            self.tell(UNREAD.format(f"pane {pane.state.number}"))
 
     def tell_front(self, number: int, generation: int, name: str) -> None:
         """Tells what runs in front in that making of a pane."""
-        self.in_front[number] = name
+        self.state.panes[number].program = name
         self.channel.tell_command(number, generation, name)
         self.loop.soon(self.tend)
 
@@ -401,6 +406,9 @@ class WindowHost:
     def touch(self, pane: PaneCommand) -> None:
         """Has it looked up what runs in front in a pane where something was typed or written, while somebody wants to know."""
         self.has_news, pane.has_news = self.has_news or pane.has_news, False
+        if pane.keypad.is_news:
+            pane.keypad.is_news = False
+            self.channel.tell_keypad(pane.state.number, pane.state.has_application_keypad)
         if pane.is_touched:
             pane.is_touched, self.fronts.is_wanted = False, self.channel.has_asked_commands() or self.common.socket.has_asked_windows()
             self.fronts.touched(pane)

@@ -6,7 +6,7 @@ from collections.abc import Callable
 from roam_live.host.pending_spawns import HandedCommands
 from roam_live.host.socket_server import COMMANDS
 from roam_live.protocol.host_lines import SESSION
-from roam_live.protocol.zoom_record import OVER, NotedZoom
+from roam_live.protocol.zoom_record import OVER
 
 TYPE_CHECKING = False
 if TYPE_CHECKING:
@@ -28,14 +28,13 @@ class WindowChannel:
 
     def __init__(self, socket: HostSocket, window: int = SESSION, asked_commands: Callable[[], object] = lambda: None) -> None:
         self.socket, self.loop, self.window, self.asked_commands = socket, socket.loop, window, asked_commands
+        self.state = socket.state.window(window)
         self.peers: list[HostPeer] = []
         # Commands for new panes.
         self.handed = HandedCommands(self.loop, lambda peer, line: socket.send(peer, [line], SESSION))
-        # The notice that each terminal gets when it comes, and the panes whose programs asked for application codes of the keypad.
+        # The notice that each terminal gets when it comes.
         self.standing = ""
-        self.keypads: set[int] = set()
-        # What is noted of a zoom of this window.
-        self.zoom = NotedZoom()
+        self.zoom = self.state.zoom
         socket.add(self)
 
     # ---- who is here
@@ -72,7 +71,8 @@ class WindowChannel:
         if self.socket.lines:
             self.socket.lines.comes(self.window)
         notices = [notice_line(self.standing)] if self.standing else []
-        self.send(peer, [f"keypad {pane} application" for pane in sorted(self.keypads)] + notices)
+        keypads = [pane for pane, state in sorted(self.state.panes.items()) if state.has_application_keypad]
+        self.send(peer, [f"keypad {pane} application" for pane in keypads] + notices)
 
     def has_terminals(self) -> bool:
         """Whether a terminal is here."""
@@ -128,10 +128,8 @@ class WindowChannel:
         self.tell_terminals(notice_line(text))
 
     def tell_keypad(self, pane: int, is_application: bool) -> None:
-        """Report the mode of a pane's keypad to each terminal, if it has changed."""
-        if is_application != (pane in self.keypads):
-            self.keypads ^= {pane}
-            self.tell_terminals(f"keypad {pane} {'application' if is_application else 'numeric'}")
+        """Report the mode of a pane's keypad to each terminal."""
+        self.tell_terminals(f"keypad {pane} {'application' if is_application else 'numeric'}")
 
     def tell_terminals(self, line: str) -> None:
         """Send a line to each terminal."""

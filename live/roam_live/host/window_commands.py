@@ -18,9 +18,6 @@ if TYPE_CHECKING:
     class WindowTable(Protocol):
         """Who has the windows of a session."""
 
-        # The window where somebody was last; 0 if that is unknown.
-        last: int
-
         def named(self) -> dict[int, str]:
             """The windows that are there, and their names."""
 

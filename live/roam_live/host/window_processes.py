@@ -20,6 +20,7 @@ TYPE_CHECKING = False
 if TYPE_CHECKING:
     from typing import NoReturn
 
+    from roam_live.host.state import WindowState
     from roam_live.session.processes import State
 
 # The roles of a window's processes.
@@ -38,12 +39,12 @@ def remove_folder(folder: str) -> None:
 
 
 class WindowProcesses:
-    """The processes of one window, and what is noted of them."""
+    """The processes of one window, and their notes in its folder."""
 
-    def __init__(self, common: str, number: int) -> None:
-        self.common, self.number = common, number
-        self.folder = window_folder(common, number)
-        self.noted: dict[str, tuple[int, int | None]] = {}
+    def __init__(self, common: str, state: WindowState) -> None:
+        self.common, self.number = common, state.number
+        self.folder = window_folder(common, state.number)
+        self.state, self.noted = state, state.processes
 
     def path(self, name: str) -> str:
         """The path of what lies in the window's folder."""
@@ -103,17 +104,14 @@ class WindowProcesses:
         """Whether it only stands ready."""
         return os.path.exists(self.path(SPARE))
 
-    def name(self) -> str:
-        """What the window is called, as was noted."""
-        try:
-            with open(self.path("name"), encoding="utf-8") as file:
-                return name_in(file.read(MOST_NAME).strip() or NO_NAME) or ""
-        except (OSError, ValueError):
-            return ""
+    def read_name(self) -> None:
+        """Reads what the window is called, as was noted."""
+        with contextlib.suppress(OSError, ValueError), open(self.path("name"), encoding="utf-8") as file:
+            self.state.name = name_in(file.read(MOST_NAME).strip() or NO_NAME) or ""
 
-    def note_name(self, name: str) -> None:
+    def note_name(self) -> None:
         """Notes what the window is called."""
-        replace_text(self.path("name"), f"{name_word(name)}\n")
+        replace_text(self.path("name"), f"{name_word(self.state.name)}\n")
 
     # ---- what is spawned
 

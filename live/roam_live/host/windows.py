@@ -15,6 +15,7 @@ from roam_live.host.hosted_window import ENDING, OPENING, OPENS, THERE, HostedWi
 from roam_live.host.options import Options
 from roam_live.host.repair import Mending
 from roam_live.host.scrollback import pane_of_key
+from roam_live.host.state import WindowState
 from roam_live.host.window import WindowHost
 from roam_live.host.window_commands import WindowLines
 from roam_live.host.window_processes import CLIENT, SERVER, WindowProcesses
@@ -53,8 +54,8 @@ class Windows:
     def __init__(self, asked: Options, common: Common) -> None:
         self.asked, self.common, self.loop = asked, common, common.loop
         self.folder = windows_folder(asked.common)
+        self.state = common.state
         self.windows: dict[int, HostedWindow] = {}
-        self.last = 0
         # Why there is no first window.
         self.refusal = ""
         # A server that stands ready for the next window, and when it was spawned: it has no client, so it sleeps, and is told nowhere.
@@ -78,7 +79,7 @@ class Windows:
 
     def named(self) -> dict[int, str]:
         """The windows that are there, and their names."""
-        return {number: one.name for number, one in self.windows.items() if one.state == THERE}
+        return {number: one.state.name for number, one in self.windows.items() if one.stage == THERE}
 
     def open(self, size: Size | None, beside: int, told: Callable[[int, str], object], begins: Begins | None = None) -> None:
         """Opens a window, of a size where one is named, asked for at another, that begins as is asked; told with its number, or with 0 and
@@ -87,13 +88,17 @@ class Windows:
         if not number or self.common.is_over:
             told(0, OVER if number else FULL)
             return
-        processes = self.taken_spare(number) or WindowProcesses(self.asked.common, number)
-        window = HostedWindow(number, processes, told)
+        window = self.add(self.taken_spare(number) or WindowProcesses(self.asked.common, WindowState(number=number)), told)
         window.has_client = size is not None
         window.size = (max(size[0], LEAST[0]), max(size[1], LEAST[1])) if size else None
         window.begins, window.begins_in = begins, begins and begins.folder or self.folder_beside(beside)
-        self.windows[number] = window
         self.begin(window)
+
+    def add(self, processes: WindowProcesses, told: Callable[[int, str], object]) -> HostedWindow:
+        """Have a window, of which a call is told once it is there."""
+        window = self.windows[processes.number] = HostedWindow(processes, told)
+        self.state.windows[processes.number] = processes.state
+        return window
 
     # ---- what stands ready
 
@@ -110,7 +115,7 @@ class Windows:
         number = self.free_number()
         if self.spare or not number or self.common.is_over or not self.lines.has_asked():
             return
-        spare = WindowProcesses(self.asked.common, number)
+        spare = WindowProcesses(self.asked.common, WindowState(number=number))
         try:
             spare.make_folder()
             spare.mark_spare(True)
@@ -144,23 +149,22 @@ class Windows:
         """Ends what stands ready, as a window is."""
         if self.spare:
             spare, self.spare = self.spare, None
-            self.windows[spare.number] = HostedWindow(spare.number, spare, lambda number, why: None)
-            self.end(self.windows[spare.number], is_meant=True)
+            self.end(self.add(spare, lambda number, why: None), is_meant=True)
 
     def folder_beside(self, number: int) -> str:
         """Where the first command of a window begins: where the program in front in the pane in focus of another is."""
         host = self.windows[number].host if number in self.windows else None
-        pane = host.panes.get(host.focus) if host else None
+        pane = host.panes.get(host.state.focus) if host else None
         return working_folder(pane.in_front()) if pane else ""
 
     def rename(self, number: int, name: str) -> bool:
         """Gives a window a name; whether it is there."""
         window = self.windows.get(number)
-        if not window or window.state != THERE:
+        if not window or window.stage != THERE:
             return False
-        window.name = name
+        window.state.name = name
         try:
-            window.processes.note_name(name)
+            window.processes.note_name()
         except OSError as fault:
             say(f"window {number}: its name isn't noted: {reason(fault)}")
         self.lines.tell_window(number)
@@ -169,7 +173,7 @@ class Windows:
     def shut(self, number: int) -> bool:
         """Ends a window; whether it is there."""
         window = self.windows.get(number)
-        if not window or window.state != THERE:
+        if not window or window.stage != THERE:
             return False
         self.end(window, is_meant=True)
         return True
@@ -180,12 +184,12 @@ class Windows:
         for window in self.windows.values():
             if window.host:
                 window.host.look_at_fronts()
-        return {number: one.runs for number, one in sorted(self.windows.items()) if one.runs and one.state == THERE}
+        return {number: one.state.program for number, one in sorted(self.windows.items()) if one.state.program and one.stage == THERE}
 
     def came(self, number: int) -> None:
         """Takes note that a terminal is at a window now: who attaches without naming one goes there."""
-        if number != self.last:
-            self.last = number
+        if number != self.state.last_window:
+            self.state.last_window = number
             with contextlib.suppress(OSError):
                 self.note_last()
 
@@ -193,7 +197,7 @@ class Windows:
         """Notes at which window somebody was last."""
         new = os.path.join(self.folder, f"last.{os.getpid()}")
         with open(new, "w", encoding="ascii") as file:
-            file.write(f"{self.last}\n")
+            file.write(f"{self.state.last_window}\n")
         os.replace(new, os.path.join(self.folder, "last"))
 
     # ---- how one is begun
@@ -201,20 +205,20 @@ class Windows:
     def take_over(self) -> None:
         """Goes on with the windows of a host that has ended, of which the servers run; what others left is removed."""
         for number in numbers_in(self.folder):
-            processes = WindowProcesses(self.asked.common, number)
+            processes = WindowProcesses(self.asked.common, WindowState(number=number))
             processes.find()
             if not processes.runs(SERVER) or processes.is_spare():
                 processes.end(signal.SIGKILL)
                 processes.clean()
                 continue
-            window = self.windows[number] = HostedWindow(number, processes, self.taken)
+            window = self.add(processes, self.taken)
             window.is_again, window.has_client = True, False
             self.common.socket.await_terminals()
             self.await_(window, OPENS)
 
     def await_first(self) -> None:
         """Goes on with the first window, whose server somebody else is about to spawn."""
-        window = self.windows[1] = HostedWindow(1, WindowProcesses(self.asked.common, 1), self.first)
+        window = self.add(WindowProcesses(self.asked.common, WindowState(number=1)), self.first)
         window.has_client, window.is_given = False, True
         self.await_(window, OPENS)
 
@@ -241,7 +245,7 @@ class Windows:
 
     def step(self, window: HostedWindow) -> None:
         """Does the next steps of a window that is about to be there."""
-        if window.state != OPENING:
+        if window.stage != OPENING:
             return
         processes = window.processes
         if window.is_given:
@@ -311,7 +315,7 @@ class Windows:
 
     def opened(self, window: HostedWindow) -> None:
         """Tells of a window that is there."""
-        window.state = THERE
+        window.stage = THERE
         if window.host and window.host.awaited:
             self.loop.later(f"window {window.number} has its size", OPENS, window.host.await_no_more)
         if window.host:
@@ -334,8 +338,8 @@ class Windows:
 
     def end(self, window: HostedWindow, is_meant: bool) -> None:
         """Ends a window: its programs are hung up, and its server and start ended, by force where they don't end in time."""
-        was_there = window.state == THERE
-        window.state = ENDING
+        was_there = window.stage == THERE
+        window.stage = ENDING
         for moment in (f"window {window.number} begins", f"news of window {window.number}"):
             self.loop.drop(moment)
         if is_meant and window.processes.server():
@@ -363,13 +367,13 @@ class Windows:
         if window.host:
             window.host.close()
         processes.clean()
-        del self.windows[window.number]
+        del self.windows[window.number], self.state.windows[window.number]
         self.common.is_over = self.common.is_over or not self.windows
 
     def end_all(self) -> None:
         """Ends all windows, and waits for that, no longer than they have."""
         self.end_spare()
-        for window in [one for one in self.windows.values() if one.state != ENDING]:
+        for window in [one for one in self.windows.values() if one.stage != ENDING]:
             self.end(window, is_meant=True)
         end = self.loop.clock() + ALL_END
         while self.windows and self.loop.clock() < end:
@@ -388,15 +392,15 @@ class Windows:
     def tell_news(self, window: HostedWindow) -> None:
         """Tells what is new in a window: that panes rang, that something was written where nobody is, and that it is over."""
         host, now = window.host, self.loop.clock()
-        if not host or window.state != THERE:
+        if not host or window.stage != THERE:
             return
         for pane in sorted(host.rung):
             self.lines.tell(f"{BELL} {window.number} {pane}")
         host.rung.clear()
-        runs = host.in_front.get(host.focus, window.runs)
-        if runs != window.runs:
-            window.runs = runs
-            self.lines.tell(f"{RUNS} {window.number} {runs}")
+        state, in_focus = window.state, window.state.panes.get(window.state.focus)
+        if in_focus and in_focus.program not in ("", state.program):
+            state.program = in_focus.program
+            self.lines.tell(f"{RUNS} {window.number} {state.program}")
         if host.has_news and window.has_terminals():
             # Whoever is there saw it.
             host.has_news = False

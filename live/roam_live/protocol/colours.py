@@ -54,8 +54,8 @@ def begun_at(text: str) -> int | None:
 class Colours:
     """The colours that the terminal has which told its own last, as lines tell them: `colour foreground R/G/B`."""
 
-    def __init__(self) -> None:
-        self.known: dict[str, str] = {}
+    def __init__(self, known: dict[str, str] | None = None) -> None:
+        self.known = {} if known is None else known
 
     def take(self, line: str) -> bool:
         """Takes a line, and tells whether it is such a one."""

@@ -18,6 +18,22 @@ DROPPED_BUT_ESCAPE = re.compile(r"[\x00-\x08\x0a-\x0c\x0e-\x1a\x1c-\x1f\x7f-\x9f
 # MOST_TEXTS texts wait at the pty host at most, with MOST_BYTES together.
 MOST_TEXTS = 64
 
+# What became of so many texts that don't wait any more is known.
+MOST_SPENT = 1024
+
+# The last MOST_BUFFERS texts that were copied are buffers, of MOST_BUFFER bytes each; MOST_COMING bytes of others may come at once. SAMPLE
+# characters of each are listed.
+MOST_BUFFERS = 20
+MOST_BUFFER = 1 << 20
+MOST_COMING = 4 << 20
+SAMPLE = 40
+BUFFER_TOO_LONG = f"a buffer has {MOST_BUFFER >> 20} MB at most"
+BUFFER_EMPTY = "a buffer has a character at least"
+BUFFERS_TOO_MANY = "too many buffers come at once"
+BUFFER_READ_ONLY = "who watches has no buffer kept"
+BUFFER_UNKNOWN = "no buffer has this number"
+BUFFER_NOTHING = "nothing of that buffer can be typed"
+
 # What is told of a text: that it waits, that it was put at its placeholder, or that it isn't known, as one that waited for too long.
 STORED, INSERTED, LOST = "stored", "inserted", "lost"
 

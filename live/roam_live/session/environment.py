@@ -73,8 +73,8 @@ def value_lines(word: str, values: dict[str, str]) -> list[str]:
 class PaneEnvironment:
     """The values that new panes have: those that were brought last, and what this process's environment has of those that never were."""
 
-    def __init__(self) -> None:
-        self.values = own_values()
+    def __init__(self, values: dict[str, str] | None = None) -> None:
+        self.values = own_values() if values is None else values
 
     def take(self, line: str, leads: str = ENVIRONMENT) -> bool:
         """Takes the value that a line tells behind a word, and tells whether it is such a line."""

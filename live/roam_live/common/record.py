@@ -1,0 +1,212 @@
+"""Records: values with named fields that can be written as JSON and read back. The reader of each field refuses what is no value of it.
+
+They are used like classes of the standard module `dataclasses`, which takes a pty host longer to load than everything that it knows.
+"""
+from __future__ import annotations
+
+import base64
+import json
+from collections.abc import Callable
+
+from roam_live.common.errors import Fault
+
+TYPE_CHECKING = False
+if TYPE_CHECKING:
+    from typing import Any
+
+    # Returns what a value of JSON stands for; Malformed if it is none. A path names it.
+    Reads = Callable[[Any, str], Any]
+
+
+class Malformed(Fault):
+    """What was read is no such record: the path of the value, and what is wrong with it."""
+
+
+def demand(holds: object, path: str, wrong: str) -> None:
+    """Raise Malformed unless something holds."""
+    if not holds:
+        raise Malformed(f"{path}: {wrong}")
+
+
+# ---- records
+
+class StateField:
+    """A field of a record: its reader, and what makes its first value, None if it has to be given."""
+
+    def __init__(self, reads: Reads, makes: Callable[[], object] | None) -> None:
+        self.reads, self.makes = reads, makes
+
+
+def field(reads: Reads, makes: Callable[[], object] | None = None) -> Any:
+    """Declare a field of a record."""
+    return StateField(reads, makes)
+
+
+def nothing() -> None:
+    """Return None, the first value of a field that may be unknown."""
+
+
+class StateRecord:
+    """A value whose fields are those that its class declares with `field`. Other attributes are not written."""
+
+    fields: dict[str, StateField] = {}
+
+    def __init_subclass__(cls) -> None:
+        cls.fields = {name: one for name, one in vars(cls).items() if isinstance(one, StateField)}
+
+    def __init__(self, **values: Any) -> None:
+        wrong = [name for name in values if name not in self.fields]
+        wrong += [name for name, one in self.fields.items() if name not in values and not one.makes]
+        if wrong:
+            raise TypeError(f"{type(self).__name__}: missing or unknown fields: {', '.join(wrong)}")
+        for name, one in self.fields.items():
+            setattr(self, name, values[name] if name in values else one.makes and one.makes())
+
+    def __eq__(self, other: object) -> bool:
+        return type(self) is type(other) and all(getattr(self, name) == getattr(other, name) for name in self.fields)
+
+    def __repr__(self) -> str:
+        return f"{type(self).__name__}({', '.join(f'{name}={getattr(self, name)!r}' for name in self.fields)})"
+
+    def wrong(self) -> str:
+        """Return what is wrong with fields that are valid one by one; nothing if all is well."""
+        return ""
+
+
+# ---- readers
+
+def number_from(least: int, most: int) -> Reads:
+    """Return the reader of a whole number within bounds."""
+
+    def reads(value: Any, path: str) -> Any:
+        demand(type(value) is int and least <= value <= most, path, f"not a number from {least} to {most}")
+        return value
+
+    return reads
+
+
+def flag(value: Any, path: str) -> Any:
+    """Read true or false."""
+    demand(isinstance(value, bool), path, "not true or false")
+    return value
+
+
+def text_of(longest: int, is_valid: Callable[[str], object] = str.isprintable) -> Reads:
+    """Return the reader of a text of at most so many characters that passes a test."""
+
+    def reads(value: Any, path: str) -> Any:
+        is_text = isinstance(value, str) and len(value) <= longest
+        demand(is_text and is_valid(value), path, f"not a valid text of at most {longest} characters")
+        return value
+
+    return reads
+
+
+def bytes_of(most: int) -> Reads:
+    """Return the reader of at most so many bytes, in base64."""
+
+    def reads(value: Any, path: str) -> Any:
+        demand(isinstance(value, str) and len(value) <= (most + 2) // 3 * 4, path, f"not base64 of at most {most} bytes")
+        try:
+            found = bytearray(base64.b64decode(value, validate=True))
+        except ValueError:
+            found = None
+        demand(found is not None and len(found) <= most, path, f"not base64 of at most {most} bytes")
+        return found
+
+    return reads
+
+
+def optional(reads: Reads) -> Reads:
+    """Return the reader of what may be null."""
+    return lambda value, path: None if value is None else reads(value, path)
+
+
+def row_of(*readers: Reads) -> Reads:
+    """Return the reader of a tuple with a value for each of these readers."""
+
+    def reads(value: Any, path: str) -> Any:
+        demand(isinstance(value, list) and len(value) == len(readers), path, f"not a list of {len(readers)}")
+        return tuple(one(value[place], f"{path}.{place}") for place, one in enumerate(readers))
+
+    return reads
+
+
+def list_of(reads_one: Reads, least: int, most: int) -> Reads:
+    """Return the reader of a list of `least` to `most` values."""
+
+    def reads(value: Any, path: str) -> Any:
+        demand(isinstance(value, list) and least <= len(value) <= most, path, f"not a list of {least} to {most}")
+        return [reads_one(one, f"{path}.{place}") for place, one in enumerate(value)]
+
+    return reads
+
+
+def map_of(reads_key: Reads, reads_one: Reads, most: int) -> Reads:
+    """Return the reader of a mapping of at most so many keys, which are texts in JSON."""
+
+    def reads(value: Any, path: str) -> Any:
+        demand(isinstance(value, dict) and len(value) <= most, path, f"not a mapping of at most {most}")
+        return {reads_key(key, f"{path}.{key[:40]}"): reads_one(one, f"{path}.{key[:40]}") for key, one in value.items()}
+
+    return reads
+
+
+def decimal(reads_number: Reads) -> Reads:
+    """Return the reader of a key that is a number, in the form in which that is written."""
+
+    def reads(key: Any, path: str) -> Any:
+        is_number = key.isascii() and key.isdigit() and len(key) < 20 and str(int(key)) == key
+        return reads_number(int(key) if is_number else key, path)
+
+    return reads
+
+
+def one_of(*choices: object) -> Reads:
+    """Return the reader of one of these values."""
+
+    def reads(value: Any, path: str) -> Any:
+        demand(any(value == one and type(value) is type(one) for one in choices), path, f"not one of {', '.join(map(str, choices))}")
+        return value
+
+    return reads
+
+
+def record_of(cls: type[StateRecord]) -> Reads:
+    """Return the reader of a record: all its fields, and no others."""
+
+    def reads(value: Any, path: str) -> Any:
+        demand(isinstance(value, dict) and value.keys() == cls.fields.keys(), path, f"not the fields {', '.join(cls.fields)}")
+        made = cls(**{name: one.reads(value[name], f"{path}.{name}") for name, one in cls.fields.items()})
+        demand(not made.wrong(), path, made.wrong())
+        return made
+
+    return reads
+
+
+# ---- JSON
+
+def plain(value: Any) -> object:
+    """Return a value as JSON has it."""
+    if isinstance(value, StateRecord):
+        return {name: plain(getattr(value, name)) for name in value.fields}
+    if isinstance(value, dict):
+        return {str(key): plain(one) for key, one in value.items()}
+    if isinstance(value, (list, tuple)):
+        return [plain(one) for one in value]
+    return base64.b64encode(value).decode("ascii") if isinstance(value, (bytes, bytearray)) else value
+
+
+def written(value: StateRecord) -> str:
+    """Return a record as JSON."""
+    return json.dumps(plain(value))
+
+
+def read_back(cls: type[StateRecord], text: str, most: int) -> Any:
+    """Return the record that a text of at most so many characters is written for; Malformed if it is none."""
+    demand(len(text) <= most, cls.__name__, f"longer than {most} characters")
+    try:
+        value = json.loads(text)
+    except (ValueError, RecursionError):
+        raise Malformed(f"{cls.__name__}: not JSON") from None
+    return record_of(cls)(value, cls.__name__)
