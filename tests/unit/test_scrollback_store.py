@@ -3,7 +3,8 @@ import random
 import time
 import unittest
 
-from roam_live.host.scrollback_store import BESIDE, LOST_ROWS, LOST_SOME, Chunk, RowsRoom, ScrollbackRange, Search, all_of, characters
+from roam_live.host.scrollback_store import (BESIDE, HEADER, LOST_ROWS, LOST_SOME, MAGIC, Chunk, RowsRoom, ScrollbackRange, Search, all_of,
+                                              characters, packed, unpacked)
 
 
 def rows_of(*texts):
@@ -37,7 +38,7 @@ class Kept(unittest.TestCase):
             self.assertEqual(all_rows(rows), (4000, [f" {number}" for number in numbers[4000:]]))
 
     def test_joined(self):
-        """Small chunks are joined to larger ones, but to none that a snapshot holds, and no rows to a row that tells of a loss."""
+        """Small chunks are joined to larger ones, but to none that a snapshot holds."""
         room = RowsRoom(1000)
         rows = kept(room, *(["x" * 98] for _ in range(200)))
         self.assertEqual([len(chunk.data) // 100 for chunk in rows.chunks], [82, 82, 36])
@@ -46,7 +47,7 @@ class Kept(unittest.TestCase):
         rows.add(1, rows_of("b"))
         rows.lose(None)
         rows.add(1, rows_of("c"))
-        self.assertEqual([chunk.count for chunk in rows.chunks], [82, 82, 36, 2, 1, 1])
+        self.assertEqual([chunk.count for chunk in rows.chunks], [82, 82, 36, 4])
         self.assertEqual((snapshot.end, len(snapshot.rows(0, 999)[1])), (201, 201))
 
     def test_newest(self):
@@ -103,6 +104,20 @@ class Kept(unittest.TestCase):
         rows.clear()
         rows.lose(5)
         self.assertEqual(all_rows(rows), (4, [LOST_ROWS.format(5)[:-1]]))
+        rows.lose(6)
+        rows.clear()
+        self.assertEqual(all_rows(rows), (5, []))
+
+    def test_lost_seen(self):
+        """What was looked at stays as it is: rows that are lost later have a row of their own."""
+        rows = kept(RowsRoom(10), ["a"])
+        for looks in (rows.range, lambda: rows.newest(0), lambda: rows.room.snapshot(rows, 0, b"")):
+            before = all_rows(rows)[1]
+            rows.lose(3)
+            first = looks()
+            rows.lose(None)
+            self.assertEqual([row.decode() for row in first.rows(0, 99)[1]], [*before, LOST_ROWS.format(3)[:-1]])
+            self.assertEqual(all_rows(rows)[1], [*before, LOST_ROWS.format(3)[:-1], LOST_SOME[:-1]])
 
     def test_account(self):
         """What is counted is what is there, whatever is done."""
@@ -133,6 +148,61 @@ class Kept(unittest.TestCase):
             for rows in panes:
                 first, found = rows.range().rows(0, 99)
                 self.assertEqual((first, first + len(found)), (rows.first, rows.end))
+
+
+
+class Written(unittest.TestCase):
+    """Chunks as bytes."""
+
+    def setUp(self):
+        self.room = RowsRoom(1000)
+        self.panes = [kept(self.room, ["a", "+b"], ["x" * 9000], ["c"]), kept(self.room, ["\u4e2d"], pane=23)]
+        self.panes[0].snapshot = self.room.snapshot(self.panes[0], 0, b"")
+        self.panes[0].add(1, rows_of("d"))
+        self.panes[0].lose(7)
+        self.parts = [part for rows in self.panes for part in rows.written()]
+
+    def test_read(self):
+        """They come back as they were, in whatever order those of panes are mixed."""
+        one, two = [list(rows.written()) for rows in self.panes]
+        for parts in (self.parts, [*two, *one], [one[0], *two, *one[1:]]):
+            room = RowsRoom(1000)
+            self.assertEqual(room.read(b"".join(parts)), sum(map(len, parts)))
+            found = {rows.pane: rows for rows in room.panes}
+            self.assertEqual([all_rows(found[pane]) for pane in (1, 23)], [all_rows(rows) for rows in self.panes])
+            self.assertEqual([list(found[pane].written()) for pane in (1, 23)][1], two)
+            self.assertEqual((room.kept, len(found)), (sum(chunk.charge() for rows in room.panes for chunk in rows.chunks), 2))
+        self.assertIn(LOST_ROWS.format(7)[:-1].encode(), self.parts[2])
+
+    def test_header(self):
+        """A header tells whose rows follow, from which number on, how many rows and bytes, and is checked."""
+        part = packed(23, 2**64 - 1, Chunk(2**40, 2, b" a\n b\n"))
+        self.assertEqual(part[:-6][:-4] + part[-6:], HEADER.pack(MAGIC, 23, 2**64 - 1, 2**40, 2, 6, 0)[:-4] + b" a\n b\n")
+        pane, generation, chunk = unpacked(b"...." + part, 4)
+        self.assertEqual((pane, generation, chunk.first, chunk.count, chunk.data), (23, 2**64 - 1, 2**40, 2, b" a\n b\n"))
+        for place in range(len(part)):
+            self.assertIsNone(unpacked(part[:place] + bytes([part[place] ^ 4]) + part[place + 1 :], 0), place)
+        for count, data in ((1, b" a\n b\n"), (3, b" a\n b\n"), (1, b" a\n b"), (1, b" a")):
+            self.assertIsNone(unpacked(packed(1, 1, Chunk(0, count, data)), 0), data)
+
+    def test_torn(self):
+        """The last that is written may be torn anywhere: those before it are read, and where they end is told."""
+        whole, last = b"".join(self.parts[:-1]), self.parts[-1]
+        for cut in range(len(last)):
+            room = RowsRoom(1000)
+            self.assertEqual((room.read(whole + last[:cut]), [rows.pane for rows in room.panes]), (len(whole), [1]), cut)
+            self.assertEqual(all_rows(room.panes[0]), all_rows(self.panes[0]))
+        room.read(last)
+        self.assertEqual(all_rows(room.panes[1]), all_rows(self.panes[1]))
+
+    def test_others(self):
+        """Rows that are there already are passed over, and a gap ends those before it; no more are kept than may be."""
+        room = RowsRoom(3)
+        room.read(b"".join(packed(1, 1, Chunk(first, 2, rows_of(f"{first}", "x"))) for first in (0, 2, 0, 1)))
+        self.assertEqual(all_rows(room.panes[0]), (1, [" x", " 2", " x"]))
+        room.read(packed(1, 1, Chunk(9, 1, rows_of("9"))) + packed(1, 2, Chunk(5, 1, rows_of("5"))))
+        self.assertEqual([all_rows(rows) for rows in room.panes], [(9, [" 9"]), (5, [" 5"])])
+        self.assertEqual((room.read(b""), RowsRoom(3).read(b"x" * 99)), (0, 0))
 
 
 class Snapshots(unittest.TestCase):

@@ -344,10 +344,11 @@ class Scrollback:
             told = pane.awaited.popleft()
             if told:
                 told(self.room.snapshot(pane.rows, record.count, record.data))
+        if pane.logs or self.room.snapshots:
+            pane.rows.settle()
+            self.came()
         if pane.logs:
             self.logs_came(pane.rows)
-        if pane.logs or self.room.snapshots:
-            self.came()
 
     def add_rows(self, rows: PaneRows, record: ScrollbackRecord) -> None:
         """Keep rows. If memory is short, older ones are dropped and these are lost."""
@@ -363,7 +364,10 @@ class Scrollback:
         """A making of a pane, where its rows are kept."""
         found = [self.panes[number]] if number in self.panes else []
         found += [pane for pane in self.leaving if pane.rows.pane == number]
-        return next((pane for pane in found if pane.rows.generation == generation and not self.is_off), None)
+        pane = next((pane for pane in found if pane.rows.generation == generation and not self.is_off), None)
+        if pane:
+            pane.rows.settle()
+        return pane
 
     def ask_snapshot(self, number: int, generation: int, told: Told) -> None:
         """Asks for a snapshot, which is told once the scrollback process has told what stands on the screen; None where it can't be had

@@ -1,7 +1,12 @@
 """Rows scrolled off the screens of panes, as the scrollback process printed them: chunks, which are split into rows only where those are
-asked for, the newest of each pane, and no more than a limit in all."""
+asked for, the newest of each pane, and no more than a limit in all.
+
+Chunks are append-only: their bytes only become more, and no row is changed. As bytes each has a header that tells whose rows follow.
+"""
 from __future__ import annotations
 
+import binascii
+import struct
 from collections import deque
 from collections.abc import Callable, Iterable, Iterator
 
@@ -23,6 +28,28 @@ LOST_ROWS = " [{} rows of history are lost here]\n"
 LOST_SOME = " [rows of history are lost here]\n"
 
 
+# The header of a chunk as bytes: magic and version; the pane and its generation; the number of the first row; how many rows and bytes
+# follow; and the CRC-32 of all that and of these bytes.
+HEADER = struct.Struct(">4sHQQIII")
+MAGIC = b"RSC1"
+
+
+def packed(pane: int, generation: int, chunk: Chunk) -> bytes:
+    """Return a chunk of a pane's rows as bytes."""
+    words = MAGIC, pane, generation, chunk.first, chunk.count, len(chunk.data)
+    return HEADER.pack(*words, binascii.crc32(chunk.data, binascii.crc32(HEADER.pack(*words, 0)))) + chunk.data
+
+
+def unpacked(data: bytes, at: int) -> tuple[int, int, Chunk] | None:
+    """Return the pane, the generation and the rows of the chunk at a place of some bytes; None if none is there, or one that was torn."""
+    if len(data) < at + HEADER.size:
+        return None
+    magic, pane, generation, first, count, length, check = HEADER.unpack_from(data, at)
+    chunk = Chunk(first, count, data[at + HEADER.size : at + HEADER.size + length])
+    is_whole = magic == MAGIC and len(chunk.data) == length and packed(pane, generation, chunk) == data[at : at + HEADER.size + length]
+    return (pane, generation, chunk) if is_whole and chunk.data.count(b"\n") == count and chunk.data[-1:] in (b"", b"\n") else None
+
+
 class Chunk:
     """Rows that were printed at once: the number of the first, how many there are, their bytes, and its place among all chunks of a
     session; by how many snapshots it is held, and whether it is kept without them."""
@@ -30,7 +57,7 @@ class Chunk:
     __slots__ = ("first", "count", "data", "place", "holders", "is_kept")
 
     def __init__(self, first: int, count: int, data: bytes, place: int = 0) -> None:
-        self.first, self.count, self.data, self.place = first, count, data, place
+        self.first, self.count, self.data, self.place = first, count, bytearray(data), place
         self.holders, self.is_kept = 0, True
 
     def end(self) -> int:
@@ -84,38 +111,42 @@ class PaneRows:
         self.pane, self.generation, self.room = pane, generation, room
         self.first = self.end = 0
         self.chunks: deque[Chunk] = deque()
-        # How many rows are told to be lost by the last chunk, where it tells that; None where no number is known.
+        # How many rows are lost behind the last one, which no row tells yet; None if that is unknown.
         self.lost: int | None = 0
 
     def add(self, count: int, data: bytes) -> None:
         """Keeps rows that came."""
+        self.settle()
+        self.put(count, data)
+
+    def put(self, count: int, data: bytes) -> None:
+        """Append rows to the last chunk, or to a new one."""
         last = self.chunks[-1] if self.chunks else None
-        if last and len(last.data) < JOINED and not last.holders and self.lost == 0:
-            joined = last.data + data
-            last.data, last.count = joined, last.count + count
+        if last and len(last.data) < JOINED and not last.holders:
+            last.data += data
+            last.count += count
             self.room.charge(len(data))
         else:
-            self.put(count, data)
-        self.lost = 0
+            self.chunks.append(Chunk(self.end, count, data, self.room.next_place()))
+            self.room.charge(self.chunks[-1].charge())
         self.end += count
         self.keep_last()
 
-    def put(self, count: int, data: bytes) -> None:
-        """Has a chunk more."""
-        chunk = Chunk(self.end, count, data, self.room.next_place())
-        self.chunks.append(chunk)
-        self.room.charge(chunk.charge())
-
     def lose(self, count: int | None) -> None:
-        """Has a row say that rows are lost here, so many where that is known; one stands for all that are lost together."""
-        if self.lost != 0 and not self.chunks[-1].holders:
-            count = count + self.lost if count is not None and self.lost is not None else None
-            self.room.charge(-self.chunks.pop().charge())
-            self.end -= 1
-        text = LOST_SOME if count is None else LOST_ROWS.format(count)
-        self.put(1, text.encode())
-        self.end, self.lost = self.end + 1, count
-        self.keep_last()
+        """Note that rows are lost here, so many if that is known."""
+        self.lost = None if count is None or self.lost is None else self.lost + count
+
+    def settle(self) -> None:
+        """Append the row that tells how many rows are lost, if any are: one for all until others follow, or somebody looks."""
+        lost, self.lost = self.lost, 0
+        if lost != 0:
+            self.put(1, (LOST_SOME if lost is None else LOST_ROWS.format(lost)).encode())
+
+    def written(self) -> Iterator[bytes]:
+        """Yield the chunks as bytes."""
+        self.settle()
+        for chunk in self.chunks:
+            yield packed(self.pane, self.generation, chunk)
 
     def keep_last(self) -> None:
         """Keeps no more rows than may be, the last ones, and no more bytes in all."""
@@ -129,20 +160,21 @@ class PaneRows:
         chunk = self.chunks.popleft()
         self.first = max(self.first, chunk.end())
         self.room.let_go(chunk)
-        self.lost = self.lost if self.chunks else 0
 
     def clear(self) -> None:
         """Keeps none of the rows that came so far."""
         while self.chunks:
             self.drop_chunk()
-        self.first = self.end
+        self.first, self.lost = self.end, 0
 
     def range(self) -> ScrollbackRange:
         """What is kept now."""
+        self.settle()
         return ScrollbackRange(self.first, self.end, self.chunks)
 
     def newest(self, first: int) -> ScrollbackRange:
         """Return the scrollback rows from a number on, without a look at all older chunks."""
+        self.settle()
         found: deque[Chunk] = deque()
         for chunk in reversed(self.chunks):
             found.appendleft(chunk)
@@ -168,6 +200,24 @@ class RowsRoom:
         rows = PaneRows(pane, generation, self)
         self.panes.append(rows)
         return rows
+
+    def read(self, data: bytes) -> int:
+        """Keep rows that were written, and return where the last whole chunk ends: behind that one may have been torn while it was written.
+
+        Rows of a pane that others stand for already are passed over. A gap ends those before it.
+        """
+        at = 0
+        while found := unpacked(data, at):
+            pane, generation, chunk = found
+            known = next((one for one in self.panes if (one.pane, one.generation) == (pane, generation)), None)
+            rows = known or self.pane(pane, generation)
+            if chunk.first > rows.end:
+                rows.clear()
+                rows.first = rows.end = chunk.first
+            if chunk.first == rows.end:
+                rows.put(chunk.count, chunk.data)
+            at += HEADER.size + len(chunk.data)
+        return at
 
     def drop(self, rows: PaneRows) -> None:
         """Keeps nothing more of a pane that is gone."""
@@ -214,6 +264,7 @@ class RowsRoom:
 
     def snapshot(self, rows: PaneRows, count: int, screen: bytes) -> Snapshot:
         """A snapshot of a pane with the rows of its screen; too much that snapshots hold takes the oldest of them."""
+        rows.settle()
         made = Snapshot(rows, Chunk(rows.end, count, screen))
         made.screen.is_kept = False
         self.held += made.screen.charge()
