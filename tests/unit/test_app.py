@@ -204,7 +204,7 @@ class Loop(Fronts):
     def test_refused(self):
         """What a client refuses is told once the pause before another connection is one; a full one is told as such."""
         self.place.processes["client"] = 5
-        self.front.views.view.reconnector.faults = 1
+        self.front.views.view.reconnector.retry.faults = 1
         for text, told in ((record("refused", 3, words="bad act"), b"the client process refused a line: bad act"),
                            (b"full\n", b"no more terminals are taken: 16 are there")):
             client = self.connect()

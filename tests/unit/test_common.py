@@ -8,11 +8,12 @@ import socket
 from unittest import mock
 
 from aids import Case, read_now
-from roam_live.common import errors, event_loop, files as common_files, io, process as common_process, text as common_text, unix_socket
+from roam_live.common import (errors, event_loop, files as common_files, io, process as common_process, retry, text as common_text,
+                              unix_socket)
 from roam_live.common.errors import Fault
 from roam_live.common.event_loop import Loop
 from roam_live.config import environment
-from roam_live.protocol import client_link, datagram_stream, panes_client, server_address
+from roam_live.protocol import datagram_stream, panes_client, server_address
 from roam_live.protocol.server_address import Home
 from roam_live.relay import common, far, frames, near
 from roam_live.session import foreground, front_end_lock, host_watchdog, folder as session_folder, remote, tmp_keepalive
@@ -176,7 +177,7 @@ class Buffers(Case):
 
     def test_records(self):
         """A line is had once it is whole, and so are bytes; one that is longer than any is none, wherever it is cut."""
-        buffer = io.RecordBuffer(8)
+        buffer = io.LineReader(8)
         for byte in b"ab\n\xff\n12":
             buffer.kept.append(byte)
         self.assertEqual([buffer.line(), buffer.line(), buffer.line(), buffer.data(3)], [b"ab", b"\xff", None, None])
@@ -364,10 +365,10 @@ class Ends(Case):
     def test_lines(self):
         """Lines come whole, wherever they are cut."""
         for cut in range(26):
-            lines = io.Lines()
+            lines = io.LineReader()
             text = b"1 23 80 1\nfocus 1\n\xc3\xa9\xff\n2 "
             self.assertEqual(lines.fed(text[:cut]) + lines.fed(text[cut:]), ["1 23 80 1", "focus 1", "\u00e9\ufffd"], cut)
-        lines = io.Lines()
+        lines = io.LineReader()
         self.assertEqual((lines.fed(b"x" * 65535), lines.fed(b"\n")), ([], ["x" * 65535]))
         self.assertEqual((lines.fed(b"x" * 65536), lines.fed(b"y\nz\n")), ([], ["z"]))
         self.assertEqual((lines.fed(b"x" * 65535), lines.fed(b"y"), lines.fed(b"y" * 70000), lines.fed(b"\n\nz\n")),
@@ -557,8 +558,8 @@ class Numbers(Case):
     def test_pauses(self):
         """A client follows another after 0.1 s, a pty host after 0.3 s, and then after pauses that grow; a folder is used each six
         hours."""
-        self.assertEqual((client_link.PAUSES, panes_client.PAUSES), ((0.1, 1, 2, 4, 8, 15),) * 2)
-        self.assertEqual((host_watchdog.PAUSES, host_watchdog.SOUND, panes_client.QUIET), ((0.3, 1, 2, 4, 8, 15), 5.0, 3.0))
+        self.assertEqual(retry.PAUSES, (0.1, 1, 2, 4, 8, 15))
+        self.assertEqual((host_watchdog.PAUSES, retry.SOUND, panes_client.QUIET), ((0.3, 1, 2, 4, 8, 15), 5.0, 3.0))
         self.assertEqual((tmp_keepalive.USED_EACH, tmp_keepalive.LOOKS), (6 * 60 * 60, 60))
 
     def test_relay(self):

@@ -98,10 +98,10 @@ class Lines(unittest.TestCase):
 
     def test_bounded(self):
         """A line without an end isn't kept for good, and one behind it is read."""
-        lines = common_io.Lines()
+        lines = common_io.LineReader()
         for _ in range(40):
             self.assertEqual(lines.fed(b"x" * 4096), [])
-        self.assertLess(len(lines.rest), common_io.LONGEST_LINE)
+        self.assertLess(len(lines.kept), common_io.LONGEST_LINE)
         self.assertEqual(lines.fed(b"\nfocus 1\n")[-1], "focus 1")
 
 

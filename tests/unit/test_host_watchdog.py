@@ -5,7 +5,8 @@ from unittest import mock
 
 from aids import StillLoop
 from roam_live.common.errors import Fault
-from roam_live.session.host_watchdog import LOOKS, PAUSES, SOUND, STOPPED, HostWatchdog
+from roam_live.common.retry import SOUND
+from roam_live.session.host_watchdog import LOOKS, PAUSES, STOPPED, HostWatchdog
 
 
 class AnySession:

@@ -100,7 +100,7 @@ class Panes(Sockets):
         self.tell(b"\n" + LINES[:9])
         self.tell(LINES[9:] + b"bad line\n\xff\xfe\n")
         self.assertEqual(read_now(one), LINES)
-        self.assertLess(len(self.sockets.panes.following.lines.rest), 1 << 16)
+        self.assertLess(len(self.sockets.panes.following.lines.kept), 1 << 16)
 
     def test_lost(self):
         """Where the connection breaks those here end too; who comes waits, and is told what is so once it is there again."""

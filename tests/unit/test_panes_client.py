@@ -10,7 +10,8 @@ from unittest import mock
 
 from aids import StillLoop
 from roam_live.protocol.panes import Places, Rect
-from roam_live.protocol.panes_client import (AWAITED, LET_GO, NO_PANES, NO_PLACE, PAUSES, QUIET, TELLS_NOTHING, HostSubscription,
+from roam_live.common.retry import PAUSES
+from roam_live.protocol.panes_client import (AWAITED, LET_GO, NO_PANES, NO_PLACE, QUIET, TELLS_NOTHING, HostSubscription,
                                              PanesSubscriber)
 
 
@@ -280,7 +281,7 @@ class FrontEnds(Played):
         self.told(b"\n")
         self.assertEqual(self.clips[2:], [(long, "2 1")])
         self.told(b"x" * 70000)
-        self.assertLessEqual(len(self.panes.subscription.lines.rest), 131072 + 64)
+        self.assertLessEqual(len(self.panes.subscription.lines.kept), 131072 + 64)
         self.now += 6
         self.lose_again()
         self.loop.turns(1)

@@ -408,7 +408,7 @@ class Nears(Ends):
         self.near.drop(self.near.link)
         begun = []
         self.near.next_try = 0.0
-        self.near.try_count = 0
+        self.near.retry.faults = 0
         for _ in range(400):
             before = len(self.links)
             self.near.tend()
@@ -431,13 +431,13 @@ class Nears(Ends):
     def test_validated(self):
         """A link that was there for 5 s has the pauses begin anew."""
         self.answer()
-        self.near.try_count = 4
+        self.near.retry.faults = 4
         self.now += 5
         self.near.tend()
-        self.assertEqual(self.near.try_count, 4)
+        self.assertEqual(self.near.retry.faults, 4)
         self.now += 0.1
         self.near.tend()
-        self.assertEqual(self.near.try_count, 0)
+        self.assertEqual(self.near.retry.faults, 0)
 
     def test_lost(self):
         """A command that ends is followed by another; one that ends before it has ever answered ends what can't wait for it."""

@@ -10,6 +10,7 @@ from roam_live.cli.send import lines_in_pane
 from roam_live.cli.targets import Target, close_pane, pane_places, target_of, wants_brackets
 from roam_live.common.errors import Fault
 from roam_live.common.event_loop import ready
+from roam_live.protocol import panes
 from roam_live.protocol.display_records import screen_of
 from roam_live.protocol.panes import Places, Rect
 from roam_live.protocol.paste_text import INSERTED, MOST_BYTES, placeholder_acts
@@ -118,7 +119,7 @@ class Panes(Case):
         self.session.name = "main"
         self.listener = self.listening(self.session.folder / "panes")
         self.answers, self.server, self.asked = [], None, b""
-        self.patch_of(targets, "comes", self.comes)
+        self.patch_of(panes, "comes", self.comes)
 
     def comes(self, peer, seconds):
         """What the server tells while it is waited for."""
@@ -137,7 +138,7 @@ class Panes(Case):
     def test_closed(self):
         """A pane is closed by its life, and that is waited for."""
         self.answers = [b"1 1 1 2 3 7\n2 1 5 2 4 9\n", b"focus 1\nclients 1 of 64\n", b"watchers 0 of 16\n"]
-        with mock.patch.object(targets.AskedPanes, "hear_all", lambda asked: [asked.heard(1) for _ in range(3)]):
+        with mock.patch.object(targets.AskedPanes, "hear_all", lambda asked, *more: [asked.heard(1) for _ in range(3)]):
             self.answers += [b"modes 1 7\n", b"2 gone\nfocus 1\n"]
             close_pane(self.session, 2)
         self.assertEqual(self.asked, b"close 2 9\n")

@@ -9,7 +9,7 @@ from roam_live.cli.send import lines_in_pane, type_lines
 from roam_live.cli.targets import pane_places, wants_brackets
 from roam_live.common.errors import Fault
 from roam_live.common.event_loop import READ, WRITE, ready
-from roam_live.common.io import Lines, read, write
+from roam_live.common.io import LineReader, write
 from roam_live.common.text import printable
 from roam_live.common.unix_socket import connected_in
 from roam_live.input.keys import pasted_acts
@@ -33,7 +33,7 @@ class PasteClient:
     def __init__(self, session: SessionFolder) -> None:
         self.session = session
         self.peer = connected_in(session.common / "host", CONNECTS)
-        self.lines = Lines()
+        self.lines = LineReader()
         self.waiting = bytearray()
         self.name = random_name()
 
@@ -50,10 +50,10 @@ class PasteClient:
             if events & WRITE:
                 write(self.fileno(), self.waiting)
                 end = time.monotonic() + TAKES
-            chunk = read(self.fileno()) if events & READ else None
-            if chunk == b"":
+            heard = self.lines.read(self.fileno()) if events & READ else []
+            if heard is None:
                 return False
-            for line in (parted(one)[1] for one in self.lines.fed(chunk or b"")):
+            for line in (parted(one)[1] for one in heard):
                 if line == BAD_LINE:
                     return False
                 told, _, rest = line.partition(" ")

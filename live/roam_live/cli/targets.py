@@ -7,16 +7,12 @@ import time
 from collections import namedtuple
 
 from roam_live.common.errors import Fault
-from roam_live.common.event_loop import comes
-from roam_live.common.io import Lines, read
 from roam_live.common.unix_socket import connected_in
-from roam_live.protocol.panes import ASKED, BEHIND, BRACKETED, METADATA, PanesState
+from roam_live.protocol.panes import ASKED, BRACKETED, METADATA, AskedPanes
 from roam_live.session.foreground import own_pane
 
 TYPE_CHECKING = False
 if TYPE_CHECKING:
-    import socket
-
     from roam_live.protocol.panes import Places
     from roam_live.session.folder import SessionFolder
 
@@ -84,31 +80,6 @@ def pane_places(session: SessionFolder, pane: int) -> Places:
     if pane not in places.rects:
         raise Fault(f"session {session.name} has no pane {pane}")
     return places
-
-
-class AskedPanes:
-    """A connection to a session's `panes`, by which a command asks once."""
-
-    def __init__(self, peer: socket.socket) -> None:
-        self.peer, self.lines, self.told = peer, Lines(), PanesState()
-
-    def heard(self, seconds: float) -> list[str] | None:
-        """The lines that come in so many seconds, as soon as there are some; None where none comes any more."""
-        if not comes(self.peer, max(0.0, seconds)):
-            return []
-        chunk = read(self.peer.fileno())
-        if chunk == b"":
-            return None
-        lines = self.lines.fed(chunk or b"")
-        for line in lines:
-            self.told.take(line)
-        return lines
-
-    def hear_all(self) -> None:
-        """Hears what is told at first, and what comes right behind it."""
-        end = time.monotonic() + ASKED
-        while time.monotonic() < end and self.heard(end - time.monotonic()) is not None:
-            end = min(end, time.monotonic() + BEHIND) if self.told.places() else end
 
 
 def making_of(session: SessionFolder, pane: int) -> tuple[int, int]:

@@ -6,7 +6,7 @@ import time
 
 from roam_live.common.errors import Fault, reason
 from roam_live.common.event_loop import comes
-from roam_live.common.io import Lines, read
+from roam_live.common.io import LineReader
 from roam_live.common.text import printable
 from roam_live.common.unix_socket import connected_in
 from roam_live.protocol.host_lines import led, parted
@@ -44,7 +44,7 @@ class WindowsAsked:
     """A connection to the host, at the socket of one window."""
 
     def __init__(self, session: SessionFolder) -> None:
-        self.session, self.lines = session, Lines()
+        self.session, self.lines = session, LineReader()
         self.told: list[str] = []
         try:
             self.peer: socket.socket = connected_in(session.common / "host", CONNECTS)
@@ -71,10 +71,10 @@ class WindowsAsked:
                     return line.split(" ")
             if not comes(self.peer, max(0.0, end - time.monotonic())):
                 raise Fault(f"session {self.session.name}: the pty host doesn't answer")
-            chunk = read(self.peer.fileno())
-            if chunk == b"":
+            heard = self.lines.read(self.peer.fileno())
+            if heard is None:
                 raise Fault(f"session {self.session.name}: the pty host has ended")
-            self.told += [parted(line)[1] for line in self.lines.fed(chunk or b"")]
+            self.told += [parted(line)[1] for line in heard]
 
     def hand(self, beside: str, begins: Begins) -> str:
         """Hands over what a new pane or window begins with, beside that making of a pane or as a window, and tells its name; Fault where it

@@ -15,35 +15,17 @@ LONGEST_LINE = 1 << 16
 UNREAD_LIMIT = 1 << 16
 
 
-class Lines:
-    """Lines of a stream that comes in any chunks, none of them longer than that."""
-
-    def __init__(self, longest: int = LONGEST_LINE) -> None:
-        self.rest, self.longest = b"", longest
-        # True while the rest of a line that is too long is being skipped.
-        self.is_cut = False
-
-    def fed(self, chunk: bytes) -> list[str]:
-        """The lines that are whole now."""
-        lines = (self.rest + chunk).split(b"\n")
-        self.rest = lines.pop()
-        if self.is_cut and lines:
-            del lines[0]
-            self.is_cut = False
-        if self.is_cut or len(self.rest) >= self.longest:
-            self.rest, self.is_cut = b"", True
-        return [line.decode("utf-8", "replace") for line in lines if len(line) < self.longest]
-
-
 class LongLine(ValueError):
     """A line that is longer than any may be."""
 
 
-class RecordBuffer:
-    """What came of a stream of lines, some of which have counted bytes behind them. No line has `longest` bytes."""
+class LineReader:
+    """Takes apart a stream of lines that come in any chunks, some with counted bytes behind them. No line has `longest` bytes."""
 
     def __init__(self, longest: int = LONGEST_LINE) -> None:
         self.kept, self.longest = bytearray(), longest
+        # True while `fed` skips the rest of a line that is too long.
+        self.is_cut = False
 
     def line(self) -> bytes | None:
         """Remove and return the next line, None if none is whole; LongLine if it is longer than any may be."""
@@ -63,6 +45,21 @@ class RecordBuffer:
         data = bytes(self.kept[:count])
         del self.kept[:count]
         return data
+
+    def fed(self, chunk: bytes) -> list[str]:
+        """Return all lines that are whole now. One that is longer than any may be is skipped."""
+        *lines, rest = (self.kept + chunk).split(b"\n")
+        if self.is_cut and lines:
+            del lines[0]
+            self.is_cut = False
+        self.is_cut = self.is_cut or len(rest) >= self.longest
+        self.kept[:] = b"" if self.is_cut else rest
+        return [line.decode("utf-8", "replace") for line in lines if len(line) < self.longest]
+
+    def read(self, source: int) -> list[str] | None:
+        """Return the lines that came at a descriptor; None if nothing more will."""
+        chunk = read(source)
+        return None if chunk == b"" else self.fed(chunk or b"")
 
 
 class LinePeer:

@@ -200,7 +200,7 @@ class Connecting:
         self.loop.remove(self.views.link)
         said, wait = reconnector.lost(), reconnector.pause()
         self.loop.later("connect", wait, self.connect)
-        if reconnector.faults > 1:
+        if reconnector.retry.faults > 1:
             self.pause(said, wait)
 
     def probe(self) -> None:

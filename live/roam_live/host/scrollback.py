@@ -9,6 +9,7 @@ from collections.abc import Callable
 from roam_live.common.errors import Fault, reason
 from roam_live.common.event_loop import Loop
 from roam_live.common.process import program
+from roam_live.common.retry import Retry
 from roam_live.config.environment import DEFAULT_ROWS, chosen_history
 from roam_live.host.scrollback_process import (CLEARED, LEAST_SIZE, LOST, MOST_SIZE, MOST_TERMINALS, ROWS, ScrollbackProcess,
                                                ScrollbackRecord)
@@ -110,7 +111,7 @@ class Scrollback:
         # Whether the scrollback process is behind, so that no pane is read; and whether it was for too long, so that what is written is
         # lost.
         self.is_behind = self.is_losing = False
-        self.faults, self.since = 0, 0.0
+        self.retry = Retry(PAUSES, SOUND)
         self.is_off = self.room.most_rows == 0
         self.told, self.told_until = "", 0.0
         self.reserve = bytes(RESERVED)
@@ -141,12 +142,11 @@ class Scrollback:
             self.tell(NOT_RUN.format(reason(fault)))
             self.spawn_later()
             return
-        self.since = self.loop.clock()
+        self.retry.begins(self.loop.clock())
 
     def spawn_later(self) -> None:
         """Has another scrollback process after a pause, which grows."""
-        self.loop.later("rows again", PAUSES[min(self.faults, len(PAUSES) - 1)], self.spawn)
-        self.faults += 1
+        self.loop.later("rows again", self.retry.fails(), self.spawn)
 
     def ended(self, why: str, status: int | None) -> None:
         """Goes on where the scrollback process ended: what its terminals showed is lost."""
@@ -158,7 +158,7 @@ class Scrollback:
         self.set_behind(False)
         for pane in [*self.panes.values(), *self.leaving]:
             self.cut(pane)
-        self.faults = 0 if self.loop.clock() >= self.since + SOUND else self.faults
+        self.retry.ends(self.loop.clock())
         if not self.is_off:
             self.tell(ENDED.format(why))
             self.spawn_later()

@@ -3,7 +3,7 @@ from __future__ import annotations
 
 import socket
 
-from roam_live.common.io import LinePeer, RecordBuffer
+from roam_live.common.io import LinePeer, LineReader
 from roam_live.protocol.presence import CLIENT, GONE, OTHERS, THERE, Presence
 from roam_live.protocol.zoom_record import NO_ZOOM
 
@@ -45,7 +45,7 @@ class HostPeer(LinePeer):
 
     def __init__(self, end: socket.socket, number: int) -> None:
         super().__init__(end)
-        self.number, self.came = number, RecordBuffer(LONGEST_LINE)
+        self.number, self.came = number, LineReader(LONGEST_LINE)
         # What its last line was about; the number of the window where it is, as it said, and that window.
         self.said = 0
         self.at: int | None = None

@@ -11,6 +11,7 @@ from roam_live.common.errors import Fault, reason
 from roam_live.common.event_loop import READ, WRITE, ready
 from roam_live.common.files import is_disk_full
 from roam_live.common.io import read
+from roam_live.common.retry import Retry
 from roam_live.common.unix_socket import SocketPeer, connected_now
 from roam_live.protocol.display_records import NoRecord, Records
 
@@ -18,10 +19,6 @@ TYPE_CHECKING = False
 if TYPE_CHECKING:
     from roam_live.protocol.display_records import DisplayRecord
     from roam_live.protocol.session_interface import AnySession
-
-# The pauses before a client is spawned anew; a connection that lasted so long had no fault at its start.
-PAUSES = (0.1, 1, 2, 4, 8, 15)
-SOUND = 5.0
 
 # While no room is left on the disk it is tried so often: a client is had as soon as there is some.
 FULL_PAUSE = 1
@@ -276,7 +273,7 @@ class Reconnector:
 
     def __init__(self, session: AnySession, link: ClientLink, is_full: Callable[[], bool] = lambda: False) -> None:
         self.session, self.link, self.is_full = session, link, is_full
-        self.faults = 0
+        self.retry = Retry()
         self.begun_at = 0.0
         self.client: int | None = None
 
@@ -284,13 +281,15 @@ class Reconnector:
         """Takes note of a link that has ended, and tells why, as far as that is known yet."""
         self.session.read()
         why = self.link.loss() if self.session.runs("client") else LOST
-        self.faults = 1 if time.monotonic() - self.link.since > SOUND else self.faults + 1
+        self.retry.begins(self.link.since)
+        self.retry.ends(time.monotonic())
+        self.retry.fails()
         self.link.close()
         return why
 
     def pause(self) -> float:
         """The seconds until it is tried anew."""
-        pause = PAUSES[min(self.faults, len(PAUSES)) - 1] if self.faults else 0.0
+        pause = self.retry.pause()
         return min(pause, FULL_PAUSE) if pause and is_disk_full(self.link.path) else pause
 
     def connected(self) -> str:
@@ -331,6 +330,6 @@ class Reconnector:
 
     def failed(self, said: str) -> tuple[float, str]:
         """What is told of a fault, and the pause after it."""
-        self.faults += 1
+        self.retry.fails()
         self.begun_at = 0.0
         return self.pause(), said

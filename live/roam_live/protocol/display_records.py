@@ -4,7 +4,7 @@ from __future__ import annotations
 
 from collections import namedtuple
 
-from roam_live.common.io import LongLine, RecordBuffer
+from roam_live.common.io import LongLine, LineReader
 
 # What came before this was painted, and isn't known to the terminal any more.
 BEGIN = b"\nevents\n"
@@ -59,7 +59,7 @@ class Records:
     """Takes what comes over a stream, cut anywhere, and gives the records in it, each once and in order."""
 
     def __init__(self) -> None:
-        self.kept = RecordBuffer(LONGEST_LINE)
+        self.kept = LineReader(LONGEST_LINE)
         self.begun = False
         # The record whose bytes aren't there yet.
         self.waiting: DisplayRecord | None = None

@@ -5,9 +5,10 @@ import os
 import re
 import time
 from collections import namedtuple
+from collections.abc import Callable
 
 from roam_live.common.event_loop import comes
-from roam_live.common.io import Lines, read
+from roam_live.common.io import LineReader
 from roam_live.common.unix_socket import connected_in
 
 TYPE_CHECKING = False
@@ -257,24 +258,34 @@ class PanesState:
         return {key: told.line for key, told in self.metadata.items()}
 
 
+class AskedPanes:
+    """A connection to a socket `panes`, by which it is asked once where the panes are."""
+
+    def __init__(self, peer: socket.socket) -> None:
+        self.peer, self.lines, self.told = peer, LineReader(), PanesState()
+
+    def heard(self, seconds: float) -> list[str] | None:
+        """Return the lines that come in so many seconds, as soon as there are some; None if none comes any more."""
+        if not comes(self.peer, max(0.0, seconds)):
+            return []
+        lines = self.lines.read(self.peer.fileno())
+        for line in lines or ():
+            self.told.take(line)
+        return lines
+
+    def hear_all(self, seconds: float = ASKED, is_enough: Callable[[], bool] = lambda: False) -> None:
+        """Hear what is told at first, and what comes right behind it, unless something before that is enough."""
+        end = time.monotonic() + seconds
+        while not is_enough() and time.monotonic() < end and self.heard(end - time.monotonic()) is not None:
+            end = min(end, time.monotonic() + BEHIND) if self.told.places() else end
+
+
 def asked_places(path: str | os.PathLike[str], seconds: float = ASKED) -> Places | None:
-    """Where the panes are, asked once at a socket `panes`; None where nobody tells it in so many seconds."""
-    end = time.monotonic() + seconds
+    """Return where the panes are, asked once at a socket `panes`; None if nobody tells it in so many seconds."""
     try:
         with connected_in(path, seconds) as peer:
-            return places_by(peer, end)
+            asked = AskedPanes(peer)
+            asked.hear_all(seconds, asked.told.is_whole)
     except OSError:
         return None
-
-
-def places_by(peer: socket.socket, end: float) -> Places | None:
-    """Where the panes are, as is told there until a moment; None where it isn't."""
-    told, lines = PanesState(), Lines()
-    while not told.is_whole() and comes(peer, max(0.0, end - time.monotonic())):
-        chunk = read(peer.fileno())
-        if chunk == b"":
-            break
-        for line in lines.fed(chunk or b""):
-            told.take(line)
-        end = min(end, time.monotonic() + BEHIND) if told.places() else end
-    return told.places()
+    return asked.told.places()

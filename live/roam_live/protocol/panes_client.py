@@ -8,7 +8,8 @@ from collections.abc import Callable
 
 from roam_live.common.errors import reason, say
 from roam_live.common.event_loop import Loop
-from roam_live.common.io import Lines, read, write
+from roam_live.common.io import LineReader, write
+from roam_live.common.retry import Retry
 from roam_live.common.unix_socket import SocketPeer, connected, connected_now
 from roam_live.protocol.panes import BRACKETED, CLIPBOARD, LONGEST_LINE, METADATA, PanesState, Places
 from roam_live.protocol.queries import QUERIES
@@ -17,17 +18,11 @@ TYPE_CHECKING = False
 if TYPE_CHECKING:
     import pathlib
 
-# The pauses before a connection that was lost is had again; why it can't be is told once it took longer than the first of them.
-PAUSES = (0.1, 1, 2, 4, 8, 15)
 LET_GO = "the server lets this go, as where as many others follow the panes as may"
 
 # So many seconds a server has until it tells something: it may have taken none of those that came.
 QUIET = 3.0
 TELLS_NOTHING = "the server tells nothing, as where no descriptor is left for it"
-
-# A connection that ended sooner is had again after a longer pause, whatever it told: so two pty hosts, who take the server's one
-# place for them from each other, do so ever more seldom.
-SOUND = 5.0
 
 # A server that lets go who asks for texts for a clipboard is asked for them again after so many seconds.
 CLIPS_AGAIN = 60.0
@@ -67,18 +62,21 @@ class Subscription:
         # What is asked for at each connection, before all else.
         self.words: list[str] = []
         self.peer: socket.socket | None = None
-        self.lines = Lines()
+        self.lines = LineReader()
         self.waiting = bytearray()
-        # How often in a row nothing came, and why; when the connection was had, and how many in a row ended soon.
+        # How often in a row nothing came, and why.
         self.faults = 0
         self.why = ""
-        self.since, self.soon = 0.0, 0
+        # One that ended soon is had again after a longer pause, whatever it told: so two pty hosts, who take the server's one place for
+        # them from each other, do so ever more seldom.
+        self.soon = Retry()
         # Whether nobody is there, as far as the socket tells.
         self.is_gone = False
 
     def begin(self, peer: socket.socket) -> None:
         """Follows a connection that is there."""
-        self.peer, self.lines, self.since = peer, Lines(), self.loop.clock()
+        self.peer, self.lines = peer, LineReader()
+        self.soon.begins(self.loop.clock())
         self.lengthen()
         self.waiting.clear()
         self.loop.add(peer, self.hear, lambda: write(peer.fileno(), self.waiting), has_more=lambda: self.waiting, fails=self.fails,
@@ -106,32 +104,27 @@ class Subscription:
 
     def hear(self) -> None:
         """Takes what came."""
-        chunk = read(self.peer.fileno()) if self.peer else None
-        if chunk == b"":
+        lines = self.lines.read(self.peer.fileno()) if self.peer else []
+        if lines is None:
             self.lost(LET_GO)
-            return
-        lines = self.lines.fed(chunk) if chunk else []
-        if lines:
+        elif lines:
             self.faults = 0
             self.hears(lines)
 
     def lost(self, why: str) -> None:
         """Lets go of a connection, which is had again after a pause."""
         if self.peer:
-            self.soon = self.soon + 1 if self.loop.clock() < self.since + SOUND else 1
-        if self.soon > 1 and CLIPBOARD in self.words:
+            self.soon.ends(self.loop.clock())
+            self.soon.fails()
+        if self.soon.faults > 1 and CLIPBOARD in self.words:
             # Who is let go again and again may be so for what was asked.
             self.words.remove(CLIPBOARD)
             self.loop.later("clipboard again", CLIPS_AGAIN, lambda: self.want(CLIPBOARD))
         self.leave()
         self.why = why
-        self.loop.later(self.again, PAUSES[min(self.pauses(), len(PAUSES) - 1)], self.connect)
         self.faults += 1
+        self.loop.later(self.again, self.soon.pause(self.faults), self.connect)
         self.loses()
-
-    def pauses(self) -> int:
-        """How many pauses were had in a row, each of which is longer than the one before."""
-        return max(self.faults, self.soon - 1)
 
     def leave(self) -> None:
         """Lets go of the connection."""
@@ -282,7 +275,7 @@ class PanesSubscriber:
                 self.told.take(line)
             elif self.probes:
                 self.probes.popleft()()
-        if self.has_no_place and self.loop.clock() < self.subscription.since + STANDS:
+        if self.has_no_place and self.loop.clock() < self.subscription.soon.since + STANDS:
             self.loop.later("panes stand", STANDS, self.know)
         else:
             self.know()
@@ -314,7 +307,7 @@ class PanesSubscriber:
             self.changed()
         if subscription.faults >= TRIES and subscription.is_gone and self.folder:
             self.say(NO_PANES)
-        elif max(subscription.faults, subscription.soon) >= TRIES and subscription.why == LET_GO:
+        elif max(subscription.faults, subscription.soon.faults) >= TRIES and subscription.why == LET_GO:
             self.has_no_place = True
             self.say(NO_PLACE)
 

@@ -5,7 +5,7 @@ from __future__ import annotations
 from collections import deque, namedtuple
 from collections.abc import Callable
 
-from roam_live.common.io import LongLine, RecordBuffer
+from roam_live.common.io import LongLine, LineReader
 from roam_live.protocol.host_lines import SESSION, parted
 
 TYPE_CHECKING = False
@@ -120,7 +120,7 @@ class AnswerReader:
     LENGTHS = {ROWS: 6, SNAPSHOT: 7}
 
     def __init__(self) -> None:
-        self.came = RecordBuffer()
+        self.came = LineReader()
         # The answer whose bytes, or lines, aren't all there yet, and how many are missing.
         self.answer: Answer | None = None
         self.missing = self.lines_missing = 0

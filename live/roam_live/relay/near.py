@@ -13,6 +13,7 @@ from roam_live.common.event_loop import Loop
 from roam_live.common.files import replace_text
 from roam_live.common.listener import Listener
 from roam_live.common.process import opened_process
+from roam_live.common.retry import SOUND, Retry
 from roam_live.protocol.datagram_stream import Carrier, is_datagram
 from roam_live.relay.common import PEER_LIMIT, Ended, Options, end_for, loopback_socket, received
 from roam_live.relay.far_windows import windows_in
@@ -22,7 +23,7 @@ from roam_live.relay.near_command import END_WAIT, MOST_BROKEN, BrokenWords, Pee
 from roam_live.relay.near_sockets import NearSockets
 from roam_live.relay.near_windows import NearWindows
 from roam_live.relay.path_setup import Finder, NearPath, is_wanted, kept_name, near_path, wish
-from roam_live.relay.transport_switch import SOUND, Ways, finish
+from roam_live.relay.transport_switch import Ways, finish
 from roam_live.session.tmp_keepalive import Lasting
 
 TYPE_CHECKING = False
@@ -97,7 +98,7 @@ class Near:
         self.ending: list[RunningCommand] = []
         self.has_answered = self.is_told = False
         self.next_try = 0.0
-        self.try_count = 0
+        self.retry = Retry(PAUSES)
         self.broken = BrokenWords()
         # The text that told windows last, and when another may be taken.
         self.windows_told, self.windows_at = b"", 0.0
@@ -131,7 +132,7 @@ class Near:
         if not self.is_silent():
             self.drop_tries()
             was_validated = self.ways.was_validated() or self.link is not None and self.link.since + SOUND < now
-            self.try_count = 0 if was_validated else self.try_count
+            self.retry.faults = 0 if was_validated else self.retry.faults
             return
         # The first one may be waiting for a person's answer.
         if self.has_answered:
@@ -154,8 +155,7 @@ class Near:
             if not self.has_answered:
                 raise Fault(line) from fault
             say(line)
-        self.next_try = now + PAUSES[min(self.try_count, len(PAUSES) - 1)]
-        self.try_count += 1
+        self.next_try = now + self.retry.fails()
 
     def drop(self, link: RunningCommand) -> None:
         """Has a command end."""

@@ -10,7 +10,7 @@ import time
 from roam_live.common.errors import Fault, reason
 from roam_live.common.event_loop import comes
 from roam_live.common.files import is_own_folder
-from roam_live.common.io import Lines, read
+from roam_live.common.io import LineReader
 from roam_live.common.unix_socket import SocketPeer, connected_in, connected_now
 from roam_live.protocol.host_lines import SESSION, led, parted
 from roam_live.protocol.panes import ASKED
@@ -203,12 +203,12 @@ def asked_values(session: SessionFolder) -> dict[str, str]:
 
 def read_environment(peer: socket.socket, end: float) -> PaneEnvironment | None:
     """What a host that was asked tells until a moment; None where that isn't all."""
-    told, left, lines = PaneEnvironment(), set(NAMES), Lines()
+    told, left, lines = PaneEnvironment(), set(NAMES), LineReader()
     while left and comes(peer, max(0.0, end - time.monotonic())):
-        chunk = read(peer.fileno())
-        if chunk == b"":
+        heard = lines.read(peer.fileno())
+        if heard is None:
             break
-        left -= {line.split(" ")[1] for line in (parted(one)[1] for one in lines.fed(chunk or b"")) if told.take(line, ENVIRONMENT)}
+        left -= {line.split(" ")[1] for line in (parted(one)[1] for one in heard) if told.take(line, ENVIRONMENT)}
     return None if left else told
 
 

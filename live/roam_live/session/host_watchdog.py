@@ -8,15 +8,14 @@ from collections.abc import Callable
 from roam_live.common.errors import Fault, reason
 from roam_live.common.event_loop import Loop
 from roam_live.common.process import is_stopped, opened_process
+from roam_live.common.retry import Retry
 
 TYPE_CHECKING = False
 if TYPE_CHECKING:
     from roam_live.protocol.session_interface import HostedSession
 
-# So many seconds after its end the pty host is spawned anew: by the first it is known whether that is the session's end. One that
-# lasted so long had no fault at its start.
+# So many seconds after its end the pty host is spawned anew: by the first it is known whether that is the session's end.
 PAUSES = (0.3, 1, 2, 4, 8, 15)
-SOUND = 5.0
 
 # So many seconds after something was typed it is looked whether it is stopped, and again while it is: whoever types is to know why nothing
 # comes of that.
@@ -31,9 +30,8 @@ class HostWatchdog:
     def __init__(self, session: HostedSession, loop: Loop, tells: Callable[[str], object] = lambda line: None) -> None:
         self.session, self.loop, self.tells = session, loop, tells
         self.file: int | None = None
-        # How often in a row it ended soon, or couldn't be spawned, and since when it runs.
-        self.faults = 0
-        self.since = 0.0
+        # How often in a row it ended soon, or couldn't be spawned.
+        self.retry = Retry(PAUSES)
         self.follow()
 
     def follow(self) -> None:
@@ -42,12 +40,11 @@ class HostWatchdog:
         if process:
             self.file = opened_process(process)
             self.loop.add(self.file, self.ended)
-        self.since = time.monotonic()
+        self.retry.begins(time.monotonic())
 
     def wait(self) -> float:
         """Has it tried after a pause, which grows with each fault, and tells that pause."""
-        pause = PAUSES[min(self.faults, len(PAUSES) - 1)]
-        self.faults += 1
+        pause = self.retry.fails()
         self.loop.later("host", pause, self.revive)
         return pause
 
@@ -88,8 +85,7 @@ class HostWatchdog:
             self.loop.remove(self.file)
             os.close(self.file)
             self.file = None
-        if time.monotonic() > self.since + SOUND:
-            self.faults = 0
+        self.retry.ends(time.monotonic())
         pause = self.wait()
-        if self.faults > 1:
+        if self.retry.faults > 1:
             self.tells(f"the pty host ended again; it is spawned anew in {pause} s")

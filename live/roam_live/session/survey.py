@@ -7,7 +7,7 @@ import select
 import socket
 import time
 
-from roam_live.common.io import Lines, read
+from roam_live.common.io import LineReader
 from roam_live.common.unix_socket import connected_now
 from roam_live.protocol.host_lines import SESSION, led
 from roam_live.protocol.panes import PanesState
@@ -60,7 +60,7 @@ class Asking:
     """A connection by which a question is asked."""
 
     def __init__(self, question: PanesQuestion | ClientsQuestion) -> None:
-        self.question, self.lines = question, Lines()
+        self.question, self.lines = question, LineReader()
         self.peer: socket.socket = connected_now(question.path)
 
     def ask(self) -> bool:
@@ -73,8 +73,8 @@ class Asking:
 
     def hear(self) -> bool:
         """Take what was answered, and return True if nothing more is needed."""
-        chunk = read(self.peer.fileno())
-        return chunk == b"" or any([self.question.take(line) for line in self.lines.fed(chunk or b"")])
+        lines = self.lines.read(self.peer.fileno())
+        return lines is None or any([self.question.take(line) for line in lines])
 
 
 class Survey:
