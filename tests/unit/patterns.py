@@ -131,7 +131,7 @@ KNOWN = {
     ("roam_live/protocol/window_lines.py", "NAME", "re"): LINES,
     ("roam_live/protocol/window_lines.py", "OPEN", "re"): LINES,
     ("roam_live/protocol/window_lines.py", "SHUT", "re"): LINES,
-    ("roam_live/session/window_state.py", "NUMBER", "re"): NAMES,
+    ("roam_live/session/names.py", "NUMBER", "re"): NAMES,
     ("roam_live/host/window.py", "", "ESC"): "is typed where the focus comes and goes, and reads nothing",
     ("roam_live/frontend/windows.py", "WindowWishes.take", "re"): LINES,
     ("roam_live/frontend/windows_client.py", "WindowsState.take", "re"): LINES,

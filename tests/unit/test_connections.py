@@ -10,7 +10,7 @@ import unittest
 from unittest import mock
 
 from roam_live.common import errors, files, io as common_io, unix_socket
-from roam_live.common.listener import listening
+from roam_live.common.unix_socket import listening
 from roam_live.session import front_end_lock
 
 

@@ -7,7 +7,7 @@ from unittest import mock
 
 from aids import Case, StillLoop, read_now
 from roam_live.common.event_loop import READ, WRITE, Loop, comes, is_taken, ready
-from roam_live.common.listener import DEAF, Listener
+from roam_live.common.unix_socket import DEAF, Listener
 
 
 class Ends(Case):

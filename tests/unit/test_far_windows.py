@@ -4,11 +4,11 @@ import pathlib
 import types
 
 from aids import Case, StillLoop, led_text, read_now
-from roam_live.common.listener import Listener
+from roam_live.common.unix_socket import Listener
 from roam_live.relay.far_windows import FarWindows, windows_in, windows_text
 from roam_live.relay.forwarding import ForwardedConnection, Streams
 from roam_live.relay.near import Peers
-from roam_live.relay.near_windows import NearWindows
+from roam_live.relay.near_sockets import NearWindows
 
 
 class Told(Case):

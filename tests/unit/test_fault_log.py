@@ -9,9 +9,9 @@ from roam_live.common import fault_log
 from roam_live.common.errors import logs
 from roam_live.common.fault_log import FaultLog, SoonFaults
 from roam_live.host import pane as host_pane, scrollback_process, scrollback_store, window_commands
-from roam_live.host.pending_pastes import PendingPastes
 from roam_live.host.scrollback_store import RowsRoom
 from roam_live.host.socket_server import HostSocket
+from roam_live.host.uploads import PendingPastes
 from test_pty_host import Host
 
 

@@ -16,8 +16,8 @@ from aids import StillLoop
 from roam_live.common.process import TOOLS
 from roam_live.host import pane as host_pane
 from roam_live.host.input_queue import TypedQueue
-from roam_live.host.pending_pastes import PendingPastes
 from roam_live.host.state import PaneState, SessionState
+from roam_live.host.uploads import PendingPastes
 from roam_live.session.environment import PaneEnvironment
 from roam_live.session.foreground import group_in_front, working_folder
 

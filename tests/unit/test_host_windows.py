@@ -15,17 +15,18 @@ from roam_live.common.build_info import identity
 from roam_live.common.errors import Fault
 from roam_live.common.process import begun
 from roam_live.common.record import written
-from roam_live.host import common as host_common, pane as host_pane, repair, window as host_window, window_processes, windows
+from roam_live.host import common as host_common, pane as host_pane, hosted_window, repair, window as host_window, windows
+from roam_live.host.hosted_window import WindowProcesses
 from roam_live.host.state import WindowState, state_in
 from roam_live.host.window_commands import ASKED_AGAIN
-from roam_live.host.window_processes import CLIENT, SERVER, WindowProcesses
 from roam_live.host.windows import ENDING, ENDS, FULL, OPENS, OVER, THERE, Windows
 from roam_live.protocol.panes import Rect
 from roam_live.protocol.spawn_request import Begins
 from roam_live.protocol.window_lines import MOST_WINDOWS, name_in, name_word
 from roam_live.session import roles
+from roam_live.session.names import is_spare_server, note_ends, numbers_in
 from roam_live.session.processes import noted_in
-from roam_live.session.window_state import is_spare_server, note_ends, numbers_in
+from roam_live.session.roles import CLIENT, SERVER
 
 
 def read_now(one):
@@ -47,7 +48,7 @@ class Played(Case):
             self.patch_of(module, "has_ended", return_value=False)
         self.patch_of(WindowProcesses, "spawn", lambda processes, role, words: self.spawn(processes, role))
         self.patch_of(roles, "program", lambda: "/roam")
-        self.patch_of(window_processes, "is_running", lambda process, moment: process in self.alive)
+        self.patch_of(hosted_window, "is_running", lambda process, moment: process in self.alive)
         self.patch("os.kill", self.kill)
         self.alive, self.servers = set(), {}
         self.common = host_window.Common(self.wakeup, StillLoop(lambda: self.now))
@@ -901,7 +902,7 @@ class Mended(Played):
     def test_refused(self):
         """Where it can't be made anew that is told once, and tried again."""
         self.clean()
-        with mock.patch("roam_live.common.listener.listening", side_effect=OSError(28, "No space left on device")):
+        with mock.patch("roam_live.common.unix_socket.listening", side_effect=OSError(28, "No space left on device")):
             self.minutes(3)
         self.assertEqual(self.said.getvalue().count(host_window.UNMENDED.format("No space left on device")), 1)
         self.minutes()

@@ -9,8 +9,8 @@ import unittest
 from unittest import mock
 
 from aids import StillLoop
-from roam_live.protocol.panes import Places, Rect
 from roam_live.common.retry import PAUSES
+from roam_live.protocol.panes import Places, Rect
 from roam_live.protocol.panes_client import (AWAITED, LET_GO, NO_PANES, NO_PLACE, QUIET, TELLS_NOTHING, HostSubscription,
                                              PanesSubscriber)
 

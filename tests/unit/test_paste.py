@@ -3,13 +3,13 @@ import unittest
 from unittest import mock
 
 from aids import Case, LinkedClient, StillLoop
+from roam_live.common.retry import PAUSES
 from roam_live.frontend import paste
 from roam_live.frontend.effects import ClosePane
 from roam_live.frontend.paste import (BEHIND_IT, COUNTS, DROPPED, DROPS, ENDS, FULL_BEHIND, HANDING, LOST_WORDS, MOST_BEHIND, NOT_TAKEN,
                                       NO_ROOM, SHORT, TOO_LONG, PasteIntake, Pastes, weight)
 from roam_live.input.keys import BRACKETS
 from roam_live.protocol.host_link import LATER, MOST_UNSENT, NO_HOST, STORES_AGAIN
-from roam_live.common.retry import PAUSES
 from roam_live.protocol.paste_text import FULL, placeholder_acts
 from test_display import ClientLink, Person, PlayedPanes, places
 from test_socket_server import Sockets

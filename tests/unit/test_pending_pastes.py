@@ -11,9 +11,9 @@ from roam_live.common import tty
 from roam_live.common.event_loop import comes
 from roam_live.host import input_queue, pane
 from roam_live.host.input_queue import Placeholders, TypedQueue
-from roam_live.host.pending_pastes import KEPT, PendingPastes
-from roam_live.host.state import PaneState, PendingPaste, SessionState
 from roam_live.host.socket_peer import LONGEST_LINE
+from roam_live.host.state import PaneState, PendingPaste, SessionState
+from roam_live.host.uploads import KEPT, PendingPastes
 from roam_live.protocol import paste_text
 from roam_live.protocol.paste_text import (CLOSES, INSERTED, LOST, MOST_BYTES, MOST_SPENT, MOST_TEXTS, OPENS, STORED, TOO_LONG, TOO_MANY, cleaned,
                                            placeholder_acts, random_name, without_brackets)

@@ -24,10 +24,10 @@ from roam_live.relay.frames import greeting, read_greeting
 from roam_live.session import local, lookup, names as session_names, port_session, processes, remote, roles
 from roam_live.session.folder import SessionFolder
 from roam_live.session.local import Window
+from roam_live.session.names import WINDOWS_VERSION
 from roam_live.session.port_session import PortSession
 from roam_live.session.processes import Processes, is_note
 from roam_live.session.remote import RemoteSession
-from roam_live.session.window_state import WINDOWS_VERSION
 
 OWN = [os.getpid(), begun(os.getpid())]
 

@@ -13,10 +13,10 @@ from roam_live.common.event_loop import READ, WRITE
 from roam_live.common.process import begun
 from roam_live.common.record import written
 from roam_live.host import common, options, pane as host_pane, scrollback, window
-from roam_live.session import tmp_keepalive
 from roam_live.host.input_queue import TypedQueue
-from roam_live.host.pending_pastes import PendingPastes
 from roam_live.host.state import PaneState, SessionState, state_in
+from roam_live.host.uploads import PendingPastes
+from roam_live.session import tmp_keepalive
 
 def queue():
     """A queue of what is typed into a pane, for which no text was given."""

@@ -5,12 +5,12 @@ from unittest import mock
 from aids import read_now
 from filtered import played
 from roam_live.host import scrollback, socket_server
-from roam_live.host.state import PasteBuffers, sample
-from roam_live.protocol.paste_text import (BUFFER_EMPTY, BUFFER_READ_ONLY, BUFFER_TOO_LONG, BUFFER_UNKNOWN, BUFFERS_TOO_MANY, MOST_BUFFER,
-                                           MOST_BUFFERS, MOST_COMING)
 from roam_live.host.scrollback import SCREEN_WAIT, Scrollback
 from roam_live.host.socket_peer import HostPeer
 from roam_live.host.socket_server import UNREAD
+from roam_live.host.state import PasteBuffers, sample
+from roam_live.protocol.paste_text import (BUFFER_EMPTY, BUFFER_READ_ONLY, BUFFER_TOO_LONG, BUFFER_UNKNOWN, BUFFERS_TOO_MANY, MOST_BUFFER,
+                                           MOST_BUFFERS, MOST_COMING)
 from test_socket_server import Sockets
 
 NAME = "00112233445566aa"

@@ -17,8 +17,8 @@ from roam_live.common.process import begun, note_end
 from roam_live.session import local, lookup, survey
 from roam_live.session.front_end_lock import locked_session
 from roam_live.session.local import LocalSession, Window
+from roam_live.session.names import WINDOWS_VERSION
 from roam_live.session.remote import RemoteSession
-from roam_live.session.window_state import WINDOWS_VERSION
 
 # A process that ended: no process has begun at this moment.
 ENDED = [1, 1]

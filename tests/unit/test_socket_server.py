@@ -6,14 +6,14 @@ import unittest
 from unittest import mock
 
 from aids import Case, LinkedClient, StillLoop, read_now, without_numbers
+from roam_live.common.retry import PAUSES
 from roam_live.host import foreground_watch
 from roam_live.host.socket_peer import LONGEST_LINE, HostPeer
-from roam_live.host.state import PaneState
 from roam_live.host.socket_server import MOST_PEERS, RECONNECTS, HostSocket
+from roam_live.host.state import PaneState
 from roam_live.host.window_channel import WindowChannel
 from roam_live.protocol import presence
 from roam_live.protocol.host_client import KNOWS
-from roam_live.common.retry import PAUSES
 from roam_live.protocol.presence import MOST_OTHERS, OtherTerminals, Presence, presence_said, terminal_name
 from roam_live.protocol.zoom_record import OVER, ZoomNote
 

@@ -8,7 +8,7 @@ from unittest import mock
 
 from aids import Case, StillLoop, ended, read_now
 from roam_live.common.errors import Fault
-from roam_live.relay import far, near, path_setup, transport_switch
+from roam_live.relay import common, far, near, path_setup
 from roam_live.relay.aead_packets import AeadPackets, udp_end
 from roam_live.relay.batches import MOST_BATCHES
 from roam_live.relay.common import Ended
@@ -260,7 +260,7 @@ class Near(Both):
         self.validate()
         begun = self.now
         self.is_closed = True
-        self.patch_of(transport_switch, "comes", lambda end, seconds: self.pass_time(seconds) or self.came.extend(drained(self.far))
+        self.patch_of(common, "comes", lambda end, seconds: self.pass_time(seconds) or self.came.extend(drained(self.far))
                       or self.far.fill(self.waiting))
         self.near.close()
         self.assertIn((0, LEAVES), self.came)
@@ -270,7 +270,7 @@ class Near(Both):
         """Where nobody hears it ends after a second; without an answer over the path at once."""
         self.validate()
         self.is_closed, begun = True, self.now
-        self.patch_of(transport_switch, "comes", lambda end, seconds: self.pass_time(seconds))
+        self.patch_of(common, "comes", lambda end, seconds: self.pass_time(seconds))
         self.near.close()
         self.assertAlmostEqual(self.now - begun, near.END_WAIT, delta=0.1)
 
@@ -505,7 +505,7 @@ class Far(Both):
     def test_session_ends(self):
         """The session's end is told by the path alone, until it is acknowledged, 30 s at most."""
         self.validate()
-        self.patch_of(transport_switch, "comes", lambda end, seconds: self.pass_time(seconds) or self.came.extend(drained(self.near))
+        self.patch_of(common, "comes", lambda end, seconds: self.pass_time(seconds) or self.came.extend(drained(self.near))
                       or self.near.fill(self.waiting))
         begun = self.now
         with self.ends():
@@ -517,7 +517,7 @@ class Far(Both):
     def test_session_ends_unheard_by_the_path(self):
         """Where nobody hears by the path it is told by the command."""
         self.validate()
-        self.patch_of(transport_switch, "comes", lambda end, seconds: self.pass_time(seconds))
+        self.patch_of(common, "comes", lambda end, seconds: self.pass_time(seconds))
         self.patch_of(far, "is_taken", return_value=True)
         with self.ends():
             self.far.tell_end()
@@ -528,7 +528,7 @@ class Far(Both):
         self.validate()
         ended(self.said_end)
         self.run_for(1)
-        self.patch_of(transport_switch, "comes", lambda end, seconds: self.pass_time(seconds))
+        self.patch_of(common, "comes", lambda end, seconds: self.pass_time(seconds))
         begun = self.now
         with self.ends():
             self.far.tell_end()
@@ -574,7 +574,7 @@ class Choice(Both):
 
     def test_chosen(self):
         """A validated path, else the stream where it is there, else the path."""
-        both = transport_switch.Ways(StillLoop())
+        both = common.Ways(StillLoop())
         self.assertIsNone(both.chosen(False))
         both.stream = mock.Mock(resume=mock.Mock())
         self.assertIs(both.chosen(True), both.stream)
@@ -584,7 +584,7 @@ class Choice(Both):
         self.assertIs(both.chosen(True), both.path)
         both.rest()
         self.assertFalse(both.rests)
-        self.now += transport_switch.SOUND
+        self.now += common.SOUND
         both.rest()
         self.assertTrue(both.rests)
         both.path.is_validated.return_value = False

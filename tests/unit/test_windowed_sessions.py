@@ -22,7 +22,7 @@ from roam_live.session.folder import SessionFolder
 from roam_live.session.front_end_lock import has_front_ends
 from roam_live.session.local import LocalSession, Window
 from roam_live.session.lookup import session_named, window_in
-from roam_live.session.window_state import WINDOWS_VERSION, is_spare_server, numbers_in
+from roam_live.session.names import WINDOWS_VERSION, is_spare_server, numbers_in
 
 PLACES = Places({1: Rect(1, 1, 23, 80)}, 1, 1)
 

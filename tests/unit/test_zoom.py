@@ -7,9 +7,9 @@ from roam_live.common.tty import MOST
 from roam_live.frontend import sizes, zoom
 from roam_live.frontend.borders import above, size_for
 from roam_live.frontend.session_size import REFUSES
+from roam_live.host.state import NotedZoom
 from roam_live.protocol.display_records import DisplayRecord
 from roam_live.protocol.panes import Places, Rect
-from roam_live.host.state import NotedZoom
 from roam_live.protocol.zoom_record import MOST_ASKED, NO_ZOOM, ZoomNote, note_in, zoomed_in
 from test_display import Person, PlayedHost
 

@@ -6,8 +6,8 @@ from collections import deque
 from collections.abc import Callable
 
 from roam_live.common.io import UNREAD_LIMIT, keep, write
-from roam_live.host.pending_pastes import PendingPastes
 from roam_live.host.state import PendingPaste
+from roam_live.host.uploads import PendingPastes
 from roam_live.protocol.paste_text import CLOSES
 
 # A placeholder: APC, a name and ST, in their forms of U+009F and U+009C, in UTF-8; and the beginning of one at the end of what came.

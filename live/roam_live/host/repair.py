@@ -14,8 +14,8 @@ from roam_live.common.files import replace_text
 from roam_live.common.process import begun
 from roam_live.host.window import MENDED, UNMENDED
 from roam_live.session.environment import begin_agent
+from roam_live.session.names import BUILD, WINDOWS_VERSION, window_folder, windows_folder
 from roam_live.session.roles import ROLES
-from roam_live.session.window_state import BUILD, WINDOWS_VERSION, window_folder, windows_folder
 
 TYPE_CHECKING = False
 if TYPE_CHECKING:

@@ -12,7 +12,7 @@ import socket
 from roam_live.common.errors import Fault, reason, say
 from roam_live.common.event_loop import Loop
 from roam_live.common.io import LongLine, read
-from roam_live.common.listener import Listener
+from roam_live.common.unix_socket import Listener
 from roam_live.host.scrollback_queries import RowAsker
 from roam_live.host.socket_peer import HostPeer, client_line
 from roam_live.host.state import SessionState

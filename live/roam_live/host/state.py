@@ -18,6 +18,7 @@ from roam_live.protocol.paste_text import (BUFFER_EMPTY, BUFFER_TOO_LONG, BUFFER
 from roam_live.protocol.window_lines import LONGEST_NAME, MOST_WINDOWS
 from roam_live.protocol.zoom_record import MOST_ASKED, NO_ZOOM, NONE, ZOOM, ZOOMED, ZoomNote, note_in
 from roam_live.session.environment import LONGEST_VALUE, NAMES, own_values, tellable
+from roam_live.session.roles import CLIENT, SERVER
 
 TYPE_CHECKING = False
 if TYPE_CHECKING:
@@ -231,7 +232,7 @@ class WindowState(StateRecord):
     zoom: NotedZoom = field(record_of(NotedZoom), NotedZoom)
     # The processes by their roles, each with the moment at which it began.
     processes: dict[str, tuple[int, int | None]] = field(
-        map_of(one_of("server", "client"), row_of(number_from(1, MOST_PROCESS), optional(number_from(0, MOST_TICKS))), 2), dict)
+        map_of(one_of(SERVER, CLIENT), row_of(number_from(1, MOST_PROCESS), optional(number_from(0, MOST_TICKS))), 2), dict)
 
     def wrong(self) -> str:
         """Return what is wrong with the numbers of panes."""

@@ -19,11 +19,11 @@ from roam_live.host.pane import PaneCommand, say_in
 from roam_live.host.scrollback import pane_key
 from roam_live.host.state import PaneState
 from roam_live.host.window_channel import WindowChannel
-from roam_live.host.window_processes import SERVER
 from roam_live.protocol.panes import BRACKETED, FOCUS, PanesState, Rect
 from roam_live.protocol.panes_client import PROBE, HostSubscription
 from roam_live.protocol.queries import QUERY, holds_frames, query_in
 from roam_live.session.foreground import working_folder
+from roam_live.session.roles import SERVER
 from roam_live.session.tmp_keepalive import Lasting
 
 TYPE_CHECKING = False

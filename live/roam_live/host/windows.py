@@ -11,18 +11,18 @@ from roam_live.common.errors import Fault, reason, say
 from roam_live.common.tty import LEAST
 from roam_live.common.unix_socket import connected_now
 from roam_live.host.common import Common
-from roam_live.host.hosted_window import ENDING, OPENING, OPENS, THERE, HostedWindow, SizeAct
+from roam_live.host.hosted_window import ENDING, OPENING, OPENS, THERE, HostedWindow, SizeAct, WindowProcesses
 from roam_live.host.options import Options
 from roam_live.host.repair import Mending
 from roam_live.host.scrollback import pane_of_key
 from roam_live.host.state import WindowState
 from roam_live.host.window import WindowHost
 from roam_live.host.window_commands import WindowLines
-from roam_live.host.window_processes import CLIENT, SERVER, WindowProcesses
 from roam_live.protocol.window_lines import ACTIVITY, BELL, GONE, MOST_WINDOWS, RUNS
 from roam_live.session.foreground import working_folder
+from roam_live.session.names import note_ends, numbers_in, windows_folder
+from roam_live.session.roles import CLIENT, SERVER
 from roam_live.session.tmp_keepalive import Lasting
-from roam_live.session.window_state import note_ends, numbers_in, windows_folder
 
 TYPE_CHECKING = False
 if TYPE_CHECKING:

@@ -15,7 +15,7 @@ from collections.abc import Callable, Iterator
 
 from roam_live.protocol.panes import MOST_CLIENTS, MOST_WATCHERS, asked_places
 from roam_live.protocol.server_address import is_id
-from roam_live.session.window_state import REMOTE_CLIENTS
+from roam_live.session.names import REMOTE_CLIENTS
 
 # The file has so many bytes at most.
 MOST_NOTE = 1 << 14

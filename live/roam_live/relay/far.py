@@ -16,12 +16,11 @@ from roam_live.common.unix_socket import connected_now
 from roam_live.protocol.datagram_stream import Carrier, is_datagram
 from roam_live.relay.aead_packets import PORTS, udp_end
 from roam_live.relay.client_limits import ClientLimit
-from roam_live.relay.common import FORGOTTEN_AFTER, PEER_LIMIT, SIGNALS, Ended, Options, end_for, loopback_socket, received
+from roam_live.relay.common import FORGOTTEN_AFTER, PEER_LIMIT, SIGNALS, Ended, Options, Ways, end_for, finish, loopback_socket, received
 from roam_live.relay.far_windows import WINDOW_SHIFT, FarWindows
 from roam_live.relay.forwarding import FORWARDS, HOST
 from roam_live.relay.frames import ENDED, KILLED, LEAVES, WANTS, WINDOWS, RelayStream, Waiting
 from roam_live.relay.path_setup import close_standard, forget_note, is_wanted, made_path, name_in, part_from_command, take_over
-from roam_live.relay.transport_switch import Ways, finish
 from roam_live.session.host_watchdog import HostWatchdog
 from roam_live.session.lookup import window_in
 

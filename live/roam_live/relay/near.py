@@ -11,19 +11,17 @@ import time
 from roam_live.common.errors import Fault, logs, reason, say
 from roam_live.common.event_loop import Loop
 from roam_live.common.files import replace_text
-from roam_live.common.listener import Listener
 from roam_live.common.process import opened_process
 from roam_live.common.retry import SOUND, Retry
+from roam_live.common.unix_socket import Listener
 from roam_live.protocol.datagram_stream import Carrier, is_datagram
-from roam_live.relay.common import PEER_LIMIT, Ended, Options, end_for, loopback_socket, received
+from roam_live.relay.common import PEER_LIMIT, Ended, Options, Ways, end_for, finish, loopback_socket, received
 from roam_live.relay.far_windows import windows_in
 from roam_live.relay.forwarding import BadStream
 from roam_live.relay.frames import ENCRYPTED, ENDED, KILLED, LEAVES, WINDOWS, BadWords, RelayStream, Waiting
 from roam_live.relay.near_command import END_WAIT, MOST_BROKEN, BrokenWords, Peers, RunningCommand
-from roam_live.relay.near_sockets import NearSockets
-from roam_live.relay.near_windows import NearWindows
+from roam_live.relay.near_sockets import NearSockets, NearWindows
 from roam_live.relay.path_setup import Finder, NearPath, is_wanted, kept_name, near_path, wish
-from roam_live.relay.transport_switch import Ways, finish
 from roam_live.session.tmp_keepalive import Lasting
 
 TYPE_CHECKING = False

@@ -15,10 +15,9 @@ from roam_live.common.unix_socket import is_listened
 from roam_live.protocol.panes import ASKED, MOST_CLIENTS, asked_places
 from roam_live.session.environment import LINK
 from roam_live.session.front_end_lock import FRONT_ENDS, has_front_ends
-from roam_live.session.names import LONGEST_PATH
+from roam_live.session.names import BUILD, LONGEST_PATH, REMOTE_CLIENTS, WINDOWS_VERSION, note_ends
 from roam_live.session.processes import START_WAIT, Processes
 from roam_live.session.roles import ROLES, client_words
-from roam_live.session.window_state import BUILD, REMOTE_CLIENTS, WINDOWS_VERSION, note_ends
 
 TYPE_CHECKING = False
 if TYPE_CHECKING:

@@ -12,10 +12,10 @@ from roam_live.common.process import begun, end_words, holder_of
 from roam_live.common.unix_socket import is_listened
 from roam_live.protocol.window_lines import MOST_WINDOWS, name_in
 from roam_live.session.folder import SessionFolder
-from roam_live.session.names import LONGEST_PATH, base, check_name
+from roam_live.session.names import (BUILD, JOINED, LONGEST_PATH, SPARE, WINDOWS, WINDOWS_VERSION, base, check_name, is_spare_server, note_ends,
+                                     numbers_in)
 from roam_live.session.processes import end_left
 from roam_live.session.roles import ROLES, host_words, server_words
-from roam_live.session.window_state import BUILD, JOINED, SPARE, WINDOWS, WINDOWS_VERSION, is_spare_server, note_ends, numbers_in
 
 TYPE_CHECKING = False
 if TYPE_CHECKING:

@@ -8,10 +8,9 @@ import pathlib
 from roam_live.common.errors import Fault
 from roam_live.common.unix_socket import is_listened
 from roam_live.session.local import LocalSession, Window
-from roam_live.session.names import LONGEST_PATH, NAME, NEAR_NAME, base
+from roam_live.session.names import LONGEST_PATH, NAME, NEAR_NAME, NUMBER, WINDOWS, base
 from roam_live.session.remote import RemoteSession
 from roam_live.session.roles import ROLES
-from roam_live.session.window_state import NUMBER, WINDOWS
 
 TYPE_CHECKING = False
 if TYPE_CHECKING:

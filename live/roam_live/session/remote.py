@@ -10,8 +10,8 @@ from roam_live.common.build_info import identity
 from roam_live.common.errors import Fault
 from roam_live.common.process import end_words, holder_of
 from roam_live.session.folder import SessionFolder
+from roam_live.session.names import BUILD, WINDOWS, WINDOWS_VERSION, numbers_in
 from roam_live.session.roles import relay_words
-from roam_live.session.window_state import BUILD, WINDOWS, WINDOWS_VERSION, numbers_in
 
 TYPE_CHECKING = False
 if TYPE_CHECKING:

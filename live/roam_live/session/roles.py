@@ -31,6 +31,9 @@ ROLES = {role.name: role for role in (
     ProcessRole("rows", "the scrollback process", "", "the pty host", "with the pty host"),
 )}
 
+# The roles of a window's processes.
+SERVER, CLIENT = "server", "client"
+
 # The roles of which a note may tell.
 NOTED = ("server", "relay", "host", "client")
 

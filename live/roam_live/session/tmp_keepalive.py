@@ -8,14 +8,12 @@ import os
 import time
 from collections.abc import Callable, Iterator
 
+from roam_live.session.names import WINDOWS
+
 # So many seconds after it was used last what lies in the folder is used again, and so often it is looked whether that is due: by the
 # clock of the day, which goes on while the machine sleeps.
 USED_EACH = 21600.0
 LOOKS = 60.0
-
-
-# The folder in a session's in which those of its windows lie.
-WINDOWS = "w"
 
 
 def identity(file: os.stat_result) -> tuple[int, int]:
