@@ -59,7 +59,7 @@ class LineReader:
     def read(self, source: int) -> list[str] | None:
         """Return the lines that came at a descriptor; None if nothing more will."""
         chunk = read(source)
-        return None if chunk == b"" else self.fed(chunk or b"")
+        return self.fed(chunk) if chunk else None if chunk == b"" else []
 
 
 class LinePeer:
