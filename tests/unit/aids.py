@@ -11,7 +11,9 @@ import socket
 import subprocess
 import sys
 import tempfile
+import time
 import types
+import typing
 import unittest
 from unittest import mock
 
@@ -219,6 +221,14 @@ def record(word: str, *numbers: int, data: "bytes | None" = None, words: str = "
     counts = [*numbers, *([len(data)] if data is not None else [])]
     line = " ".join([word, *map(str, counts), *([words] if words else [])])
     return f"{line}\n".encode() + (data or b"")
+
+
+def comes(test: "typing.Callable[[], object]", seconds: float = 10.0) -> bool:
+    """Return True if something comes to hold in time. Other processes have the processor between two looks."""
+    end = time.monotonic() + seconds
+    while not test() and time.monotonic() < end:
+        os.sched_yield()
+    return bool(test())
 
 
 def closed(end: int) -> None:

@@ -8,11 +8,10 @@ import socket
 import subprocess
 import sys
 import tempfile
-import time
 import unittest
 import unittest.mock
 
-from aids import StillLoop
+from aids import StillLoop, comes
 from roam_live.common.process import TOOLS
 from roam_live.host import pane as host_pane
 from roam_live.host.input_queue import TypedQueue
@@ -20,14 +19,6 @@ from roam_live.host.state import PaneState, SessionState
 from roam_live.host.uploads import PendingPastes
 from roam_live.session.environment import PaneEnvironment
 from roam_live.session.foreground import group_in_front, working_folder
-
-
-def comes(test):
-    """Whether something comes to hold in time."""
-    end = time.monotonic() + 10
-    while not test() and time.monotonic() < end:
-        time.sleep(0.01)
-    return test()
 
 
 class Surroundings(unittest.TestCase):
@@ -200,7 +191,7 @@ class Kept(unittest.TestCase):
         self.server.close()
         subscriber.close()
         with self.assertRaises(subprocess.TimeoutExpired):
-            process.wait(0.5)
+            process.wait(0.1)
         panes[0].send(b"and still\n")
         self.assertTrue(self.shows(panes[0], b"and still"))
         server.kill()

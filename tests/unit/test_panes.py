@@ -1,9 +1,12 @@
 """Where panes are: which one is on a side, which one can be split, and what is told of them."""
+import fcntl
+import struct
+import termios
 import threading
 import time
 import unittest
 
-from aids import Case
+from aids import Case, comes
 from roam_live.protocol import panes
 from roam_live.protocol.panes import PanesState, Places, Rect
 
@@ -185,7 +188,8 @@ class Told(Case):
             with listener.accept()[0] as peer:
                 for chunk in chunks:
                     peer.send(chunk)
-                    time.sleep(0.02)
+                    # The next one comes once this one was read.
+                    comes(lambda: struct.unpack("i", fcntl.ioctl(peer, termios.TIOCOUTQ, bytes(4))) == (0,), 1.0)
                 while not ends and peer.recv(64):
                     pass
 

@@ -7,12 +7,11 @@ import signal
 import socket
 import subprocess
 import sys
-import time
 import threading
 import unittest
 from unittest import mock
 
-from aids import Case
+from aids import Case, comes
 from roam_live.common.process import TOOLS, begun
 from roam_live.relay import path_setup
 from roam_live.relay.aead_packets import AeadPackets, udp_end
@@ -172,10 +171,7 @@ class Parted(Case):
         self.assertEqual((process, process == first.pid), (session, False))
         self.assertEqual(sorted(os.listdir(f"/proc/{first.pid}/fd"))[:3], ["0", "1", "2"])
         # The other may tell who it is before the first has closed what it doesn't hold.
-        end = time.monotonic() + 10
-        while len(os.listdir(f"/proc/{first.pid}/fd")) != 4 and time.monotonic() < end:
-            time.sleep(0.01)
-        self.assertEqual(len(os.listdir(f"/proc/{first.pid}/fd")), 4)
+        self.assertTrue(comes(lambda: len(os.listdir(f"/proc/{first.pid}/fd")) == 4))
         self.assertIsNone(first.poll())
         first.stdin.write(b"x")
         first.stdin.flush()

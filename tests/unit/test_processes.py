@@ -377,6 +377,7 @@ class Spawned(Based):
 
     def test_scrollback_processes(self):
         """Filters of rows that the pty host left stopped are ended with it, and nothing else that it spawned is."""
+        self.patch_of(processes, "LEFT_WAIT", 0.05)
         one, other = self.process(), self.process()
         self.patch_of(processes, "children_of", return_value=[one.pid, other.pid])
         self.patch_of(processes, "is_scrollback_process", side_effect=lambda process: process == one.pid)

@@ -7,10 +7,10 @@ import pathlib
 import socket
 import subprocess
 import tempfile
-import time
 import unittest
 from unittest import mock
 
+from aids import comes
 from modes_played import NoWindows
 from roam_live.common.event_loop import Loop
 from roam_live.common.process import TOOLS
@@ -66,9 +66,7 @@ class Folder(unittest.TestCase):
         self.addCleanup(process.wait)
         self.addCleanup(process.kill)
         # It is known as what it became once the system tells its words.
-        end = time.monotonic() + 10
-        while pathlib.Path(f"/proc/{process.pid}/cmdline").read_bytes() != b"sleep\x0060\x00" and time.monotonic() < end:
-            time.sleep(0.005)
+        comes(lambda: pathlib.Path(f"/proc/{process.pid}/cmdline").read_bytes() == b"sleep\x0060\x00")
         return process
 
 

@@ -14,7 +14,7 @@ from unittest import mock
 
 from roam_live.common.errors import Fault
 from roam_live.common.process import begun, note_end
-from roam_live.session import local, lookup, survey
+from roam_live.session import local, lookup, processes as session_processes, survey
 from roam_live.session.front_end_lock import locked_session
 from roam_live.session.local import LocalSession, Window
 from roam_live.session.names import WINDOWS_VERSION
@@ -204,6 +204,9 @@ class Found(Sessions):
 
     def test_takes_none(self):
         """Where who listens takes no connection nothing is done, and that is told."""
+        patched = mock.patch.object(session_processes, "ASK_WAIT", 0.02)
+        patched.start()
+        self.addCleanup(patched.stop)
         (self.folder / "state.json").unlink()
         with socket.socket(socket.AF_UNIX, socket.SOCK_STREAM) as listener, contextlib.ExitStack() as held:
             listener.bind(str(self.folder / "clients"))

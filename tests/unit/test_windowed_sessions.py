@@ -7,7 +7,7 @@ import resource
 import time
 from unittest import mock
 
-from aids import Case, line_of, read_now
+from aids import Case, comes, line_of, read_now
 from roam_live.cli import targets, upgrade, windows as cli_windows
 from roam_live.cli.targets import session_of, target_of, window_of
 from roam_live.cli.windows import (WindowsAsked, check_title, detach_others, is_there, list_clients, list_windows, new_window, rename, shut,
@@ -96,8 +96,7 @@ class Found(Sessions):
         nobody has joined it."""
         session, server = self.session(), self.process(env={"ROAM_SPARE": "1"})
         folder = self.noted("main", 7, server=[server.pid, begun(server.pid)])
-        while not is_spare_server(server.pid):
-            time.sleep(0.01)
+        comes(lambda: is_spare_server(server.pid))
         for mark, numbers in (("spare", [2]), (None, [2]), ("joined", [2, 7]), ("terminals", [2, 7])):
             self.noted("main", 7, server=[server.pid, begun(server.pid)], **({"joined": True} if mark == "joined" else {}))
             if mark:
