@@ -150,7 +150,7 @@ class Kept(Host):
         self.turn()
         self.made[1].send(b"new")
         self.turn()
-        self.assertEqual((pane.state.process, read_now(end), self.host.common.windows), (72, b"new", {0: self.host}))
+        self.assertEqual((pane.state.process, read_now(end), self.host.common.windows()), (72, b"new", [self.host]))
 
     def test_moment(self):
         """Exceptions in a timer, a hook and `tend` are logged, and everything else goes on."""

@@ -72,7 +72,7 @@ class Key(Host):
         self.assertLessEqual(bytecodes, MOST_BYTECODES)
         for number in range(2, 14):
             self.window(number)
-        self.assertEqual(len(self.host.common.windows), 13)
+        self.assertEqual(len(self.host.common.windows()), 13)
         self.turn(5)
         found = self.host.loop.found
         self.assertEqual(self.counted(), (calls, bytecodes))

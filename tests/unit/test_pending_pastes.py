@@ -11,10 +11,10 @@ from roam_live.common import tty
 from roam_live.common.event_loop import comes
 from roam_live.host import input_queue, pane
 from roam_live.host.input_queue import Placeholders, TypedQueue
-from roam_live.host.socket_peer import LONGEST_LINE
 from roam_live.host.state import PaneState, PendingPaste, SessionState
 from roam_live.host.uploads import KEPT, PendingPastes
 from roam_live.protocol import paste_text
+from roam_live.protocol.host_lines import LONGEST_HOST_LINE
 from roam_live.protocol.paste_text import (CLOSES, INSERTED, LOST, MOST_BYTES, MOST_SPENT, MOST_TEXTS, OPENS, STORED, TOO_LONG, TOO_MANY, cleaned,
                                            placeholder_acts, random_name, without_brackets)
 from test_socket_server import NAMED, Sockets
@@ -460,7 +460,7 @@ class Given(Sockets):
             self.loop.turn()
             read_now(one)
             self.now += chance.random()
-            self.assertLessEqual(sum(len(peer.came.kept) for peer in self.socket.peers), LONGEST_LINE)
+            self.assertLessEqual(sum(len(peer.came.kept) for peer in self.socket.peers), LONGEST_HOST_LINE)
             self.assertLessEqual(len(self.socket.uploads.texts.texts), 1)
         one.close()
         self.loop.turns(3)

@@ -8,12 +8,13 @@ from unittest import mock
 from aids import Case, LinkedClient, StillLoop, read_now, without_numbers
 from roam_live.common.retry import PAUSES
 from roam_live.host import foreground_watch
-from roam_live.host.socket_peer import LONGEST_LINE, HostPeer
+from roam_live.host.socket_peer import HostPeer
 from roam_live.host.socket_server import MOST_PEERS, RECONNECTS, HostSocket
 from roam_live.host.state import PaneState
 from roam_live.host.window_channel import WindowChannel
 from roam_live.protocol import presence
 from roam_live.protocol.host_client import KNOWS
+from roam_live.protocol.host_lines import LONGEST_HOST_LINE
 from roam_live.protocol.presence import MOST_OTHERS, OtherTerminals, Presence, presence_said, terminal_name
 from roam_live.protocol.zoom_record import OVER, ZoomNote
 
@@ -106,11 +107,11 @@ class Told(Sockets):
 
     def test_long(self):
         """Who says what is longer than a line is let go."""
-        one = self.connect(b"x" * (LONGEST_LINE - 1))
+        one = self.connect(b"x" * (LONGEST_HOST_LINE - 1))
         self.assertEqual(len(self.socket.peers), 1)
         self.say(one, b"x")
         self.assertEqual((one.recv(1), self.socket.peers), (b"", []))
-        self.connect(b"who\n" + b"x" * LONGEST_LINE + b"\nwho\n")
+        self.connect(b"who\n" + b"x" * LONGEST_HOST_LINE + b"\nwho\n")
         self.assertEqual(self.socket.peers, [])
 
 
@@ -120,7 +121,7 @@ class Commands(Sockets):
     def setUp(self):
         super().setUp()
         self.asked = []
-        self.channel.asked_commands = lambda: self.asked.append(self.channel.has_asked_commands())
+        self.channel.host = mock.Mock(look_at_fronts=lambda: self.asked.append(self.channel.has_asked_commands()))
 
     def test_told(self):
         """Who asks is told, each name of a making once; others aren't."""
@@ -226,7 +227,7 @@ class Bounds(Sockets):
 
     def test_numbers(self):
         """As docs/LIVE.md has them."""
-        self.assertEqual((MOST_PEERS, LONGEST_LINE, HostPeer.most), (256, 256, 65536))
+        self.assertEqual((MOST_PEERS, LONGEST_HOST_LINE, HostPeer.most), (256, 256, 65536))
 
     def test_most(self):
         """256 are connected; one more waits, which costs nobody anything, until another has left."""

@@ -13,10 +13,9 @@ from roam_live.common.io import LineReader, write
 from roam_live.common.text import printable
 from roam_live.common.unix_socket import connected_in
 from roam_live.input.keys import pasted_acts
-from roam_live.protocol.host_lines import SESSION, led, parted
-from roam_live.protocol.host_link import INSERTED, REFUSED, STORED
-from roam_live.protocol.paste_text import MOST_BYTES, cleaned, placeholder_acts, random_name, without_brackets
-from roam_live.protocol.scrollback_client import BAD_LINE
+from roam_live.protocol.host_lines import BAD_LINE, SESSION, led, parted
+from roam_live.protocol.paste_text import (INSERTED, MOST_BYTES, REFUSED, STORED, cleaned, placeholder_acts, random_name,
+                                           without_brackets)
 
 TYPE_CHECKING = False
 if TYPE_CHECKING:

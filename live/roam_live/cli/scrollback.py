@@ -14,9 +14,9 @@ from roam_live.common.event_loop import READ, WRITE, ready
 from roam_live.common.io import read, write
 from roam_live.common.text import printable
 from roam_live.common.unix_socket import connected_in
-from roam_live.protocol.host_lines import led
+from roam_live.protocol.host_lines import LOG, MOST_ROWS, led
 from roam_live.protocol.paste_text import BUFFER_EMPTY, BUFFER_TOO_LONG, MOST_BUFFER
-from roam_live.protocol.scrollback_client import (LOG, MOST_ROWS, Answer, AnswerReader, BadAnswer, BufferNote, ScrollbackClient, Snapshot,
+from roam_live.protocol.scrollback_client import (Answer, AnswerReader, BadAnswer, BufferNote, ScrollbackClient, Snapshot,
                                                   number_at, rows_in)
 
 TYPE_CHECKING = False

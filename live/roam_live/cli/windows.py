@@ -9,7 +9,7 @@ from roam_live.common.event_loop import comes
 from roam_live.common.io import LineReader
 from roam_live.common.text import printable
 from roam_live.common.unix_socket import connected_in
-from roam_live.protocol.host_lines import led, parted
+from roam_live.protocol.host_lines import BAD_LINE, led, parted
 from roam_live.protocol.paste_text import random_name
 from roam_live.protocol.presence import CLIENT, CLIENTS, MOST_ATTENDED, number_in, presence_in
 from roam_live.protocol.spawn_request import RAN, READY
@@ -36,7 +36,6 @@ LEAVES = 5.0
 # A number of what is told has so many digits at most: it may come from another machine.
 MOST_DIGITS = 20
 
-BAD_LINE = "bad line"
 ONE_WINDOW = "session {}: it was begun by hand, and has one window"
 
 

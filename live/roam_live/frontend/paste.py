@@ -8,10 +8,10 @@ from roam_live.common.event_loop import Loop
 from roam_live.input.keys import pasted_acts
 from roam_live.protocol.client_link import TYPES, ClientLink
 from roam_live.protocol.host_client import HostClient
-from roam_live.protocol.host_link import INSERTED, LATER, LOST, NO_HOST, STORED
+from roam_live.protocol.host_link import LATER, NO_HOST
 from roam_live.protocol.panes import MOVES
 from roam_live.protocol.panes_client import PanesSubscriber
-from roam_live.protocol.paste_text import MOST_BYTES, cleaned, placeholder_acts, placeholder_in, random_name
+from roam_live.protocol.paste_text import INSERTED, LOST, MOST_BYTES, STORED, cleaned, placeholder_acts, placeholder_in, random_name
 
 # A paste of so many characters at most is typed as acts.
 SHORT = 40

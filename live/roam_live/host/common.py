@@ -37,8 +37,6 @@ class Common:
     def __init__(self, wakeup: int, loop: Loop | None = None) -> None:
         self.wakeup, self.loop = wakeup, loop or Loop()
         self.faults = FaultLog(self.loop.clock)
-        # The panes of each window, by its number; 0 is that of a session that has no others.
-        self.windows: dict[int, WindowHost] = {}
         self.hung: list[int] = []
         self.is_over = False
         # What was refused, as it was told.
@@ -49,15 +47,20 @@ class Common:
         with contextlib.suppress(OSError):
             self.voice.keep()
             self.spare.keep()
+        self.state = SessionState()
+        self.socket = HostSocket(self.loop, state=self.state)
         self.rows = Scrollback(self.loop, self.tell)
         self.rows.is_other = self.shows_other
-        self.state = SessionState()
-        self.socket = HostSocket(self.loop, self.rows, self.state)
+        self.socket.offer_rows(self.rows)
         self.loop.faults = self.take_fault
         self.rows.hears_changed = self.see_to_panes
         # Called once a minute to look after folders.
         self.lasting: list[Callable[[], object]] = []
         self.loop.later("folders", LOOKS, self.look_at_folders)
+
+    def windows(self) -> list[WindowHost]:
+        """Return the windows whose panes are followed."""
+        return [channel.host for channel in self.socket.channels.values() if channel.host]
 
     def take_fault(self, fault: Exception) -> None:
         """Log an unexpected exception. If memory is short, drop scrollback rows first: they matter least."""
@@ -67,7 +70,7 @@ class Common:
 
     def see_to_panes(self) -> None:
         """Check all panes whether they are read now."""
-        for window in self.windows.values():
+        for window in self.windows():
             for pane in window.panes.values():
                 pane.see_to_ends()
 
@@ -90,14 +93,14 @@ class Common:
     def tell(self, text: str) -> None:
         """Log what a person has to know, and send it to the terminals at all windows."""
         say(text)
-        for window in list(self.windows.values()):
+        for window in self.windows():
             window.channel.notify(text)
 
     def shows_other(self, key: int) -> bool:
         """Whether a pane's program is known to show the other screen."""
         number, pane = pane_of_key(key)
-        window = self.windows.get(number)
-        return window is not None and window.panes_state.has_set(pane, OTHER)
+        channel = self.socket.channels.get(number)
+        return channel is not None and channel.host is not None and channel.host.panes_state.has_set(pane, OTHER)
 
     def keep_spares(self) -> None:
         """Has the spare descriptors, as soon as they are to be had: first that by which a pane says what it hasn't."""
@@ -116,7 +119,7 @@ class Common:
 
     def try_again(self) -> None:
         """Tries again what was refused."""
-        for window in list(self.windows.values()):
+        for window in self.windows():
             window.begin_again()
         self.keep_spares()
         if "again" not in self.loop.due:
@@ -127,7 +130,7 @@ class Common:
         if any(number in LEAVING for number in read(self.wakeup) or b""):
             self.is_over = True
         self.hung = [process for process in self.hung if not has_ended(process)]
-        for window in list(self.windows.values()):
+        for window in self.windows():
             self.loop.is_done(window.reap)
 
     def turn(self) -> None:
@@ -137,7 +140,7 @@ class Common:
     def run(self) -> int:
         """Keeps the shells of a session of one window until it ends."""
         try:
-            while not self.is_over and not any(window.is_over for window in self.windows.values()):
+            while not self.is_over and not any(window.is_over for window in self.windows()):
                 self.turn()
         finally:
             self.close()
@@ -152,7 +155,7 @@ class Common:
 
     def close(self) -> None:
         """Ends all that is left: the shells first, of which who writes rows down has the last."""
-        windows = list(self.windows.values())
+        windows = self.windows()
         for window in windows:
             window.hang_up()
         self.end_logs()

@@ -5,7 +5,7 @@ from collections.abc import Callable
 
 from roam_live.host.scrollback import PaneScrollback, Scrollback, pane_key, pane_of_key
 from roam_live.host.scrollback_store import ScrollbackRange, Search, Snapshot
-from roam_live.protocol.host_lines import led
+from roam_live.protocol.host_lines import BACK, COUNT, END, FIND, FOUND, LOG, MORE, NONE, ON, RELEASE, ROWS, SNAPSHOT, led
 
 # So many seconds are spent at once on what is looked for, and so many pass between two lines that tell how many rows came.
 SEARCHES = 0.01
@@ -14,8 +14,8 @@ TELLS_MORE = 0.5
 # No number has so many digits.
 MOST_DIGITS = 15
 
-NONE, END = "none", "end"
-BACK = {"back": True, "on": False}
+# Which way a text is looked for.
+WAYS = {BACK: True, ON: False}
 
 
 def numbers_in(words: list[str]) -> list[int] | None:
@@ -60,15 +60,15 @@ class RowAsker:
         """Take a line about the panes of a window, and return True if it is one of these."""
         self.window, self.said = window, said
         word, *words = line.split(" ")
-        counts = {"count": 2, "snapshot": 2, "release": 2, "log": 3, "rows": 4}
-        if word == "find":
+        if word == FIND:
             return self.find(line.split(" ", 5)[1:])
-        numbers = numbers_in(words) if len(words) == counts.get(word) else None
+        asks: dict[str, tuple[int, Callable[..., object]]] = {COUNT: (2, self.count), SNAPSHOT: (2, self.ask_snapshot),
+                                                              RELEASE: (2, self.release), LOG: (3, self.log), ROWS: (4, self.rows)}
+        count, does = asks.get(word, (0, self.say))
+        numbers = numbers_in(words) if count and len(words) == count else None
         if not numbers:
             return False
-        asks: dict[str, Callable[..., object]] = {"count": self.count, "snapshot": self.ask_snapshot, "release": self.release,
-                                                  "log": self.log, "rows": self.rows}
-        asks[word](*numbers)
+        does(*numbers)
         return True
 
     def say(self, line: str, data: bytes = b"", said: int | None = None) -> None:
@@ -94,7 +94,7 @@ class RowAsker:
     def count(self, pane: int, generation: int) -> None:
         """Tells the numbers of the rows."""
         among = self.range(pane, generation)
-        self.say(f"count {pane} {generation} {among.first} {among.end}" if among else f"count {pane} {generation} {NONE}")
+        self.say(f"{COUNT} {pane} {generation} {among.first} {among.end}" if among else f"{COUNT} {pane} {generation} {NONE}")
 
     def rows(self, pane: int, generation: int, first: int, count: int) -> None:
         """Tells rows."""
@@ -102,23 +102,23 @@ class RowAsker:
         if among:
             self.say_rows(pane, generation, *among.rows(first, count))
         else:
-            self.say(f"rows {pane} {generation} {NONE}")
+            self.say(f"{ROWS} {pane} {generation} {NONE}")
 
     def say_rows(self, pane: int, generation: int, first: int, found: list[bytes], said: int | None = None) -> None:
         """Answers with rows."""
         data = b"".join([row + b"\n" for row in found])
-        self.say(f"rows {pane} {generation} {first} {len(found)} {len(data)}", data, said)
+        self.say(f"{ROWS} {pane} {generation} {first} {len(found)} {len(data)}", data, said)
 
     def find(self, words: list[str]) -> bool:
         """Looks for a text, which is told later; whether these are such words."""
-        numbers = numbers_in(words[:3]) if len(words) == 5 and words[3] in BACK and words[4] else None
+        numbers = numbers_in(words[:3]) if len(words) == 5 and words[3] in WAYS and words[4] else None
         if not numbers:
             return False
         pane, generation, start = numbers
         among = self.range(pane, generation)
-        self.found_begin = f"found {pane} {generation}"
+        self.found_begin = f"{FOUND} {pane} {generation}"
         if among:
-            self.search = Search(among, start, BACK[words[3]], words[4])
+            self.search = Search(among, start, WAYS[words[3]], words[4])
         else:
             self.say(f"{self.found_begin} {NONE}")
         return True
@@ -140,10 +140,10 @@ class RowAsker:
         self.snapshot, self.more, self.more_due = snapshot, 0, 0.0
         if snapshot:
             screen = snapshot.screen
-            self.say(f"snapshot {pane} {generation} {snapshot.first} {snapshot.scrollback_end} {screen.count} {len(screen.data)}",
+            self.say(f"{SNAPSHOT} {pane} {generation} {snapshot.first} {snapshot.scrollback_end} {screen.count} {len(screen.data)}",
                      screen.data)
         else:
-            self.say(f"snapshot {pane} {generation} {NONE}")
+            self.say(f"{SNAPSHOT} {pane} {generation} {NONE}")
         if not self.is_asking:
             self.goes_on()
 
@@ -167,7 +167,7 @@ class RowAsker:
             self.scrollback.logs += 1
             self.next_row, self.is_late = first, False
         else:
-            self.say(f"log {pane} {generation} {NONE}")
+            self.say(f"{LOG} {pane} {generation} {NONE}")
 
     def unlog(self) -> None:
         """Tells no more rows as they come."""
@@ -207,7 +207,7 @@ class RowAsker:
         if now < self.more_due:
             return self.more_due
         self.more, self.more_due = pane_scrollback.rows.end - held.scrollback_end, now + TELLS_MORE
-        self.tells(led(self.said_of(held.pane), f"more {pane_of_key(held.pane)[1]} {held.generation} {self.more}"))
+        self.tells(led(self.said_of(held.pane), f"{MORE} {pane_of_key(held.pane)[1]} {held.generation} {self.more}"))
         return None
 
     def tell_logged(self) -> bool:
@@ -224,7 +224,7 @@ class RowAsker:
         self.is_late = False
         if logged.is_gone or logged.has_last and self.next_row == rows.end:
             self.unlog()
-            self.say(f"log {pane_of_key(rows.pane)[1]} {rows.generation} {END}", said=self.said_of(rows.pane))
+            self.say(f"{LOG} {pane_of_key(rows.pane)[1]} {rows.generation} {END}", said=self.said_of(rows.pane))
         return False
 
     def close(self) -> None:

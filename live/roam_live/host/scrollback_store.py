@@ -10,6 +10,8 @@ import struct
 from collections import deque
 from collections.abc import Callable, Iterable, Iterator
 
+from roam_live.protocol.host_lines import MOST_ROW_BYTES, MOST_ROWS
+
 # So many bytes all chunks of a session have, with what is counted for each beside its bytes, those of snapshots too, and these alone. The
 # process grows by 64 MB for them at most: what is free between them is more than what is counted beside each.
 MOST_KEPT = 56 << 20
@@ -18,10 +20,6 @@ BESIDE = 256
 
 # What comes is joined to the last chunk while that is shorter.
 JOINED = 8192
-
-# So many rows and so many bytes are handed out at once, one row at least.
-MOST_ROWS = 2000
-MOST_BYTES = 1 << 18
 
 # What stands in the place of rows that are lost.
 LOST_ROWS = " [{} rows of history are lost here]\n"
@@ -75,7 +73,7 @@ class ScrollbackRange:
     def __init__(self, first: int, end: int, chunks: Iterable[Chunk]) -> None:
         self.first, self.end, self.chunks = first, end, list(chunks)
 
-    def rows(self, first: int, count: int, most_rows: int = MOST_ROWS, most_bytes: int = MOST_BYTES) -> tuple[int, list[bytes]]:
+    def rows(self, first: int, count: int, most_rows: int = MOST_ROWS, most_bytes: int = MOST_ROW_BYTES) -> tuple[int, list[bytes]]:
         """The rows from a number on, as far as they are there, each without its LF: no more than may be handed out at once; and the number
         of the first of them."""
         first = min(max(first, self.first), self.end)

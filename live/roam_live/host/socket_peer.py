@@ -4,6 +4,7 @@ from __future__ import annotations
 import socket
 
 from roam_live.common.io import LinePeer, LineReader
+from roam_live.protocol.host_lines import LONGEST_HOST_LINE
 from roam_live.protocol.presence import CLIENT, GONE, OTHERS, THERE, Presence
 from roam_live.protocol.zoom_record import NO_ZOOM
 
@@ -11,9 +12,6 @@ TYPE_CHECKING = False
 if TYPE_CHECKING:
     from roam_live.host.scrollback_queries import RowAsker
     from roam_live.host.window_channel import WindowChannel
-
-# No line that comes has so many bytes.
-LONGEST_LINE = 256
 
 # Of so many texts one is told at most what becomes of them.
 MOST_NAMES = 64
@@ -45,7 +43,7 @@ class HostPeer(LinePeer):
 
     def __init__(self, end: socket.socket, number: int) -> None:
         super().__init__(end)
-        self.number, self.came = number, LineReader(LONGEST_LINE)
+        self.number, self.came = number, LineReader(LONGEST_HOST_LINE)
         # What its last line was about; the number of the window where it is, as it said, and that window.
         self.said = 0
         self.at: int | None = None

@@ -18,7 +18,7 @@ from roam_live.host.socket_peer import HostPeer, client_line
 from roam_live.host.state import SessionState
 from roam_live.host.uploads import Uploads
 from roam_live.protocol.colours import Colours
-from roam_live.protocol.host_lines import SESSION, led, parted
+from roam_live.protocol.host_lines import BAD_LINE, COMMANDS, SESSION, led, parted
 from roam_live.protocol.paste_text import random_name
 from roam_live.protocol.presence import CLIENTS, LEAVE, LEAVE_OTHERS, WHO, Attended, Presence, presence_said
 from roam_live.session.environment import PaneEnvironment
@@ -46,11 +46,6 @@ RECONNECTS = 4.0
 # The timer for questions about rows.
 ROWS_DUE = "rows are asked for"
 
-# What one says that is to be told what runs in front in the panes.
-COMMANDS = "commands"
-
-BAD_LINE = "bad line"
-
 # How one asks which terminals are there, and has one of them told to leave.
 LEAVES = re.compile(r"leave (\d{1,9})", re.ASCII)
 
@@ -62,10 +57,10 @@ class HostSocket:
     """
 
     def __init__(self, loop: Loop, rows: Scrollback | None = None, state: SessionState | None = None) -> None:
-        self.loop, self.rows, self.state = loop, rows, state or SessionState()
+        self.loop, self.state = loop, state or SessionState()
+        self.rows: Scrollback | None = None
         if rows:
-            rows.logs_came, rows.waits_for_logs = self.tell_logged, self.has_full_log
-            rows.came = self.see_to_rows
+            self.offer_rows(rows)
         self.listener: Listener | None = None
         self.peers: list[HostPeer] = []
         self.channels: dict[int, WindowChannel] = {}
@@ -79,6 +74,11 @@ class HostSocket:
         # The moment from which it is known who is at the session.
         self.knows_at = 0.0
         self.lines: WindowLines | None = None
+
+    def offer_rows(self, rows: Scrollback) -> None:
+        """Answer questions about these scrollback rows."""
+        self.rows, rows.came = rows, self.see_to_rows
+        rows.logs_came, rows.waits_for_logs = self.tell_logged, self.has_full_log
 
     # ---- the socket
 

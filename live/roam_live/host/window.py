@@ -90,11 +90,10 @@ class WindowHost:
             self.state.processes[SERVER] = server, begun(server)
         if asked.again and not asked.window:
             common.socket.await_terminals()
-        self.channel = WindowChannel(common.socket, asked.window, self.look_at_fronts)
+        self.channel = WindowChannel(common.socket, asked.window, self)
         common.socket.listen(asked.common)
         self.channel.handed.rect_of, self.channel.handed.folder_beside = self.rect_of, self.folder_beside
         self.fronts = Fronts(self.loop, self.tell_front, f"window {asked.window} " if asked.window else "")
-        common.windows[asked.window] = self
         if not asked.window:
             common.see_to(self.listen_again)
         common.keep_spares()
@@ -424,4 +423,3 @@ class WindowHost:
         self.channel.close()
         for lasts in (self.last, self.listen_again):
             self.common.see_no_more(lasts)
-        self.common.windows.pop(self.asked.window, None)

@@ -1,11 +1,8 @@
 """What a pty host knows and reports of one window at the socket `host`: its terminals, its zoom, what runs in its panes, and notices."""
 from __future__ import annotations
 
-from collections.abc import Callable
-
 from roam_live.host.pending_spawns import HandedCommands
-from roam_live.host.socket_server import COMMANDS
-from roam_live.protocol.host_lines import SESSION
+from roam_live.protocol.host_lines import COMMANDS, SESSION
 from roam_live.protocol.zoom_record import OVER
 
 TYPE_CHECKING = False
@@ -13,6 +10,7 @@ if TYPE_CHECKING:
     from roam_live.common.tty import Size
     from roam_live.host.socket_peer import HostPeer
     from roam_live.host.socket_server import HostSocket
+    from roam_live.host.window import WindowHost
 
 # The longest text of a notice.
 LONGEST_NOTICE = 200
@@ -24,10 +22,10 @@ def notice_line(text: str) -> str:
 
 
 class WindowChannel:
-    """A window at the socket. `asked_commands` is called when one more connection asks what runs in the panes."""
+    """A window at the socket: the connections that are here, and the host of its panes."""
 
-    def __init__(self, socket: HostSocket, window: int = SESSION, asked_commands: Callable[[], object] = lambda: None) -> None:
-        self.socket, self.loop, self.window, self.asked_commands = socket, socket.loop, window, asked_commands
+    def __init__(self, socket: HostSocket, window: int = SESSION, host: WindowHost | None = None) -> None:
+        self.socket, self.loop, self.window, self.host = socket, socket.loop, window, host
         self.state = socket.state.window(window)
         self.peers: list[HostPeer] = []
         # Commands for new panes.
@@ -63,8 +61,8 @@ class WindowChannel:
     def said(self, peer: HostPeer, line: str) -> None:
         """Take note that a connection said something of who is here."""
         self.renew()
-        if line == COMMANDS:
-            self.asked_commands()
+        if line == COMMANDS and self.host:
+            self.host.look_at_fronts()
 
     def welcome(self, peer: HostPeer) -> None:
         """Report to a terminal that comes what it has to know."""

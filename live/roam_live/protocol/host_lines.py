@@ -1,7 +1,23 @@
-"""How lines at the socket `host` tell what they are about: each begins with the number of a window, 0 for the session."""
+"""The lines at the socket `host`, both ends: how they tell what they are about, the words of those about rows, and their limits.
+
+Each line begins with the number of a window, 0 for the session.
+"""
 from __future__ import annotations
 
 SESSION = 0
+
+# No line that comes to the host has so many bytes; the answer to one that is of no known form; and what stands for something unknown.
+LONGEST_HOST_LINE = 256
+BAD_LINE, NONE = "bad line", "none"
+
+# What one says that is to be told what runs in front in the panes.
+COMMANDS = "commands"
+
+# The words of lines about scrollback rows; `log` ends with END. So many rows, and bytes of several, are in one answer at most.
+COUNT, ROWS, FIND, FOUND, SNAPSHOT, RELEASE, MORE, LOG = "count", "rows", "find", "found", "snapshot", "release", "more", "log"
+BACK, ON, END = "back", "on", "end"
+MOST_ROWS = 2000
+MOST_ROW_BYTES = 1 << 18
 
 
 def led(number: int, line: str) -> str:

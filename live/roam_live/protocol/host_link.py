@@ -11,7 +11,7 @@ from roam_live.common.unix_socket import connected_now
 from roam_live.protocol.colours import COLOUR, Colours, told_in
 from roam_live.protocol.host_lines import SESSION, led
 from roam_live.protocol.panes_client import LET_GO, Subscription
-from roam_live.protocol.paste_text import FULL, MOST_BYTES
+from roam_live.protocol.paste_text import FULL, INSERTED, LOST, MOST_BYTES, REFUSED, STORED
 from roam_live.protocol.presence import LEAVE, terminal_name
 from roam_live.protocol.scrollback_client import BUFFER, AnswerReader, BadAnswer
 from roam_live.protocol.spawn_request import RAN
@@ -26,9 +26,9 @@ if TYPE_CHECKING:
 # What is told to who had all others at the session leave it: how many do.
 LEFT = "left"
 
-# What a host tells of a text that it was given, in words behind the text's name where it refuses it; and by what another is known.
-STORED, INSERTED, LOST, REFUSED = ANSWERS = ("stored", "inserted", "lost", "refused")
+# By what another host is known, and what a host reports of texts.
 HOST = "host"
+ANSWERS = (STORED, INSERTED, LOST, REFUSED)
 
 # What is told here of one where no host is there that takes any, and of one for which there is no room yet: with the host's words. It
 # is given again after so many seconds, until there is.

@@ -11,6 +11,7 @@ from roam_live.common.event_loop import Loop
 from roam_live.common.io import LineReader, write
 from roam_live.common.retry import Retry
 from roam_live.common.unix_socket import SocketPeer, connected, connected_now
+from roam_live.protocol.host_lines import BAD_LINE
 from roam_live.protocol.panes import BRACKETED, CLIPBOARD, LONGEST_LINE, METADATA, PanesState, Places
 from roam_live.protocol.queries import QUERIES
 
@@ -27,11 +28,10 @@ TELLS_NOTHING = "the server tells nothing, as where no descriptor is left for it
 # A server that lets go who asks for texts for a clipboard is asked for them again after so many seconds.
 CLIPS_AGAIN = 60.0
 
-# What a server is told by the pty host, for which it has a place of its own; and what it answers to a line that it doesn't know.
+# What a server is told by the pty host, for which it has a place of its own.
 HOST = "host"
-BAD_LINE = "bad line"
 
-# A line that no server knows: the refusal shows that it lives. So many may be unanswered.
+# A line that no server knows: its refusal, which is worded as the host's, shows that it lives. So many may be unanswered.
 PROBE = "alive"
 MOST_PROBES = 4
 

@@ -34,8 +34,9 @@ BUFFER_READ_ONLY = "who watches has no buffer kept"
 BUFFER_UNKNOWN = "no buffer has this number"
 BUFFER_NOTHING = "nothing of that buffer can be typed"
 
-# What is told of a text: that it waits, that it was put at its placeholder, or that it isn't known, as one that waited for too long.
-STORED, INSERTED, LOST = "stored", "inserted", "lost"
+# What is told of a text: that it waits, that it was put at its placeholder, that it isn't known, as one that waited for too long, or that
+# it is refused, in words behind its name.
+STORED, INSERTED, LOST, REFUSED = "stored", "inserted", "lost", "refused"
 
 # Why there is no room for one yet.
 TOO_MANY = f"{MOST_TEXTS} texts wait to be pasted"

@@ -5,8 +5,9 @@ from __future__ import annotations
 from collections import deque, namedtuple
 from collections.abc import Callable
 
-from roam_live.common.io import LongLine, LineReader
-from roam_live.protocol.host_lines import SESSION, parted
+from roam_live.common.io import LineReader, LongLine
+from roam_live.protocol.host_lines import (BACK, BAD_LINE, COUNT, FIND, FOUND, MORE, MOST_ROWS, NONE, ON, RELEASE, ROWS, SESSION, SNAPSHOT,
+                                           parted)
 
 TYPE_CHECKING = False
 if TYPE_CHECKING:
@@ -15,12 +16,8 @@ if TYPE_CHECKING:
     # What is called with the words of an answer and the bytes behind it; None where it can't be answered.
     Told = Callable[[Union["Answer", None]], object]
 
-# The words of questions and of answers; and of what is told of a snapshot unasked.
-COUNT, ROWS, FIND, FOUND, SNAPSHOT, RELEASE, MORE = "count", "rows", "find", "found", "snapshot", "release", "more"
-LOG = "log"
+# The words of questions about buffers, and of answers.
 BUFFER, BUFFERS, ADD, LIST, SHOW = "buffer", "buffers", "add", "list", "show"
-NONE, BAD_LINE = "none", "bad line"
-BACK, ON = "back", "on"
 
 # Behind no answer so many bytes follow: a screen of 200 rows and 500 columns has less, whatever its styles; and no list has so many lines.
 MOST_ANSWER = 1 << 24
@@ -28,9 +25,6 @@ MOST_LISTED = 64
 
 # No text that is searched for has so many bytes: it stands in a line, which the host takes up to 256.
 MOST_SOUGHT = 180
-
-# So many rows are asked for at once at most: the host hands out no more.
-MOST_ROWS = 2000
 
 
 class BadAnswer(Exception):
