@@ -99,7 +99,7 @@ class Played(Case):
             self.servers[number, name] = self.listening(self.path(number, name))
         self.path(number, "session").touch()
         self.now += 0.01
-        self.windows.turn()
+        self.common.turn()
         server = self.servers[number] = self.taken(self.servers[number, "panes"])
         server.send(b"1 1 1 23 80 4\nfocus 1\nclients 1 of 64\n")
         self.servers[number, "terminals"] = self.listening(self.path(number, "terminals"))
@@ -109,7 +109,7 @@ class Played(Case):
         """So many turns, each a moment after the one before."""
         for _ in range(count):
             self.now += 0.01
-            self.windows.turn()
+            self.common.turn()
 
     def opened(self, size=None):
         """Has a window opened, and tells what was told of it."""

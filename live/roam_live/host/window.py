@@ -21,7 +21,7 @@ from roam_live.host.state import PaneState
 from roam_live.host.window_channel import WindowChannel
 from roam_live.protocol.panes import BRACKETED, FOCUS, PanesState, Rect
 from roam_live.protocol.panes_client import PROBE, HostSubscription
-from roam_live.protocol.queries import QUERY, holds_frames, query_in
+from roam_live.protocol.queries import holds_frames, query_in
 from roam_live.session.foreground import working_folder
 from roam_live.session.roles import SERVER
 from roam_live.session.tmp_keepalive import Lasting
@@ -109,7 +109,7 @@ class WindowHost:
         are nothing here, and others answer what was asked."""
         words, is_known = line.split(), self.panes_state.take(line)
         if not is_known:
-            self.take_other(words, line)
+            self.answer(line)
         elif words[0] == "focus":
             before, self.state.focus, self.is_again = self.state.focus, int(words[1]), False
             self.report_focus(before)
@@ -123,11 +123,6 @@ class WindowHost:
         elif words[0].isdigit() and len(words) == 6:
             number, *rect, generation = map(int, words)
             self.there_is(number, Rect(*rect), generation)
-
-    def take_other(self, words: list[str], line: str) -> None:
-        """Handle a line of D/panes that doesn't describe panes."""
-        if words[:1] == [QUERY]:
-            self.answer(line)
 
     def answer(self, line: str) -> None:
         """Types the answer to what a pane's program asks of its terminal, where its host knows one."""
@@ -338,8 +333,7 @@ class WindowHost:
 
     def last(self) -> None:
         """Sees to what has to last of the folder."""
-        self.lasting.due = 0.0
-        self.lasting.turn()
+        self.lasting.look()
         is_there = not self.lasting.is_missing(CLIENTS)
         if self.had_clients and not is_there:
             self.rouse()

@@ -385,10 +385,6 @@ class Windows:
 
     # ---- what is new
 
-    def turn(self) -> None:
-        """Waits until something can be done, and does it."""
-        self.common.turn()
-
     def tell_news(self, window: HostedWindow) -> None:
         """Tells what is new in a window: that panes rang, that something was written where nobody is, and that it is over."""
         host, now = window.host, self.loop.clock()
@@ -416,8 +412,7 @@ class Windows:
 
     def make_last(self) -> None:
         """Sees to what has to last of the session's folder."""
-        self.lasting.due = 0.0
-        self.lasting.turn()
+        self.lasting.look()
 
     def run(self) -> int:
         """Keeps the windows until the last of them ends. Where that can't be gone on with another takes them over: they stay then."""
@@ -425,7 +420,7 @@ class Windows:
             if not self.windows:
                 self.open(None, 0, self.first)
             while not self.common.is_over:
-                self.turn()
+                self.loop.turn()
             self.end_all()
         finally:
             self.common.close()

@@ -46,10 +46,14 @@ class Lasting:
             raise FileNotFoundError(errno.ENOENT, "the session's folder was removed", self.folder)
 
     def turn(self) -> bool:
-        """Does what is due; tells whether a look was. A folder that another took the place of is left alone."""
+        """Look after the folder if that is due, and return True if it was."""
         if time.monotonic() < self.due:
             return False
         self.due = time.monotonic() + LOOKS
+        return self.look()
+
+    def look(self) -> bool:
+        """Look after the folder, and return True, unless it was removed or another took its place: that one is left alone."""
         try:
             self.demand()
         except OSError:
