@@ -491,7 +491,7 @@ class Running(Case):
         names = {f"{number}/comm": text.partition("(")[2].rpartition(")")[0] + "\n" for number, text in stats.items()}
         texts = {f"{number}/stat": text for number, text in stats.items()}
         self.proc({"7/task/7/children": "10 20 30 40 50 60 ", **panes, **texts, **names})
-        self.assertEqual([foreground.jobs_in(leader) for leader in (10, 20, 30, 40, 50, 60, 70)],
+        self.assertEqual([foreground.jobs_of([leader])[leader] for leader in (10, 20, 30, 40, 50, 60, 70)],
                          [["vim (stopped)"], ["(a) (background)", "make (background)"], [], ["fish", "vi (stopped)"], [],
                           ["cat (background)"], []])
         self.assertEqual(foreground.busy_panes(7), {1: "vim (stopped)", 2: "(a) (background), make (background)", 4: "fish, vi (stopped)",

@@ -304,7 +304,7 @@ class Faults(Case):
             begin(self.fault)
             with self.assertRaisesRegex(ValueError, "wrong"):
                 self.loop.turn()
-            self.loop.end_each(self.fault)
+            self.loop.before.clear()
 
     def test_ends(self):
         """It ends what it is said to end, and is told; others go on, and so where that goes wrong too."""

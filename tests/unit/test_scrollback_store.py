@@ -3,7 +3,7 @@ import random
 import time
 import unittest
 
-from roam_live.host.scrollback_store import (BESIDE, HEADER, LOST_ROWS, LOST_SOME, MAGIC, Chunk, RowsRoom, ScrollbackRange, Search, all_of,
+from roam_live.host.scrollback_store import (BESIDE, HEADER, LOST_ROWS, LOST_SOME, MAGIC, Chunk, RowsRoom, ScrollbackRange, Search,
                                               characters, packed, unpacked)
 
 
@@ -241,7 +241,8 @@ class Sought(unittest.TestCase):
     def found(self, among, start, is_back, text):
         """The row in which a text is found."""
         search = Search(among, start, is_back, text)
-        all_of(search)
+        while not search.step():
+            pass
         return search.found
 
     def test_characters(self):

@@ -84,6 +84,26 @@ class Written(unittest.TestCase):
                 self.assertEqual(paste.data, OPENS[typed:] + CLOSES, typed)
                 self.assertTrue(state_in(written(SessionState(pastes={NAME: paste}))).pastes[NAME].is_over)
 
+    def test_bounds(self):
+        """What is as much as may be is read back: each row puts one value at its bound."""
+        value = plain(full_state())
+        pane, paste, window = ("windows", "7", "panes", "1"), ("pastes", OTHER), ("windows", "7")
+        lost = {f"{number:016x}": "lost" for number in range(1024)}
+        pastes = {f"{number:016x}": {**value["pastes"][OTHER], "name": f"{number:016x}"} for number in range(64)}
+        for path, new in ((("last_window",), 0), (("last_window",), 99), ((*window, "name"), "x" * 64), ((*window, "focus"), 9),
+                          ((*window, "history"), [9, 8, 7, 6, 5, 4, 3, 2, 1]), ((*window, "processes"), {"server": [1 << 31, 1 << 63]}),
+                          ((*window, "processes"), {"client": [1, 0]}), ((*window, "zoom", "note"), [[200, 500], [[1, 1]] * 8]),
+                          ((*pane, "generation"), 10**19), ((*pane, "size"), [0, 9999]), ((*pane, "folder"), "x" * 4096),
+                          ((*pane, "command"), ["", "x" * (1 << 17)]), ((*pane, "command"), [""] * 65536),
+                          ((*pane, "process"), 1 << 31), ((*pane, "program"), "x" * 64), (("environment", "DISPLAY"), "~" * 112),
+                          (("environment",), {}), (("colours", "background"), "0000/0000/0000"), (("buffers", "last"), 1 << 53),
+                          (("buffers", "texts"), {"1": "A" * 1398100 + "AA=="}), (("spent_pastes",), lost), (("pastes",), pastes),
+                          (("buffers", "texts"), {str(number): "" for number in range(1, 3)}), ((*paste, "length"), (1 << 24) - 5),
+                          ((*paste, "typed"), (1 << 24) + 12), (("windows",), {str(one): {**value["windows"]["2"], "number": one}
+                                                                               for one in range(1, 100)})):
+            text = json.dumps(put(value, path, new))
+            self.assertEqual(written(state_in(text)), text, path)
+
     def test_fields(self):
         """Each field differs from its first value in the state that is tried, so that none is left out."""
         first = {SessionState: SessionState(), WindowState: WindowState(), PasteBuffers: PasteBuffers(), NotedZoom: NotedZoom(),

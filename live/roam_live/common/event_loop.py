@@ -249,11 +249,6 @@ class Loop:
         """Call a hook before each wait. It returns the moment by which it has to be called again, or None."""
         self.before.append(does)
 
-    def end_each(self, does: Callable[[], float | None]) -> None:
-        """Remove a hook."""
-        if does in self.before:
-            self.before.remove(does)
-
     def soon(self, does: Does) -> None:
         """Call something once before the next wait, however often this is said."""
         self.next[does] = None

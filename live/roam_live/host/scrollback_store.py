@@ -8,7 +8,7 @@ from __future__ import annotations
 import binascii
 import struct
 from collections import deque
-from collections.abc import Callable, Iterable, Iterator
+from collections.abc import Iterable, Iterator
 
 from roam_live.protocol.host_lines import MOST_ROW_BYTES, MOST_ROWS
 
@@ -364,11 +364,3 @@ def row_of(joined: str, text: str, begins: list[int], number: int, first: int, e
     place = joined.rfind(text, low, high) if is_back else joined.find(text, low, high)
     # An empty row begins where the row behind it does, so it is the last of those that begin there.
     return None if place < 0 else number + bisect_right(begins, place) - 1
-
-
-def all_of(search: Search, until: Callable[[], bool] = lambda: False) -> bool:
-    """Looks through chunk by chunk until that is done, or it is to stop; tells whether it is done."""
-    while not search.step():
-        if until():
-            return False
-    return True

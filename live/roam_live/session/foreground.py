@@ -78,11 +78,6 @@ def processes() -> Iterator[Process]:
                 yield Process(int(number), words[STATE], *(int(words[place]) for place in (GROUP, SESSION, FOREGROUND)))
 
 
-def jobs_in(leader: int) -> list[str]:
-    """Return the names of the jobs in the session of this session leader: see `jobs_of`."""
-    return jobs_of([leader])[leader]
-
-
 def jobs_of(leaders: Iterable[int]) -> dict[int, list[str]]:
     """Return for each of these session leaders the names of the jobs in its session: of the process groups other than its own.
 
