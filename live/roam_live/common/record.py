@@ -5,6 +5,7 @@ They are used like classes of the standard module `dataclasses`, which takes a p
 from __future__ import annotations
 
 import base64
+import contextlib
 import json
 from collections.abc import Callable
 
@@ -106,11 +107,10 @@ def bytes_of(most: int) -> Reads:
     """Return the reader of at most so many bytes, in base64."""
 
     def reads(value: Any, path: str) -> Any:
-        demand(isinstance(value, str) and len(value) <= (most + 2) // 3 * 4, path, f"not base64 of at most {most} bytes")
-        try:
-            found = bytearray(base64.b64decode(value, validate=True))
-        except ValueError:
-            found = None
+        found: bytearray | None = None
+        if isinstance(value, str) and len(value) <= (most + 2) // 3 * 4:
+            with contextlib.suppress(ValueError):
+                found = bytearray(base64.b64decode(value, validate=True))
         demand(found is not None and len(found) <= most, path, f"not base64 of at most {most} bytes")
         return found
 
