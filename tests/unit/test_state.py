@@ -213,7 +213,7 @@ class MalformedStates(unittest.TestCase):
         value, chance = plain(full_state()), random.Random(7)
         values = (None, True, -1, 0, 1, 9, 10**30, 1.5, "", "a", "\x1b[2J", "YQ==", [], [1], [1, 2], {}, {"1": 1}, "x" * 200000, NAME)
         places, refused = list(places_in(value)), 0
-        for _ in range(2000):
+        for _ in range(800):
             made = value
             for path in chance.sample(places, chance.randint(1, 2)):
                 try:
@@ -227,7 +227,7 @@ class MalformedStates(unittest.TestCase):
             except Malformed as fault:
                 refused += 1
                 self.assertTrue(str(fault).startswith("SessionState"), fault)
-        self.assertGreater(refused, 1000)
+        self.assertGreater(refused, 400)
 
 
 class Records(unittest.TestCase):

@@ -4,7 +4,7 @@ They are used like classes of the standard module `dataclasses`, which takes a p
 """
 from __future__ import annotations
 
-import base64
+import binascii
 import contextlib
 import json
 from collections.abc import Callable
@@ -110,11 +110,16 @@ def bytes_of(most: int) -> Reads:
         found: bytearray | None = None
         if isinstance(value, str) and len(value) <= (most + 2) // 3 * 4:
             with contextlib.suppress(ValueError):
-                found = bytearray(base64.b64decode(value, validate=True))
-        demand(found is not None and len(found) <= most, path, f"not base64 of at most {most} bytes")
+                found = bytearray(binascii.a2b_base64(value))
+        demand(found is not None and len(found) <= most and base64_of(found) == value, path, f"not base64 of at most {most} bytes")
         return found
 
     return reads
+
+
+def base64_of(data: bytes) -> str:
+    """Return bytes in base64."""
+    return binascii.b2a_base64(data, newline=False).decode("ascii")
 
 
 def optional(reads: Reads) -> Reads:
@@ -194,7 +199,7 @@ def plain(value: Any) -> object:
         return {str(key): plain(one) for key, one in value.items()}
     if isinstance(value, (list, tuple)):
         return [plain(one) for one in value]
-    return base64.b64encode(value).decode("ascii") if isinstance(value, (bytes, bytearray)) else value
+    return base64_of(value) if isinstance(value, (bytes, bytearray)) else value
 
 
 def written(value: StateRecord) -> str:
