@@ -9,15 +9,7 @@ from roam_live.session.foreground import group_in_front, name_of
 
 TYPE_CHECKING = False
 if TYPE_CHECKING:
-    from typing import Protocol
-
-    from roam_live.host.state import PaneState
-
-    class LookedUp(Protocol):
-        """A pane whose program is looked up: what is known of it, and its pseudo-terminal while it has one."""
-
-        state: PaneState
-        terminal: int | None
+    from roam_live.host.pane import PaneCommand
 
 # So many seconds after something came it is looked up, since a program that was begun is in front a moment later; and so many lie between
 # two looks at a pane.
@@ -35,14 +27,14 @@ class Fronts:
         self.is_wanted = False
         self.looked: dict[int, float] = {}
 
-    def touched(self, pane: LookedUp, soon: float = SOON) -> None:
+    def touched(self, pane: PaneCommand, soon: float = SOON) -> None:
         """Takes note that something was typed or written in a pane."""
         name = f"{self.leads}front {pane.state.number}"
         if self.is_wanted and name not in self.loop.due:
             moment = max(self.loop.clock() + soon, self.looked.get(pane.state.number, -math.inf) + APART)
             self.loop.at(name, moment, lambda: self.look(pane))
 
-    def look(self, pane: LookedUp) -> None:
+    def look(self, pane: PaneCommand) -> None:
         """Looks up what runs in a pane."""
         self.looked[pane.state.number] = self.loop.clock()
         group = None if pane.terminal is None else group_in_front(pane.terminal)

@@ -7,35 +7,11 @@ from roam_live.protocol.window_lines import GONE, NAME, OPEN, OPENED, RUNS, SHUT
 
 TYPE_CHECKING = False
 if TYPE_CHECKING:
-    from collections.abc import Callable
-    from typing import Protocol
-
     from roam_live.common.tty import Size
     from roam_live.host.socket_peer import HostPeer
     from roam_live.host.socket_server import HostSocket
+    from roam_live.host.windows import Windows
     from roam_live.protocol.spawn_request import Begins
-
-    class WindowTable(Protocol):
-        """Who has the windows of a session."""
-
-        def named(self) -> dict[int, str]:
-            """The windows that are there, and their names."""
-
-        def open(self, size: Size, beside: int, told: Callable[[int, str], object], begins: Begins | None = None) -> None:
-            """Opens a window of a size, asked for at another, that begins as is asked; told with its number, or with 0 and why there is
-            none."""
-
-        def rename(self, number: int, name: str) -> bool:
-            """Gives a window a name; whether it is there."""
-
-        def shut(self, number: int) -> bool:
-            """Ends a window; whether it is there."""
-
-        def in_front(self) -> dict[int, str]:
-            """What runs in front in the windows' panes in focus, as far as that was looked up, which it is from now on."""
-
-        def came(self, number: int) -> None:
-            """Takes note that a terminal is at a window now."""
 
 # One who asks may have so many opened at once.
 MOST_OPENING = 4
@@ -59,7 +35,7 @@ class AskedWindow:
 class WindowLines:
     """The lines about windows, for a table that has them: what one who only watches asks for isn't done."""
 
-    def __init__(self, table: WindowTable, socket: HostSocket) -> None:
+    def __init__(self, table: Windows, socket: HostSocket) -> None:
         self.table, self.socket = table, socket
         # The windows that front ends asked for, and where no terminal was yet.
         self.asked: list[AskedWindow] = []

@@ -11,7 +11,7 @@ from roam_live.protocol.host_lines import (BACK, BAD_LINE, COUNT, FIND, FOUND, M
 
 TYPE_CHECKING = False
 if TYPE_CHECKING:
-    from typing import Protocol, Union
+    from typing import Union
 
     # What is called with the words of an answer and the bytes behind it; None where it can't be answered.
     Told = Callable[[Union["Answer", None]], object]
@@ -48,37 +48,6 @@ class BufferNote(namedtuple("BufferNote", "number length sample")):
     number: int
     length: int
     sample: str
-
-
-if TYPE_CHECKING:
-
-    class ScrollbackSource(Protocol):
-        """Who answers what is asked of scrollback rows and buffers. A call may be told at once, as None where no host is there that keeps
-        any; the rows of a snapshot stay as they are until it is released, or another is asked for."""
-
-        # What is called with a pane, its life, and how many rows came since its snapshot.
-        on_more: Callable[[int, int, int], object]
-
-        def snapshot(self, pane: int, generation: int, told: Callable[[Snapshot | None], object]) -> None:
-            """Asks for a snapshot of a pane; this end has one at a time."""
-
-        def rows(self, pane: int, generation: int, first: int, count: int, told: Callable[[int, list[bytes]], object]) -> None:
-            """Asks for rows by their numbers; told with the number of the first that is there, and those that were had: maybe fewer."""
-
-        def find(self, pane: int, generation: int, first: int, back: bool, text: str, told: Callable[[int | None], object]) -> None:
-            """Asks for the next row behind `first`, or before it, in which a text begins; case counts where the text has a capital."""
-
-        def release(self, pane: int, generation: int) -> None:
-            """Lets a snapshot go."""
-
-        def add_buffer(self, text: bytes, told: Callable[[int | None], object]) -> None:
-            """Has a buffer kept; told with its number."""
-
-        def buffers(self, told: Callable[[list[BufferNote] | None], object]) -> None:
-            """Asks which buffers there are, the newest first."""
-
-        def buffer(self, number: int, told: Callable[[bytes | None], object]) -> None:
-            """Asks for the bytes of a buffer."""
 
 
 class Answer:
@@ -166,7 +135,7 @@ class AnswerReader:
 
 
 class ScrollbackClient:
-    """The questions of this end, as `ScrollbackSource` has them: a call asks the host, by a line and bytes behind it, and tells whether one
+    """The questions of this end: a call asks the host, by a line and bytes behind it, and tells whether one
     is connected."""
 
     def __init__(self, ask: Callable[[str, bytes], bool]) -> None:
