@@ -6,7 +6,7 @@ import random
 import unittest
 from unittest import mock
 
-from aids import Asker, Case
+from aids import Asker
 from roam_live.common import record
 from roam_live.common.record import Malformed, StateRecord, field, flag, number_from, plain, read_back, text_of, written
 from roam_live.host import state

@@ -145,9 +145,9 @@ class Near(Both):
         self.near.waiting.add(3, typed(1)[0])
         self.near.turn()
         self.assertEqual(self.frames()[-1], (3, typed(1)[0]))
-        self.assertIs(self.near.way(), self.links[0].stream)
+        self.assertIs(self.near.ways.chosen(self.near.has_live_link()), self.links[0].stream)
         self.run_for(2)
-        self.assertIs(self.near.way(), self.near.ways.path)
+        self.assertIs(self.near.ways.chosen(self.near.has_live_link()), self.near.ways.path)
         self.near.waiting.add(3, typed(2)[0])
         self.run_for(0.1)
         came = [frame for frame in self.came if frame != (0, WINDOWS)]

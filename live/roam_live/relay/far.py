@@ -26,7 +26,6 @@ from roam_live.session.lookup import window_in
 
 TYPE_CHECKING = False
 if TYPE_CHECKING:
-    from roam_live.relay.udp_path import Path
     from roam_live.session.folder import SessionFolder
 
 # An end to which nothing is said for so many seconds ends; one that was called over a path waits so long for the near end, which may sleep
@@ -138,10 +137,6 @@ class Far:
         """Whether the command is still there."""
         return self.ways.stream is not None
 
-    def way(self) -> Path | RelayStream | None:
-        """What carries what waits."""
-        return self.ways.chosen(self.has_command())
-
     def tell_windows(self, text: bytes) -> None:
         """Tells the near end which windows there are, by all that carries something."""
         if self.has_command():
@@ -176,7 +171,7 @@ class Far:
     def tell_end(self) -> None:
         """Tells that the session has ended, or that its server was killed, and ends."""
         text, path = KILLED if self.place and self.place.ending()[1] else ENDED, self.ways.path
-        if path and self.way() is path:
+        if path and self.ways.chosen(self.has_command()) is path:
             path.tell(0, text)
             finish(path, ALONE)
         if self.has_command() and not (path and path.is_validated() and path.is_said()):

@@ -18,7 +18,7 @@ from roam_live.protocol.datagram_stream import Carrier, is_datagram
 from roam_live.relay.common import PEER_LIMIT, Ended, Options, Ways, end_for, finish, loopback_socket, received
 from roam_live.relay.far_windows import windows_in
 from roam_live.relay.forwarding import BadStream
-from roam_live.relay.frames import ENCRYPTED, ENDED, KILLED, LEAVES, WINDOWS, BadWords, RelayStream, Waiting
+from roam_live.relay.frames import ENCRYPTED, ENDED, KILLED, LEAVES, WINDOWS, BadWords, Waiting
 from roam_live.relay.near_command import END_WAIT, MOST_BROKEN, BrokenWords, Peers, RunningCommand
 from roam_live.relay.near_sockets import NearSockets, NearWindows
 from roam_live.relay.path_setup import Finder, NearPath, is_wanted, kept_name, near_path, wish
@@ -29,7 +29,6 @@ if TYPE_CHECKING:
     from typing import Any
 
     from roam_live.relay.forwarding import Streams
-    from roam_live.relay.udp_path import Path
 
 # After so many seconds of silence another command is spawned.
 SILENT = 7.0
@@ -116,10 +115,6 @@ class Near:
     def is_silent(self) -> bool:
         """Whether there is neither a path nor a command that is known to carry anything."""
         return not self.ways.is_validated() and not self.has_live_link()
-
-    def way(self) -> Path | RelayStream | None:
-        """What carries what waits."""
-        return self.ways.chosen(self.has_live_link())
 
     def tend(self) -> None:
         """Spawns a command where one is due, and ends those that are late."""
