@@ -92,8 +92,7 @@ class PathStreams(Streams[PathForwardedConnection]):
         self.again: deque[StreamChunk] = deque()
 
     def made(self, number: int) -> PathForwardedConnection:
-        """A connection of a number, which was another's before."""
-        self.ended.pop(number, None)
+        """A connection of a number."""
         return PathForwardedConnection(number)
 
     # ---- what goes
