@@ -15,7 +15,7 @@ from roam_live.host.window_channel import WindowChannel
 from roam_live.protocol import presence
 from roam_live.protocol.host_client import KNOWS
 from roam_live.protocol.host_lines import LONGEST_HOST_LINE
-from roam_live.protocol.presence import MOST_OTHERS, OtherTerminals, Presence, presence_said, terminal_name
+from roam_live.protocol.presence import MOST_ATTENDED, MOST_OTHERS, STAYS, Attended, OtherTerminals, Presence, presence_said, terminal_name
 from roam_live.protocol.zoom_record import OVER, ZoomNote
 
 A, B = "here:/dev/pts/1 24 80 read-write", "there:/dev/pts/2 12 40 read-only"
@@ -515,6 +515,30 @@ class Lines(unittest.TestCase):
         self.assertEqual(len(told.there), MOST_OTHERS)
         self.assertTrue(told.take("others 64") and told.has_typing() and told.take("gone 7"))
         self.assertEqual(presence.WHO, "who")
+
+    def test_attended(self):
+        """A terminal that comes again within five seconds is there since it came first; later it is there anew."""
+        clock = [5000.7]
+        attended = Attended(lambda: clock[0])
+        self.assertEqual(attended.comes("a", 100.0), 5000)
+        clock[0] = 6000.0
+        for left, again, since in ((110.0, 110.0 + STAYS, 5000), (120.0, 120.01 + STAYS, 6000), (130.0, 131.0, 6000)):
+            attended.leaves("a", left)
+            self.assertEqual(attended.comes("a", again), since, left)
+        # One that is there, as at another window, and one that nobody knows.
+        clock[0] = 7000.0
+        attended.leaves("other", 140.0)
+        self.assertEqual((attended.comes("a", 900.0), attended.comes("other", 141.0)), (6000, 7000))
+
+    def test_attended_bounded(self):
+        """Of too many the one that came first is forgotten."""
+        clock = [1.0]
+        attended = Attended(lambda: clock[0])
+        for number in range(MOST_ATTENDED + 1):
+            attended.comes(f"{number}", 0.0)
+        clock[0] = 2.0
+        self.assertEqual(len(attended.since), MOST_ATTENDED)
+        self.assertEqual([attended.comes(name, 0.0) for name in ("1", f"{MOST_ATTENDED}", "0")], [1, 1, 2])
 
 
 if __name__ == "__main__":
