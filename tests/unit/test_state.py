@@ -263,10 +263,9 @@ class Records(unittest.TestCase):
 
     def test_keys(self):
         """A key is a number only as that is written."""
-        for key, found in (("0", 0), ("12", 12), ("01", "01"), ("-1", "-1"), ("", ""), ("\u0661", "\u0661"), ("9" * 19, int("9" * 19)),
-                           ("9" * 20, "9" * 20), ("a", "a"), ("1.0", "1.0"), ("+1", "+1")):
-            read = record.decimal(lambda value, path: value)(key, "")
-            self.assertEqual((read, type(read)), (found, type(found)))
+        for key, found in (("0", 0), ("12", 12), ("01", None), ("-1", None), ("", None), ("\u0661", None), ("9" * 19, int("9" * 19)),
+                           ("1" + "0" * 19, None), ("a", None), ("1.0", None), ("+1", None)):
+            self.assertEqual(record.decimal(lambda value, path: value)(key, ""), found, key)
 
 
 class Buffers(unittest.TestCase):

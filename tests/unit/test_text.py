@@ -11,7 +11,7 @@ from unittest import mock
 from roam_live.common import errors, files
 from roam_live.common.files import KEPT, LOG_LIMIT, make_room
 from roam_live.common.process import TOOLS
-from roam_live.common.text import SAID_LIMIT, Said, one_line, printable
+from roam_live.common.text import SAID_LIMIT, Said, decimal_in, one_line, printable
 from roam_live.session.foreground import foreground
 from roam_live.session.processes import Processes
 
@@ -143,6 +143,19 @@ class Faults(unittest.TestCase):
         with mock.patch("sys.stdout", None), mock.patch("signal.signal"), mock.patch.dict(os.environ), self.assertRaises(SystemExit) as way:
             errors.run_tool(lambda: print("x"))
         self.assertIsNone(way.exception.code)
+
+
+class Numbers(unittest.TestCase):
+    """Numbers in words that others say."""
+
+    def test_decimal(self):
+        """Decimal digits without a zero before them, from 0 to the most; nothing else, however long it is."""
+        for word, most, found in (("0", 0, 0), ("1", 0, None), ("0", 9, 0), ("9", 9, 9), ("10", 9, None), ("10", 10, 10), ("11", 10, None),
+                                  ("99", 99, 99), ("100", 99, None), ("00", 99, None), ("01", 99, None), ("", 9, None), ("-1", 9, None),
+                                  ("+1", 9, None), ("1 ", 99, None), ("1_0", 999, None), ("\u0661", 9, None), ("\u00b2", 9, None),
+                                  ("a", 9, None), ("9" * 15, 10**15 - 1, 10**15 - 1), ("1" + "0" * 15, 10**15 - 1, None),
+                                  ("9" * 100000, 10**15, None), ("20", 9, None), ("19", 20, 19)):
+            self.assertEqual(decimal_in(word, most), found, (word[:20], most))
 
 
 if __name__ == "__main__":

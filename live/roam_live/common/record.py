@@ -10,6 +10,7 @@ import json
 from collections.abc import Callable
 
 from roam_live.common.errors import Fault
+from roam_live.common.text import decimal_in
 
 TYPE_CHECKING = False
 if TYPE_CHECKING:
@@ -17,6 +18,9 @@ if TYPE_CHECKING:
 
     # Returns what a value of JSON stands for; Malformed if it is none. A path names it.
     Reads = Callable[[Any, str], Any]
+
+# The highest number that is a key.
+MOST_KEY = 10**19 - 1
 
 
 class Malformed(Fault):
@@ -160,11 +164,7 @@ def map_of(reads_key: Reads, reads_one: Reads, most: int) -> Reads:
 def decimal(reads_number: Reads) -> Reads:
     """Return the reader of a key that is a number, in the form in which that is written."""
 
-    def reads(key: Any, path: str) -> Any:
-        is_number = key.isascii() and key.isdigit() and len(key) < 20 and str(int(key)) == key
-        return reads_number(int(key) if is_number else key, path)
-
-    return reads
+    return lambda key, path: reads_number(decimal_in(key, MOST_KEY), path)
 
 
 def one_of(*choices: object) -> Reads:

@@ -13,6 +13,12 @@ def printable(text: str) -> str:
     return text if text.isprintable() else "".join(letter if letter.isprintable() else "?" for letter in text)
 
 
+def decimal_in(word: str, most: int) -> int | None:
+    """Return the number from 0 to `most` that a word is, in decimal digits without a zero before it; None if it is none."""
+    is_number = word.isascii() and word.isdigit() and len(word) <= len(str(most)) and (word[0] != "0" or word == "0")
+    return int(word) if is_number and int(word) <= most else None
+
+
 def one_line(text: object) -> str:
     """A text's lines as one, printable."""
     return printable("; ".join(filter(None, (line.strip() for line in str(text).splitlines()))))

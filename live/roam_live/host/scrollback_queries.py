@@ -3,16 +3,16 @@ from __future__ import annotations
 
 from collections.abc import Callable
 
+from roam_live.common.text import decimal_in
 from roam_live.host.scrollback import PaneScrollback, Scrollback, pane_key, pane_of_key
 from roam_live.host.scrollback_store import ScrollbackRange, Search, Snapshot
-from roam_live.protocol.host_lines import BACK, COUNT, END, FIND, FOUND, LOG, MORE, NONE, ON, RELEASE, ROWS, SNAPSHOT, led
+from roam_live.protocol.host_lines import (BACK, COUNT, END, FIND, FOUND, LOG, MORE, MOST_NUMBER, NONE, ON, RELEASE, ROWS, SNAPSHOT,
+                                             led)
+from roam_live.protocol.panes import MOST_PANES
 
 # So many seconds are spent at once on what is looked for, and so many pass between two lines that tell how many rows came.
 SEARCHES = 0.01
 TELLS_MORE = 0.5
-
-# No number has so many digits.
-MOST_DIGITS = 15
 
 # Which way a text is looked for.
 WAYS = {BACK: True, ON: False}
@@ -20,10 +20,8 @@ WAYS = {BACK: True, ON: False}
 
 def numbers_in(words: list[str]) -> list[int] | None:
     """The numbers that words are, of which the first is that of a pane; None where they aren't."""
-    if not all(word.isascii() and word.isdigit() and len(word) <= MOST_DIGITS for word in words):
-        return None
-    numbers = [int(word) for word in words]
-    return numbers if numbers and 1 <= numbers[0] <= 9 else None
+    numbers = [number for number in (decimal_in(word, MOST_NUMBER) for word in words) if number is not None]
+    return numbers if numbers and len(numbers) == len(words) and 1 <= numbers[0] <= MOST_PANES else None
 
 
 class RowAsker:

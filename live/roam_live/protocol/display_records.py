@@ -4,7 +4,8 @@ from __future__ import annotations
 
 from collections import namedtuple
 
-from roam_live.common.io import LongLine, LineReader
+from roam_live.common.io import LineReader, LongLine
+from roam_live.common.text import decimal_in
 
 # What came before this was painted, and isn't known to the terminal any more.
 BEGIN = b"\nevents\n"
@@ -12,6 +13,7 @@ FULL = b"full\n"
 # A line has fewer bytes, and what stands behind one too: a screen of 200 by 500 in which each cell has an ink of its own is some 7 MB.
 LONGEST_LINE = 512
 MOST_BYTES = 1 << 24
+MOST_NUMBER = 10**20 - 1
 # How many numbers stand behind each word; of these words the number says how many bytes follow.
 NUMBERS = {"events": 0, "size": 2, "part": 2, "paint": 1, "anew": 1, "screen": 1, "silent": 1, "heard": 0, "refused": 1, "taken": 1,
            "full": 0}
@@ -33,9 +35,10 @@ class DisplayRecord(namedtuple("DisplayRecord", "word numbers data words", defau
 
 def number_of(text: str) -> int:
     """A number in decimals without a leading zero."""
-    if not (text.isascii() and text.isdigit()) or len(text) > 20 or text != str(int(text)):
+    number = decimal_in(text, MOST_NUMBER)
+    if number is None:
         raise NoRecord(f"{text[:20]!r} is no number")
-    return int(text)
+    return number
 
 
 def line_of(line: bytes) -> DisplayRecord:

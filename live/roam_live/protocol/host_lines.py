@@ -4,7 +4,10 @@ Each line begins with the number of a window, 0 for the session.
 """
 from __future__ import annotations
 
-SESSION = 0
+from roam_live.common.text import decimal_in
+
+# The number of the session, and the highest of a window.
+SESSION, HIGHEST = 0, 99
 
 # No line that comes to the host has so many bytes; the answer to one that is of no known form; and what stands for something unknown.
 LONGEST_HOST_LINE = 256
@@ -18,6 +21,7 @@ COUNT, ROWS, FIND, FOUND, SNAPSHOT, RELEASE, MORE, LOG = "count", "rows", "find"
 BACK, ON, END = "back", "on", "end"
 MOST_ROWS = 2000
 MOST_ROW_BYTES = 1 << 18
+MOST_NUMBER = 10**15 - 1
 
 
 def led(number: int, line: str) -> str:
@@ -28,5 +32,5 @@ def led(number: int, line: str) -> str:
 def parted(line: str) -> tuple[int | None, str]:
     """Return the number that a line begins with, None if it begins with none, and the rest."""
     word, _, rest = line.partition(" ")
-    is_number = word.isascii() and word.isdigit() and len(word) <= 2 and str(int(word)) == word
-    return (int(word), rest) if is_number else (None, line)
+    number = decimal_in(word, HIGHEST)
+    return (None, line) if number is None else (number, rest)

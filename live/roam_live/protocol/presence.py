@@ -6,6 +6,8 @@ import time
 from collections import namedtuple
 from collections.abc import Callable
 
+from roam_live.common.text import decimal_in
+
 # The word by which a terminal says that it is there, or that its size is another; and that by which it asks to be told of the others.
 HERE, WHO = "here", "who"
 
@@ -43,8 +45,7 @@ class Presence(namedtuple("Presence", "name rows cols kind")):
 
 def number_in(word: str, most: int) -> int:
     """The number of a word, from 1 to the most, without a zero before it; else 0."""
-    is_one = word.isascii() and word.isdigit() and word[0] != "0" and len(word) <= len(str(most))
-    return int(word) if is_one and int(word) <= most else 0
+    return decimal_in(word, most) or 0
 
 
 def presence_in(words: list[str]) -> Presence | None:

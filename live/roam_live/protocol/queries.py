@@ -4,11 +4,12 @@ from __future__ import annotations
 import pathlib
 
 from roam_live.common.build_info import version
+from roam_live.common.text import decimal_in
 from roam_live.protocol.colours import NUMBERS, Colours
 
-# What a server is asked for by who answers, and the word that begins each line of that. No number there has more digits.
+# What a server is asked for by who answers, and the word that begins each line of that. No number there is higher.
 QUERIES, QUERY = "queries", "query"
-MOST_DIGITS = 19
+MOST_NUMBER = 10**19 - 1
 
 # What the terminal of a pane is called (XTVERSION): its name and version.
 NAMED = b"\x1bP>|roam %s\x1b\\"
@@ -65,6 +66,6 @@ def query_in(line: str) -> PaneQuery | None:
     word, *words = line.split(" ")
     if word != QUERY or len(words) < 3 or words[2] not in BEHIND:
         return None
-    if not all(part.isascii() and part.isdigit() and len(part) <= MOST_DIGITS for part in words[:2]):
+    if any(decimal_in(part, MOST_NUMBER) is None for part in words[:2]):
         return None
     return PaneQuery(words) if words[3:] in ([], BEHIND[words[2]]) else None

@@ -6,8 +6,9 @@ from collections import deque, namedtuple
 from collections.abc import Callable
 
 from roam_live.common.io import LineReader, LongLine
-from roam_live.protocol.host_lines import (BACK, BAD_LINE, COUNT, FIND, FOUND, MORE, MOST_ROWS, NONE, ON, RELEASE, ROWS, SESSION, SNAPSHOT,
-                                           parted)
+from roam_live.common.text import decimal_in
+from roam_live.protocol.host_lines import (BACK, BAD_LINE, COUNT, FIND, FOUND, MORE, MOST_NUMBER, MOST_ROWS, NONE, ON, RELEASE, ROWS,
+                                           SESSION, SNAPSHOT, parted)
 
 TYPE_CHECKING = False
 if TYPE_CHECKING:
@@ -65,10 +66,10 @@ class Answer:
 
 def number_at(words: list[str], place: int) -> int:
     """The number, of at most fifteen digits, that a word is; BadAnswer where there is none."""
-    word = words[place] if len(words) > place else ""
-    if not (word.isascii() and word.isdigit() and len(word) <= 15):
+    number = decimal_in(words[place], MOST_NUMBER) if len(words) > place else None
+    if number is None:
         raise BadAnswer(" ".join(words)[:80])
-    return int(word)
+    return number
 
 
 def rows_in(data: bytes) -> list[bytes]:
