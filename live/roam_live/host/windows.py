@@ -8,6 +8,7 @@ import signal
 from collections.abc import Callable
 
 from roam_live.common.errors import Fault, reason, say
+from roam_live.common.files import replace_text
 from roam_live.common.tty import LEAST
 from roam_live.common.unix_socket import connected_now
 from roam_live.host.common import Common
@@ -195,10 +196,7 @@ class Windows:
 
     def note_last(self) -> None:
         """Notes at which window somebody was last."""
-        new = os.path.join(self.folder, f"last.{os.getpid()}")
-        with open(new, "w", encoding="ascii") as file:
-            file.write(f"{self.state.last_window}\n")
-        os.replace(new, os.path.join(self.folder, "last"))
+        replace_text(os.path.join(self.folder, "last"), f"{self.state.last_window}\n")
 
     # ---- how one is begun
 
