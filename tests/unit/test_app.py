@@ -20,7 +20,7 @@ from roam_live.input.extended_keys import QUERY, WANTED, given_back
 from roam_live.protocol import client_link
 from roam_live.protocol.colours import ASKED
 from roam_live.protocol.display_records import DisplayRecord
-from roam_live.protocol.host_link import FEW
+from roam_live.protocol.host_link import FEW, LAUNCHES
 from roam_live.protocol.panes import Places, Rect
 from roam_live.session.front_end_lock import has_front_ends
 from test_display import Person, PlayedPanes, painting, places
@@ -531,7 +531,7 @@ class Loop(Fronts):
 
     def test_sizes(self):
         """What is shown goes by a new size soon, and the session by one that has stood for 0.3 s; a new session by each."""
-        self.front.host_link.faults = FEW + 1
+        self.front.host_link.faults, self.front.host_link.begun = FEW + 1, self.now - LAUNCHES
         client = self.connect()
         self.paints()
         read_now(client)
@@ -560,7 +560,7 @@ class Loop(Fronts):
         self.now += 0.3
         self.turn()
         self.assertEqual(read_now(client), b"")
-        self.front.host_link.faults = FEW + 1
+        self.front.host_link.faults, self.front.host_link.begun = FEW + 1, self.now - LAUNCHES
         self.now += 0.3
         self.turn()
         self.assertEqual(read_now(client), b"size 24 80\n")

@@ -16,7 +16,7 @@ from test_app import Fronts
 LIVE = pathlib.Path(connection.__file__).resolve().parents[2]
 
 # So many modules of its packages a front end loads at once at most.
-MOST_OWN = 34
+MOST_OWN = 35
 
 # What a process has loaded in which a front end runs: `mux`, or `attach`.
 ROOTS = ("roam_live.frontend.app", "roam_live.session.lookup", "roam_live.session.port_session")

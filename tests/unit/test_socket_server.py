@@ -15,6 +15,8 @@ from roam_live.host.window_channel import WindowChannel
 from roam_live.protocol import presence
 from roam_live.protocol.host_client import KNOWS
 from roam_live.protocol.host_lines import LONGEST_HOST_LINE
+from roam_live.protocol.host_link import LAUNCHES
+from roam_live.protocol.panes_client import PAUSES
 from roam_live.protocol.presence import MOST_ATTENDED, MOST_OTHERS, STAYS, Attended, OtherTerminals, Presence, presence_said, terminal_name
 from roam_live.protocol.zoom_record import OVER, ZoomNote
 
@@ -462,6 +464,13 @@ class Links(Sockets):
         folder = self.made_folder()
         one = self.link(folder=folder)
         self.assertEqual((one.has_others(), one.is_awaited(), one.peer, one.takes_texts()), (None, True, None, False))
+        # One that was launched just before is tried again and again.
+        for _ in range(20):
+            self.now += PAUSES[0]
+            one.loop.turn()
+            self.assertEqual((one.is_awaited(), one.loop.due["follow host"][0]), (True, self.now + PAUSES[0]))
+        self.now += LAUNCHES
+        one.loop.turn()
         for pause, is_awaited in zip(PAUSES, (True, False, False)):
             self.now += pause
             one.loop.turn()

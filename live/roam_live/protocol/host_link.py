@@ -38,6 +38,10 @@ STORES_AGAIN = 0.3
 # Where so many connections in a row couldn't be had one may still be there soon.
 FEW = 2
 
+# For so many seconds a host that was not met yet may be about to listen, as where it was launched just before: it is tried again at short
+# pauses, and expected.
+LAUNCHES = 5.0
+
 # So many bytes wait for a host at most.
 MOST_UNSENT = 2 * MOST_BYTES
 
@@ -50,6 +54,7 @@ class HostLink(Subscription):
     def __init__(self, folder: str | os.PathLike[str] | None, loop: Loop, size: Callable[[], Size], is_read_only: bool) -> None:
         path = self.path = os.path.join(folder, "host") if folder else ""
         super().__init__(lambda: connected_now(path), loop, lambda lines: None, self.forget)
+        self.begun = loop.clock()
         self.name, self.size, self.kind = terminal_name(), size, "read-only" if is_read_only else "read-write"
         # What is known of each window where the person is or was, and the one where he is.
         self.clients: dict[int, HostClient] = {}
@@ -128,6 +133,12 @@ class HostLink(Subscription):
     def is_connecting(self) -> bool:
         """Whether a connection may be there soon: none is, as where the host was launched just before, and few were tried in a row."""
         return bool(self.path) and self.peer is None and self.faults <= FEW
+
+    def lost(self, why: str) -> None:
+        """Lets go of a connection, or goes on without one that can't be had, which is tried again."""
+        super().lost(why)
+        if not self.is_known and self.loop.clock() < self.begun + LAUNCHES:
+            self.faults = 0
 
     def hear(self) -> None:
         """Takes what came; what can't be an answer ends the connection."""
