@@ -86,7 +86,8 @@ class Typed(unittest.TestCase):
     def test_dropped(self):
         """65,536 bytes wait; what is above is dropped, which is told once until all was read."""
         typed = TypedQueue(PendingPastes(SessionState(), StillLoop(), lambda name, word: None), lambda: False)
-        pane = host_pane.PaneCommand(host_pane.Options(folder="/no"), StillLoop(), PaneState(number=4, generation=1, size=(23, 80)), False, typed)
+        state = PaneState(number=4, generation=1, size=(23, 80))
+        pane = host_pane.PaneCommand(host_pane.Options(folder="/no"), StillLoop(), state, False, typed)
         said = io.StringIO()
         with contextlib.redirect_stderr(said):
             for _ in range(3):

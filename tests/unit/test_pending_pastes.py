@@ -15,8 +15,8 @@ from roam_live.host.state import PaneState, PendingPaste, SessionState
 from roam_live.host.uploads import KEPT, PendingPastes
 from roam_live.protocol import paste_text
 from roam_live.protocol.host_lines import LONGEST_HOST_LINE
-from roam_live.protocol.paste_text import (CLOSES, INSERTED, LOST, MOST_BYTES, MOST_SPENT, MOST_TEXTS, OPENS, STORED, TOO_LONG, TOO_MANY, cleaned,
-                                           placeholder_acts, random_name, without_brackets)
+from roam_live.protocol.paste_text import (CLOSES, INSERTED, LOST, MOST_BYTES, MOST_SPENT, MOST_TEXTS, OPENS, STORED, TOO_LONG,
+                                           TOO_MANY, cleaned, placeholder_acts, random_name, without_brackets)
 from test_socket_server import NAMED, Sockets
 
 NAME, OTHER = "0123456789abcdef", "fedcba9876543210"

@@ -139,7 +139,8 @@ class Panes(Host):
     def test_commands(self):
         """What runs in front is told there, and looked up again after something was typed or written."""
         names = {1: "sh", 2: "vi"}
-        self.patch_of(window.Fronts, "look", lambda fronts, pane: fronts.tells(pane.state.number, pane.state.generation, names[pane.state.number]))
+        self.patch_of(window.Fronts, "look",
+                      lambda fronts, pane: fronts.tells(pane.state.number, pane.state.generation, names[pane.state.number]))
         panes = self.begin()
         one = Asker(self, self.folder)
         one.send(b"commands\n")
