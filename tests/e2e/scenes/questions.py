@@ -4,6 +4,7 @@ import time
 
 from tried import SESSION, Outer, check, comes, connected, scene, terminals_of, tool
 from roam_live.cli.capture import asked_screen
+from roam_live.common.build_info import version
 from roam_live.protocol.colours import ASKED
 from roam_live.protocol.display_records import screen_of
 from roam_live.protocol.queries import QUERIES, NAMED
@@ -76,7 +77,7 @@ def questions(folder):
         return
     check("the terminal is asked for its colours", ASKED in outer.written, bytes(outer.written[:300]))
     found = answers(folder, outer, r"\033]11;?\007\033[?2026$p\033[?2004$p\033[>q")
-    wanted = b"\x1b[?2026;2$y\x1b[?2004;2$y" + NAMED + DEVICE
+    wanted = b"\x1b[?2026;2$y\x1b[?2004;2$y" + NAMED % version().encode() + DEVICE
     check("what is known is answered before the answer to DA1, in its order", found.startswith(wanted), found)
     check("the host knows of the terminal", comes(lambda: is_known(terminals_of(SESSION).parent)))
     outer.type(b"\x1b]11;rgb:11")
