@@ -192,6 +192,19 @@ class Buffers(Case):
         buffer.kept += b"12345678\n"
         self.assertRaises(io.LongLine, buffer.line)
 
+    def test_read(self):
+        """Lines are read as they come: none where nothing came, and None once nothing more will."""
+        reader, (source, target) = io.LineReader(), self.pipe()
+        os.set_blocking(source, False)
+        self.assertEqual(reader.read(source), [])
+        os.write(target, b"one\ntw")
+        self.assertEqual((reader.read(source), reader.read(source)), (["one"], []))
+        os.write(target, b"o\n\nx")
+        self.assertEqual(reader.read(source), ["two", ""])
+        end = os.open(os.devnull, os.O_RDONLY)
+        self.addCleanup(os.close, end)
+        self.assertEqual((reader.read(end), bytes(reader.kept)), (None, b"x"))
+
     def test_peer(self):
         """Lines that weren't asked for are bounded beside answers, until it has read all."""
         ours, theirs = self.pair()

@@ -153,6 +153,7 @@ class MalformedStates(unittest.TestCase):
                 ((*window, "history"), [1] * 10, "not a list of 0 to 9"), ((*window, "history"), {}, "not a list of 0 to 9"),
                 ((*window, "processes"), {"host": [1, 2]}, "not one of server, client"),
                 ((*window, "processes", "server"), [0, 2], "not a number from 1 to 2147483648"),
+                ((*window, "processes", "server"), [1, (1 << 63) + 1], "not a number from 0 to 9223372036854775808"),
                 ((*window, "processes", "server"), [1], "not a list of 2"), ((*window, "processes", "server"), None, "not a list of 2"),
                 ((*window, "zoom", "note"), [[24, 80], []], "not a list of 1 to 8"),
                 ((*window, "zoom", "note"), [[24, 80], [[24, 80]] * 9], "not a list of 1 to 8"),
