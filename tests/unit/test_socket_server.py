@@ -16,7 +16,7 @@ from roam_live.protocol import presence
 from roam_live.protocol.host_client import KNOWS
 from roam_live.protocol.host_lines import LONGEST_HOST_LINE
 from roam_live.protocol.host_link import LAUNCHES
-from roam_live.protocol.panes_client import PAUSES
+
 from roam_live.protocol.presence import MOST_ATTENDED, MOST_OTHERS, STAYS, Attended, OtherTerminals, Presence, presence_said, terminal_name
 from roam_live.protocol.zoom_record import OVER, ZoomNote
 
