@@ -6,9 +6,15 @@ use Rattle.std.proofs.lemmas.List.Concat.{flat_map-append}
 use Rattle.roam_scrollback.specs.Lines.{LinesView, Writes, no_lines}
 use Rattle.roam_scrollback.specs.Sources.{SourceView, IsSource, Sheds, left_through}
 use Rattle.roam_scrollback.proofs.Standing.{continues}
-use Rattle.roam_scrollback_stream.specs.Panes.{TellsAll}
+use Rattle.roam_scrollback_stream.specs.Panes.{ArePartsOf, TellsAll}
 use Rattle.roam_scrollback_stream.specs.Records.{Part, part_text, rows_of, rows_text, lost_text, cleared_text}
 use Rattle.roam_text.specs.Log.{Item, Byte}
+
+-- parts of what came to one log, and of what came from there
+pub parts-then : (rows cols : ℕ) (log mid later : List Item) (ps qs : List Part) → ArePartsOf rows cols log mid ps
+    → ArePartsOf rows cols mid later qs → ArePartsOf rows cols log later (ps ++ qs)
+parts-then rows cols log mid later [] qs p q = subst (λ l. ArePartsOf rows cols l later qs) p q
+parts-then rows cols log mid later (part ∷ ps) qs p q = (p.0, parts-then rows cols (log ++ part.items) mid later ps qs p.1 q)
 
 -- nothing came
 pub tells-none : (s : SourceView) (n : ℕ) (out : List ℕ) → TellsAll s s n out out []
@@ -17,6 +23,7 @@ tells-none s n out = λ rows cols log is. record {
   more = [];
   left = ap (left_through rows cols) (append-nil log) ∙ sym (append-nil (left_through rows cols log));
   tells = record { parts = []; text = sym (append-nil out); all_of = refl };
+  parts = append-nil log;
 }
 
 -- what a source wrote was told
@@ -25,7 +32,8 @@ pub tells-one : (old new : SourceView) (v w : LinesView) (cleared : Bool) (items
     → TellsAll old new n out out' items
 tells-one old new v w cleared items n out out' none sheds text = λ rows cols log is.
     let k = continues old new v w cleared items rows cols log sheds is in
-    let part : Part = record { rows = k.more; lines = w; written = subst (λ (u : LinesView). Writes u w k.more) none k.written; is_cleared = cleared } in
+    let gives = sheds.gives log is.reads in
+    let part : Part = record { items = items; rows = k.more; lines = w; written = subst (λ (u : LinesView). Writes u w k.more) none k.written; is_cleared = cleared } in
     record {
       source = k.source;
       more = k.more;
@@ -35,6 +43,7 @@ tells-one old new v w cleared items n out out' none sheds text = λ rows cols lo
         text = text ∙ ap (λ l. out ++ l) (sym (append-nil (part_text n part)));
         all_of = append-nil k.more;
       };
+      parts = (record { came = gives.more; functions = gives.functions; left = k.left; cleared = gives.cleared }, refl);
     }
 
 -- some came, and then more
@@ -61,4 +70,8 @@ tells-then a b c n one two three xs ys p q = λ rows cols log is.
             flat_map-append rows_of first.tells.parts second.tells.parts
             ∙ ap (λ l. l ++ flat_map rows_of second.tells.parts) first.tells.all_of ∙ ap (λ l. first.more ++ l) second.tells.all_of;
       };
+      parts =
+          subst (λ l. ArePartsOf rows cols log l (first.tells.parts ++ second.tells.parts)) together
+          (parts-then rows cols log (log ++ map Byte xs) ((log ++ map Byte xs) ++ map Byte ys) first.tells.parts second.tells.parts
+          first.parts second.parts);
     }

@@ -1,10 +1,12 @@
 -- A terminal whose rows are told, with the filter before it.
-use Rattle.std.specs.Prelude.{◌≡◌, ℕ, List, ◌++◌, Option, Some, None}
+use Rattle.std.specs.Prelude.{◌≡◌, ℕ, List, [], ◌∷◌, ◌++◌, Option, Some, None}
 use Rattle.roam_scrollback.specs.Lines.{LeftRow, LinesView, Writes, no_lines}
-use Rattle.roam_scrollback.specs.Sources.{SourceView, IsSource, left_through, rows_shown}
+use Rattle.roam_scrollback.specs.Sources.{SourceView, IsCleared, IsSource, left_through, rows_shown}
 use Rattle.roam_normalize.specs.Normalized.{normalized_part, held_part}
-use Rattle.roam_scrollback_stream.specs.Records.{Tells, screen_text}
+use Rattle.roam_scrollback_stream.specs.Records.{Part, Tells, screen_text}
+use Rattle.roam_text.specs.Functions.{functions_of}
 use Rattle.roam_text.specs.Log.{Item}
+use Rattle.roam_text.specs.declared.functions.Function.{Function}
 
 -- what contracts see: its number, the terminal, and what the filter holds back, where there is one
 pub record PaneView : Type 0 where
@@ -26,12 +28,26 @@ abbrev pub held_for : Option (List ℕ) → List ℕ → Option (List ℕ)
 held_for None piece = None
 held_for (Some held) piece = Some (held_part (held ++ piece))
 
+-- A part is of what came behind a log: its rows are those that left by it, and it says that what left until then is erased exactly if the
+-- last of its functions erases that.
+pub record IsPart (rows cols : ℕ) (log : List Item) (part : Part) : Type 0 where
+  pub came : List Function
+  pub functions : functions_of (log ++ part.items) ≡ functions_of log ++ came
+  pub left : left_through rows cols (log ++ part.items) ≡ left_through rows cols log ++ part.rows
+  pub cleared : IsCleared part.is_cleared came
+
+-- parts of what came between one log and a later one, in their order
+abbrev pub ArePartsOf : ℕ → ℕ → List Item → List Item → List Part → Type 0
+ArePartsOf rows cols log later [] = later ≡ log
+ArePartsOf rows cols log later (part ∷ parts) = IsPart rows cols log part × ArePartsOf rows cols (log ++ part.items) later parts
+
 -- a terminal that stood for one log stands for it followed by items, and the rows that left by them were told
 pub record Told (new : SourceView) (n : ℕ) (out out' : List ℕ) (rows cols : ℕ) (log later : List Item) : Type 0 where
   pub source : IsSource new rows cols later
   pub more : List LeftRow
   pub left : left_through rows cols later ≡ left_through rows cols log ++ more
   pub tells : Tells n out out' more
+  pub parts : ArePartsOf rows cols log later tells.parts
 
 -- for every log that it stood for
 abbrev pub TellsAll : SourceView → SourceView → ℕ → List ℕ → List ℕ → List Item → Type 0

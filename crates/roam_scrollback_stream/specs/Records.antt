@@ -2,6 +2,7 @@
 use Rattle.std.specs.Prelude.{◌≡◌, ℕ, ◌==◌, Bool, List, [], ◌++◌, length, codes, decimal, if◌then◌else◌}
 use Rattle.std.specs.List.{flat_map}
 use Rattle.roam_scrollback.specs.Lines.{LeftRow, LinesView, Writes, no_lines}
+use Rattle.roam_text.specs.Log.{Item}
 
 -- so many lines of a terminal, and their bytes; none are told of by nothing
 abbrev pub rows_text : ℕ → LinesView → List ℕ
@@ -22,8 +23,9 @@ abbrev pub screen_text : ℕ → LinesView → List ℕ
 screen_text n lines =
     codes "screen " ++ decimal n ++ codes " " ++ decimal lines.count ++ codes " " ++ decimal (length lines.text) ++ codes "\n" ++ lines.text
 
--- rows that left one after another, their lines, and whether what left until then is erased
+-- what came of a terminal, the rows that left by it, their lines, and whether what left until then is erased
 pub record Part : Type 0 where
+  pub items : List Item
   pub rows : List LeftRow
   pub lines : LinesView
   pub written : Writes no_lines lines rows

@@ -2,6 +2,7 @@
 ghost use Rattle.std.specs.Prelude.{◌≡◌, ◌++◌, Some, IfSome, codes};
 ghost use Rattle.roam_scrollback_stream.specs.ReadRequests.{counted_in, short_in, size_in, sized_in, terminal_in};
 ghost use Rattle.roam_scrollback_stream.specs.Requests.{IsRequest, request_text};
+ghost use Rattle.roam_scrollback_stream.specs.Runs.{bytes_after, terminal_of};
 ghost use Rattle.roam_scrollback_stream.specs.declared.requests.Request.{Request as RequestOf};
 
 use roam_tokens::{first_word, number};
@@ -22,6 +23,31 @@ pub enum Request {
     Screen(u16),
     /// It ends.
     Gone(u16),
+}
+
+impl Request {
+    /// The number of the terminal that it is for.
+    pub fn terminal(self) -> u16
+        ensures terminal { result ≡ terminal_of self }
+    {
+        match self {
+            Request::Pane(number, ..)
+            | Request::Size(number, ..)
+            | Request::Bytes(number, _)
+            | Request::Screen(number)
+            | Request::Gone(number) => number,
+        }
+    }
+
+    /// How many bytes follow its line.
+    pub fn bytes_after(self) -> u64
+        ensures count { result ≡ bytes_after self }
+    {
+        match self {
+            Request::Bytes(_, count) => count,
+            _ => 0,
+        }
+    }
 }
 
 // The number of 16 bits that a text writes.

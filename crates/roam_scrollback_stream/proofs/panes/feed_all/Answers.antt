@@ -2,7 +2,7 @@ use Rattle.std.proofs.Common.{◌≡◌, ◌-◌, ℕ, List, map, length, length
 use Rattle.std.proofs.Math.Seq.{take-add}
 use Rattle.roam_text.specs.Log.{Byte}
 use Rattle.roam_scrollback_stream.specs.Panes.{TellsAll}
-use Rattle.roam_scrollback_stream.proofs.Telling.{tells-then}
+use Rattle.roam_scrollback_stream.proofs.Telling.{tells-none, tells-then}
 use Rattle.roam_scrollback_stream.proofs.panes.feed_all.Goals as goal
 
 all-after : (i : ℕ) (xs : List ℕ) → take (length xs - i) (drop i xs) ≡ drop i xs
@@ -11,6 +11,13 @@ all-after i xs = take_all (length xs - i) (drop i xs) (omega (arith, length-drop
 -- how long what is left of a piece is
 left_long : (at : ℕ) (piece : List ℕ) → length (take (length piece - at) (drop at piece)) ≡ length piece - at
 left_long at piece = ap (length {A = ℕ}) (all-after at piece) ∙ length-drop at piece
+
+pub loop-at-init : goal.loop-at-init
+loop-at-init c = record {
+  within = omega arith;
+  told = tells-none c.args.source.now c.args.number c.args.tellings.now.out;
+  none = c.requires.none;
+}
 
 pub loop-at-preserved : goal.loop-at-preserved
 loop-at-preserved c =

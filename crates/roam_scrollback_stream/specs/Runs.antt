@@ -1,0 +1,158 @@
+-- A run of `roam rows`: which records it reads and how it answers each (this project's profile). Cited by `run_rows`.
+use Rattle.std.specs.Prelude.{◌≡◌, ◌≢◌, ◌⊎◌, ℕ, zero, suc, ◌-◌, ◌^◌, ◌<◌, ◌≤◌, min, Bool, List, [], ◌∷◌, ◌++◌, length, map, replicate, slice_index_or, slice_set, Option, Some, None, if◌then◌else◌}
+use Rattle.std.specs.List.{All}
+use Rattle.roam_cells.specs.Limits.{IsSize}
+use Rattle.roam_scrollback.specs.Sources.{IsSource}
+use Rattle.roam_scrollback_stream.specs.Panes.{PaneView, ShowsAll, TellsAll, fed_for, held_for}
+use Rattle.roam_scrollback_stream.specs.Requests.{IsRequest, most_terminals, request_text}
+use Rattle.roam_scrollback_stream.specs.declared.requests.Request.{Request}
+use Rattle.roam_scrollback_stream.specs.declared.requests.Request.TheVariants.{Pane, Size, Bytes, Screen, Gone}
+use Rattle.roam_text.specs.Log.{Byte, Resized}
+
+-- the most bytes of a record's line, without its LF
+abbrev pub longest_line : ℕ
+longest_line = 64
+
+-- the terminal that a request is for
+abbrev pub terminal_of : Request → ℕ
+terminal_of (Pane n rows cols) = n
+terminal_of (Size n rows cols) = n
+terminal_of (Bytes n count) = n
+terminal_of (Screen n) = n
+terminal_of (Gone n) = n
+
+-- how many bytes follow a request's line
+abbrev pub bytes_after : Request → ℕ
+bytes_after (Bytes n count) = count
+bytes_after request = 0
+
+-- the terminals before any record: none at each number
+abbrev pub no_terminals : List (Option PaneView)
+no_terminals = replicate most_terminals None
+
+-- the terminal at a number, if there is one
+abbrev pub terminal_at : List (Option PaneView) → ℕ → Option PaneView
+terminal_at terminals n = slice_index_or terminals n None
+
+-- a terminal of this size that was fed nothing
+pub record IsNewPane (normalize : Bool) (n rows cols : ℕ) (pane : PaneView) : Type 0 where
+  pub number : pane.number ≡ n
+  pub source : IsSource pane.source rows cols []
+  pub held : pane.held ≡ (if normalize then Some [] else None)
+
+-- a terminal is given another size, and the rows that leave by it are written
+pub record IsResized (rows cols : ℕ) (old new : PaneView) (out out' : List ℕ) : Type 0 where
+  pub is : IsSize rows cols
+  pub tells : TellsAll old.source new.source old.number out out' (Resized rows cols ∷ [])
+  pub held : new.held ≡ old.held
+  pub number : new.number ≡ old.number
+
+-- a terminal is fed bytes, through the filter if there is one, and the rows that leave by them are written
+pub record IsFed (bytes : List ℕ) (old new : PaneView) (out out' : List ℕ) : Type 0 where
+  pub tells : TellsAll old.source new.source old.number out out' (map Byte (fed_for old.held bytes))
+  pub held : new.held ≡ held_for old.held bytes
+  pub number : new.number ≡ old.number
+
+-- what a request makes of the place of its terminal, and what is written for it; bytes that follow it are fed afterwards
+abbrev pub Answers : Bool → Request → Option PaneView → Option PaneView → List ℕ → List ℕ → Type 0
+Answers normalize (Pane n rows cols) old new out out' =
+    (pane : PaneView) × (new ≡ Some pane) × IsNewPane normalize n rows cols pane × (out' ≡ out)
+Answers normalize (Size n rows cols) old new out out' =
+    (pane sized : PaneView) × (old ≡ Some pane) × (new ≡ Some sized) × IsResized rows cols pane sized out out'
+Answers normalize (Bytes n count) old new out out' = (pane : PaneView) × (old ≡ Some pane) × (new ≡ old) × (out' ≡ out)
+Answers normalize (Screen n) old new out out' = (pane : PaneView) × (old ≡ Some pane) × (new ≡ old) × ShowsAll pane.source pane.number out out'
+Answers normalize (Gone n) old new out out' = (pane : PaneView) × (old ≡ Some pane) × (new ≡ None) × (out' ≡ out)
+
+-- a request is out of place: its terminal isn't there, or its size is no size of a screen
+abbrev pub IsMisplaced : Request → Option PaneView → Type 0
+IsMisplaced (Pane n rows cols) old = ¬ IsSize rows cols
+IsMisplaced (Size n rows cols) old = (old ≡ None) ⊎ (¬ IsSize rows cols)
+IsMisplaced request old = old ≡ None
+
+-- ---- a whole run
+
+-- what a run has read and written, its terminals, how many records came, and how many bytes of the last one are still to come, for which
+-- terminal
+pub record RunView : Type 0 where
+  pub terminals : List (Option PaneView)
+  pub records : ℕ
+  pub number : ℕ
+  pub coming : ℕ
+  pub input : List ℕ
+  pub output : List ℕ
+
+-- before any record
+abbrev pub nothing_read : RunView
+nothing_read = record { terminals = no_terminals; records = 0; number = 0; coming = 0; input = []; output = [] }
+
+-- the line of a record is read and answered
+pub record Asks (normalize : Bool) (old new : RunView) : Type 0 where
+  pub request : Request
+  pub is : IsRequest request
+  pub place : Option PaneView
+  pub between : old.coming ≡ 0
+  pub answers : Answers normalize request (terminal_at old.terminals (terminal_of request)) place old.output new.output
+  pub terminals : new.terminals ≡ slice_set old.terminals (terminal_of request) place
+  pub records : new.records ≡ suc old.records
+  pub number : new.number ≡ terminal_of request
+  pub coming : new.coming ≡ bytes_after request
+  pub input : new.input ≡ old.input ++ (request_text request ++ 0x0A ∷ [])
+
+-- some of the bytes that follow a line are read, and fed to the terminal that the line names
+pub record Feeds (old new : RunView) : Type 0 where
+  pub piece : List ℕ
+  pub some : 0 < length piece
+  pub within : length piece ≤ old.coming
+  pub pane : PaneView
+  pub fed : PaneView
+  pub there : terminal_at old.terminals old.number ≡ Some pane
+  pub tells : IsFed piece pane fed old.output new.output
+  pub terminals : new.terminals ≡ slice_set old.terminals old.number (Some fed)
+  pub records : new.records ≡ old.records
+  pub number : new.number ≡ old.number
+  pub coming : new.coming ≡ old.coming - length piece
+  pub input : new.input ≡ old.input ++ piece
+
+-- a run of so many such steps, from nothing read
+abbrev pub Runs : Bool → ℕ → RunView → Type 0
+Runs normalize zero run = run ≡ nothing_read
+Runs normalize (suc n) run = (before : RunView) × Runs normalize n before × (Asks normalize before run ⊎ Feeds before run)
+
+-- the beginning of a record's line: it may still become one
+pub record IsLineStart (line : List ℕ) : Type 0 where
+  pub unended : All (λ byte. byte ≢ 0x0A) line
+  pub short : length line ≤ longest_line
+
+-- Each record of the input is answered, in order, and nothing else is written; behind the last one the input may have the beginning of a
+-- line.
+pub record Ran (normalize : Bool) (read written : List ℕ) : Type 0 where
+  pub steps : ℕ
+  pub run : RunView
+  pub line : List ℕ
+  pub runs : Runs normalize steps run
+  pub starts : IsLineStart line
+  pub between : line ≢ [] → run.coming ≡ 0
+  pub input : read ≡ run.input ++ line
+  pub output : written ≡ run.output
+
+-- what stands behind the last record is none: it is too long, it has no request's text, or its request is out of place
+pub data IsBad (terminals : List (Option PaneView)) (line : List ℕ) : Type 0 where
+  long : (start : List ℕ) (byte : ℕ) → IsLineStart start → length start ≡ longest_line → byte ≢ 0x0A → line ≡ start ++ byte ∷ []
+      → IsBad terminals line
+  unknown : (text : List ℕ) → IsLineStart text → ((request : Request) → IsRequest request → text ≢ request_text request)
+      → line ≡ text ++ 0x0A ∷ [] → IsBad terminals line
+  misplaced : (request : Request) → IsRequest request → IsMisplaced request (terminal_at terminals (terminal_of request))
+      → line ≡ request_text request ++ 0x0A ∷ [] → IsBad terminals line
+
+-- Each record before the line with this number, from 1, is answered, and nothing else is written; that line is no record, or out of place.
+pub record RanTo (n : ℕ) (normalize : Bool) (read written : List ℕ) : Type 0 where
+  pub steps : ℕ
+  pub run : RunView
+  pub line : List ℕ
+  pub rest : List ℕ
+  pub runs : Runs normalize steps run
+  pub between : run.coming ≡ 0
+  pub bad : IsBad run.terminals line
+  pub counted : n ≡ min (suc run.records) (2 ^ 64 - 1)
+  pub input : read ≡ run.input ++ (line ++ rest)
+  pub output : written ≡ run.output
