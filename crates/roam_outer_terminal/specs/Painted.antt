@@ -36,11 +36,13 @@ is_ready t = is_here t.state && (is_open t && is_empty t.waiting)
 abbrev pub shown_of : ClientView → Noted
 shown_of client = record { number = client.kept.receiver.newest.number; screen = client.kept.receiver.newest.state }
 
--- the predictions of a terminal are judged at a moment by the screen that is noted of it; where none is, or there are none, they stay
+-- The predictions of a terminal are judged at a moment by the screen that is noted of it. They stay as they are only if no screen is noted, or
+-- the terminal has no predictions.
 pub data IsJudged (now : ℕ) (client : ClientView) (noted : Option Noted) (old new : Option OverlayOf) : Type 0 where
   judged : (n : Noted) (o o' : OverlayOf) → noted ≡ Some n → old ≡ Some o → new ≡ Some o'
       → Judges n.number n.screen client.kept.acts.acked now o o' → IsJudged now client noted old new
-  stay : new ≡ old → IsJudged now client noted old new
+  no_screen : noted ≡ None → new ≡ old → IsJudged now client noted old new
+  no_predictions : old ≡ None → new ≡ old → IsJudged now client noted old new
 
 -- no prediction is shown once nothing was heard for ten seconds
 abbrev pub IsHidden : Silence → Option Screenshot → Type 0

@@ -176,9 +176,9 @@ impl<S: Duplex + Drop> Terminal<S> {
         ensures others { self.new ≡ record self.old { predicting = self.new.predicting } }
     {
         if let Some(overlay) = &mut self.predicting
-            && let Some((number, Shown::New(screen))) = self.outer.noted()
+            && let Some((number, screen)) = self.outer.noted()
         {
-            overlay.judge(alloc, number, screen, client.acknowledged(), now);
+            overlay.judge(alloc, number, &screen, client.acknowledged(), now);
         }
     }
 
@@ -191,10 +191,8 @@ impl<S: Duplex + Drop> Terminal<S> {
             return None;
         }
         let overlay = self.predicting.as_ref()?;
-        match self.outer.noted() {
-            Some((_, Shown::New(screen))) => overlay.over(alloc, screen, silence.moment()),
-            _ => None,
-        }
+        let (_, screen) = self.outer.noted()?;
+        overlay.over(alloc, &screen, silence.moment())
     }
 
     // Lays a screen over the one that is noted, behind what waits.

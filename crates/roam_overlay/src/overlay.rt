@@ -4,13 +4,14 @@ ghost use Rattle.std.specs.List.{fold};
 ghost use Rattle.roam_prediction.specs.Predictions.{none};
 ghost use Rattle.roam_prediction.specs.Laws.{Step, after};
 ghost use Rattle.roam_overlay.specs.Delays.{no_delay};
+ghost use Rattle.roam_screens.specs.Shown.{shown_by};
 ghost use Rattle.roam_overlay.specs.Overlays.{Judges, Keeps, Sees, is_number, is_shown, laid_over, last_number, line_steps, screen_or, typed_steps};
 
 use crate::delays::Delays;
 use roam_acts::Act;
 use roam_cells::Fault;
 use roam_prediction::{Moment, Predictions};
-use roam_screens::{RowShot, Seen};
+use roam_screens::{RowShot, Seen, Shown};
 use std::alloc::Global;
 use std::marker::Model;
 
@@ -103,12 +104,12 @@ fn type_over<S: Seen>(
 }
 
 // Judges predictions by the screen that is noted, after the one that was.
-fn judge(predictions: &mut Predictions, seen: &Option<Judged>, screen: &RowShot, moment: Moment)
-    ensures sees { (step : Step) × Sees (screen_or seen.now screen.now) screen.now moment predictions.old step
+fn judge(predictions: &mut Predictions, seen: &Option<Judged>, screen: &Shown<'_>, moment: Moment)
+    ensures sees { (step : Step) × Sees (screen_or seen.now (shown_by screen.now)) (shown_by screen.now) moment predictions.old step
         × (predictions.new ≡ after predictions.old step) }
 {
     match seen {
-        Some(judged) => predictions.seen(moment, &judged.screen, screen),
+        Some(judged) => predictions.seen(moment, &Shown::New(&judged.screen), screen),
         None => predictions.seen(moment, screen, screen),
     }
 }
@@ -123,23 +124,33 @@ fn is_number(seen: &Option<Judged>, number: u64) -> bool
     }
 }
 
+// Returns a copy of a screen of either version. One of version 2 shares its rows with the copy.
+fn copy_of(alloc: Global, screen: &Shown<'_>) -> Result<RowShot, Fault>
+    ensures same { IfOk result (λ copy. copy ≡ shown_by screen.now) }
+{
+    match screen {
+        Shown::New(shot) => shot.copy(alloc),
+        Shown::Old(shot) => RowShot::of(alloc, *shot),
+    }
+}
+
 // Judges predictions by a screen, and keeps it as that of the last judgement; where there is no memory for that all predictions end.
 fn see(
     alloc: Global,
     predictions: &mut Predictions,
     seen: &mut Option<Judged>,
     number: u64,
-    screen: &RowShot,
+    screen: &Shown<'_>,
     moment: Moment,
 )
-    ensures sees { (step : Step) × Keeps number screen.now moment predictions.old step seen.old seen.new
+    ensures sees { (step : Step) × Keeps number (shown_by screen.now) moment predictions.old step seen.old seen.new
         × (predictions.new ≡ after predictions.old step) }
 {
     if is_number(seen, number) {
         judge(predictions, seen, screen, moment);
         return;
     }
-    let Ok(kept) = screen.copy(alloc) else {
+    let Ok(kept) = copy_of(alloc, screen) else {
         predictions.end(moment.acknowledged);
         return;
     };
@@ -196,11 +207,11 @@ impl Overlay {
         &mut self,
         alloc: Global,
         number: u64,
-        screen: &RowShot,
+        screen: &Shown<'_>,
         acknowledged: u64,
         now: u64,
     )
-        ensures judged { Judges number screen.now acknowledged now self.old self.new }
+        ensures judged { Judges number (shown_by screen.now) acknowledged now self.old self.new }
     {
         let right = self.predictions.count_right(screen);
         self.delays.right(&self.predictions, right, now);
@@ -227,17 +238,18 @@ impl Overlay {
     }
 
     /// A screen with what is predicted over it at a moment; none where nothing is shown, or no memory is there.
-    pub fn over(&self, alloc: Global, screen: &RowShot, now: u64) -> Option<RowShot>
-        ensures over { IfSome result (λ over. over ≡ laid_over self.now screen.now now) }
+    pub fn over(&self, alloc: Global, screen: &Shown<'_>, now: u64) -> Option<RowShot>
+        ensures over { IfSome result (λ over. over ≡ laid_over self.now (shown_by screen.now) now) }
         ensures shown { IfSome result (λ _. is_shown self.now ≡ true) }
     {
         if !self.is_shown() {
             return None;
         }
+        let copy = copy_of(alloc, screen).ok()?;
         if self.delays.is_long(&self.predictions, now) {
             let underlined = self.predictions.underlined(alloc).ok()?;
-            return underlined.over(alloc, screen).ok();
+            return underlined.over(alloc, &copy).ok();
         }
-        self.predictions.over(alloc, screen).ok()
+        self.predictions.over(alloc, &copy).ok()
     }
 }

@@ -4,7 +4,7 @@
 use roam_acts::Act;
 use roam_cells::Fault;
 use roam_overlay::Overlay;
-use roam_screens::RowShot;
+use roam_screens::{RowShot, Shown};
 use std::alloc::Global;
 
 /// What stands over a screen that is noted under a number once acts are typed there, the first under number 1; none is acknowledged.
@@ -16,7 +16,7 @@ pub fn laid_after(
 ) -> Result<Option<RowShot>, Fault> {
     let mut overlay = Overlay::new(alloc, false)?;
     overlay.typed(false, 1, acts, screen);
-    overlay.judge(alloc, number, screen, 0, 0);
-    Ok(overlay.over(alloc, screen, 0)) // none: an epoch begins hidden
+    overlay.judge(alloc, number, &Shown::New(screen), 0, 0);
+    Ok(overlay.over(alloc, &Shown::New(screen), 0)) // none: an epoch begins hidden
 }
 // README: end
