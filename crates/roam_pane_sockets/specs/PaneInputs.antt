@@ -27,3 +27,13 @@ pub record Brings (old new : PaneInput) (bytes : List ℕ) : Type 0 where
   pub piece : List ℕ
   pub carries : (came given : List ℕ) → Carries old came given → Carries new (came ++ piece) (given ++ bytes)
   pub kind : is_some new.filter_stage ≡ is_some old.filter_stage
+
+-- this piece came of its program, and these bytes, so many, are handed to its terminal
+pub record IsBrought (piece : List ℕ) (now : ℕ) (old new : PaneInput) (count : ℕ) (bytes : List ℕ) : Type 0 where
+  pub carries : (came given : List ℕ) → Carries old came given → Carries new (came ++ piece) (given ++ bytes)
+  pub kind : is_some new.filter_stage ≡ is_some old.filter_stage
+  pub through : PassesOn now (taken_in piece old.filter_stage) new.filter_stage count
+
+-- some piece did
+abbrev pub BringsPiece : ℕ → PaneInput → PaneInput → ℕ → List ℕ → Type 0
+BringsPiece now old new count bytes = (piece : List ℕ) × IsBrought piece now old new count bytes

@@ -1,8 +1,10 @@
 //! The peers of sockets, one at a time; those of the panes' sockets are each for the making of the pane that they came to.
-ghost use Rattle.std.specs.Prelude.{◌≡◌, ◌≢◌, ◌⊎◌, ◌↔◌, ◌<◌, ◌≤◌, length, IsTrue, IsSome, IfSome, is_some, None};
-ghost use Rattle.roam_pane_sockets.specs.PaneInputs.{Brings, HandsOn, IsFreshPaneInput};
+ghost use Rattle.std.specs.Prelude.{◌≡◌, ◌≢◌, ◌⊎◌, ◌↔◌, ◌<◌, ◌≤◌, ℕ, List, length, take, IsTrue, IsSome, IfSome, is_some, None};
+ghost use Rattle.std.specs.Io.KnownBytes.{Consumes};
+ghost use Rattle.roam_pane_sockets.specs.PaneInputs.{Brings, BringsPiece, HandsOn, IsBrought, IsFreshPaneInput};
 ghost use Rattle.roam_pane_sockets.specs.Peers.{HasFailed, generation_in, peer_in};
-ghost use Rattle.roam_pane_sockets.specs.FilterStages.{CountsSome, HasFree, IsFree, bytes_given};
+ghost use Rattle.roam_pane_sockets.specs.FilterStages.{CountsSome, HasFree, IsFree, TakesMore, bytes_given};
+ghost use Rattle.roam_pane_sockets.specs.declared.peers.Heard.TheVariants.{Piece, Nothing, Ended};
 
 use crate::filter_stages::MOST_READ;
 use crate::pane_inputs::PaneInput;
@@ -90,6 +92,42 @@ pub(crate) fn has_peer(making: &Option<Making>) -> bool
     }
 }
 
+/// What a read of a program's stream brought.
+enum Heard {
+    /// A piece, of which and of what waited so many bytes go on.
+    Piece(usize),
+    /// Nothing yet.
+    Nothing,
+    /// The end of the stream.
+    Ended,
+}
+
+// Reads a piece of a program's stream. What goes on to the pane's terminal is put into `buf`.
+fn read_piece<S: Read>(
+    stream: &mut S,
+    pane_input: &mut PaneInput,
+    buf: &mut [u8],
+    now: u64,
+) -> Heard
+    requires free { TakesMore pane_input.old.filter_stage }
+    ensures within { (n : ℕ) → result ≡ Piece n → n ≤ length buf.new }
+    // What the stream gave is what goes on, and what the pane's metadata has read.
+    ensures brings { (n : ℕ) → result ≡ Piece n → (piece : List ℕ) × Consumes (S.remaining stream.old) (S.remaining stream.new) piece
+        × IsBrought piece now pane_input.old pane_input.new n (take n buf.new) }
+    ensures none { result ≡ Nothing → pane_input.new ≡ pane_input.old }
+    ensures ended { result ≡ Ended → pane_input.new ≡ pane_input.old }
+{
+    let most = buf.len().min(MOST_READ);
+    let answer = stream.read(buf.split_at_mut(most).0);
+    if is_stream_end(&answer) {
+        return Heard::Ended;
+    }
+    match answer {
+        Ok(count) => Heard::Piece(pane_input.came(buf, count, now)),
+        Err(_) => Heard::Nothing,
+    }
+}
+
 impl Peer {
     /// No program came yet.
     pub(crate) fn none() -> Peer
@@ -121,24 +159,28 @@ impl Peer {
         }
     }
 
-    /// Takes those that wait, where there is none, until one wrote something, or wrote nothing yet: those that are gone are let go, and of
-    /// 64 and more the next one is heard another time.
+    /// Takes the programs that wait, if none is there, until one wrote something or is there and wrote nothing yet. Those that are gone
+    /// are let go, 64 at most in one call. Returns how many bytes of `buf` go on to the pane's terminal.
     pub(crate) fn take_next(
         &mut self,
+        pane_input: &mut PaneInput,
         listener: &UnixListener,
         registry: &Registry,
         buf: &mut [u8],
+        now: u64,
     ) -> Option<usize>
-        ensures some { IfSome result (λ n. 0 < n) }
+        requires free { TakesMore pane_input.old.filter_stage }
         ensures within { IfSome result (λ n. n ≤ length buf.new) }
         ensures from { IfSome result (λ _. IsSome self.new.stream) }
+        ensures brings { IfSome result (λ n. BringsPiece now pane_input.old pane_input.new n (take n buf.new)) }
+        ensures none { result ≡ None → pane_input.new ≡ pane_input.old }
     {
         for _ in 0..MOST_GONE {
             self.accept(listener, registry);
             if !self.is_there() {
                 return None;
             }
-            if let Some(count) = self.hear(buf) {
+            if let Some(count) = self.hear(pane_input, buf, now) {
                 return Some(count);
             }
             if self.is_there() {
@@ -149,19 +191,30 @@ impl Peer {
         None
     }
 
-    /// What the program wrote, or nothing. One that is gone is let go.
-    pub(crate) fn hear(&mut self, buf: &mut [u8]) -> Option<usize>
-        ensures some { IfSome result (λ n. 0 < n) }
+    /// Reads what the program wrote, and returns how many bytes of `buf` go on to the pane's terminal. Lets a program go that is gone.
+    pub(crate) fn hear(
+        &mut self,
+        pane_input: &mut PaneInput,
+        buf: &mut [u8],
+        now: u64,
+    ) -> Option<usize>
+        requires free { TakesMore pane_input.old.filter_stage }
         ensures within { IfSome result (λ n. n ≤ length buf.new) }
         ensures from { IfSome result (λ _. IsSome self.old.stream × (self.new ≡ self.old)) }
         ensures one { (self.new ≡ self.old) ⊎ (self.new.stream ≡ None) }
+        ensures brings { IfSome result (λ n. BringsPiece now pane_input.old pane_input.new n (take n buf.new)) }
+        ensures none { result ≡ None → pane_input.new ≡ pane_input.old }
     {
-        let answer = self.stream.as_mut()?.read(buf);
-        if is_stream_end(&answer) {
-            self.stream = None;
-            return None;
+        // The stream is read through a reference, which leaves it as it is.
+        let mut stream = self.stream.as_ref()?;
+        match read_piece(&mut stream, pane_input, buf, now) {
+            Heard::Piece(count) => Some(count),
+            Heard::Nothing => None,
+            Heard::Ended => {
+                self.stream = None;
+                None
+            }
         }
-        answer.ok()
     }
 
     /// How many of the bytes the program took, 0 where none is there. One that has failed is let go.
@@ -181,23 +234,29 @@ impl Peer {
     }
 }
 
-// What the program of a making wrote: how many bytes of `buf` it fills from the front.
+// Reads what the program of a making wrote, and returns how many bytes of `buf` go on to the pane's terminal.
 fn hear(
     making: &mut Making,
+    pane_input: &mut PaneInput,
     listener: &UnixListener,
     registry: &Registry,
     buf: &mut [u8],
+    now: u64,
 ) -> Option<usize>
-    ensures some { IfSome result (λ n. 0 < n) }
+    requires free { TakesMore pane_input.old.filter_stage }
     ensures within { IfSome result (λ n. n ≤ length buf.new) }
     ensures from { IfSome result (λ _. IsSome making.new.peer.stream) }
     ensures life { making.new.generation ≡ making.old.generation }
     ensures one { IfSome making.old.peer.stream (λ _. (making.new ≡ making.old) ⊎ (making.new.peer.stream ≡ None)) }
+    ensures brings { IfSome result (λ n. BringsPiece now pane_input.old pane_input.new n (take n buf.new)) }
+    ensures none { result ≡ None → pane_input.new ≡ pane_input.old }
 {
     if making.peer.is_there() {
-        return making.peer.hear(buf);
+        return making.peer.hear(pane_input, buf, now);
     }
-    making.peer.take_next(listener, registry, buf)
+    making
+        .peer
+        .take_next(pane_input, listener, registry, buf, now)
 }
 
 /// What goes on to a pane's terminal of what its program wrote: how many bytes of `buf` it fills from the front, which are none where all
@@ -224,9 +283,7 @@ pub(crate) fn read(
     if let Some(count) = pane_input.go_on(buf, now) {
         return Some(count);
     }
-    let most = buf.len().min(MOST_READ);
-    let count = hear(making, listener, registry, buf.split_at_mut(most).0)?;
-    Some(pane_input.came(buf, count, now))
+    hear(making, pane_input, listener, registry, buf, now)
 }
 
 /// How many of the bytes the program of a pane took, 0 where none is there.
