@@ -7,7 +7,7 @@ use Rattle.roam_hub.specs.Waits.{IsQuiet, has_come}
 use Rattle.roam_pane_protocol.specs.declared.pane_list.PaneList.{PaneList}
 use Rattle.roam_cells.specs.declared.addresses.Addr.{Addr}
 use Rattle.roam_sockets.specs.Clients.{Accepts, AnswersOf, KeepsOpen}
-use Rattle.roam_sockets.specs.Lanes.{SendsTo, is_any_waiting}
+use Rattle.roam_sockets.specs.Lanes.{Flushes as SendsAll, SendsTo, is_any_waiting}
 use Rattle.roam_sockets.specs.Waits.{wait_for}
 use Rattle.roam_sockets.specs.declared.clients.Clients.{Clients}
 use Rattle.roam_sockets.specs.declared.udp.Udp.{Udp}
@@ -20,6 +20,15 @@ use Rattle.roam_serve.specs.declared.tellings.ClipTimes.{ClipTimes}
 use Rattle.roam_pane_subscribers.specs.declared.subscribing.Subscriber.{Subscriber}
 use Rattle.roam_pane_sockets.specs.declared.panes.Pane.{Pane}
 use Rattle.roam_serve.specs.declared.tellings.MetadataEventTimes.{MetadataEventTimes}
+
+-- What waited to go by UDP went, as much as may go at this moment by the pace of each address, and nothing else changed of the port; the last
+-- says whether that was all.
+abbrev pub GoesBy : ℕ → Option Udp → Option Udp → Bool → Type 0
+GoesBy now None None all = all ≡ true
+GoesBy now None (Some new) all = ⊥
+GoesBy now (Some old) None all = ⊥
+GoesBy now (Some old) (Some new) all =
+    (new.port ≡ old.port) × SendsAll now old.paced.lanes.items new.paced.lanes.items None None all
 
 -- datagrams are kept back so that they go at a pace
 abbrev pub is_paced : Option Udp → Bool
@@ -39,27 +48,22 @@ pub record Flushes (answers : AnswersOf UnixStream) (old new : Clients) : Type 0
   pub accepts : Accepts mid new
   pub noted : new.is_flushed ≡ mid.is_flushed
 
--- those that followed before and those that came were told the panes of a server
-pub record HasTold (contents : UnixStream → Option (List ℕ)) (server : ServerView) (subscribers : List (Subscriber UnixStream)) : Type 0 where
+-- the subscribers of before and those that came were sent the panes of a server
+pub record HasTold (contents : UnixStream → Option (List ℕ)) (server : ServerView) (before subscribers : List (Subscriber UnixStream)) : Type 0 where
   pub panes : PaneList
   pub are : (s : Server) → Stands server s → ArePanesOf s panes
-  pub before : List (Subscriber UnixStream)
   pub told : AreAllTold contents panes before subscribers
 
 -- So they were, and then what is new of what stands beside the panes' terminals, as far as that was to be told, of texts for the
 -- clipboard, and of questions.
 pub record HasToldAll (contents : UnixStream → Option (List ℕ)) (server : ServerView) (moment : ℕ) (panes : List Pane)
-    (subscribers : List (Subscriber UnixStream)) : Type 0 where
+    (telling telling' : MetadataEventTimes) (clipping clipping' : ClipTimes) (before subscribers : List (Subscriber UnixStream)) : Type 0 where
   pub mid : List (Subscriber UnixStream)
-  pub told : HasTold contents server mid
-  pub telling : MetadataEventTimes
-  pub told_telling : MetadataEventTimes
+  pub told : HasTold contents server before mid
   pub later : List (Subscriber UnixStream)
-  pub metadata : AreToldMetadata contents telling told_telling moment panes mid later
-  pub clipping : ClipTimes
-  pub told_clipping : ClipTimes
+  pub metadata : AreToldMetadata contents telling telling' moment panes mid later
   pub last : List (Subscriber UnixStream)
-  pub clips : AreToldClips contents clipping told_clipping moment panes later last
+  pub clips : AreToldClips contents clipping clipping' moment panes later last
   pub asks : AreToldQueries contents panes last subscribers
 
 -- a server next has something due at a moment, or never: before it a tick does nothing, and at it one does something

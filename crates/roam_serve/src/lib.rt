@@ -9,4 +9,4 @@ mod tellings;
 
 pub use refused::tell_unbound;
 pub use server_ports::{OwnStart, ServerPorts};
-pub use serving::{Serve, run_serve};
+pub use serving::{RunPorts, Serve, run_serve, serve_turns};

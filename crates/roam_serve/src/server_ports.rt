@@ -1,5 +1,5 @@
 //! The ports of a server over sockets. What they carried isn't told.
-ghost use Rattle.std.specs.Prelude.{◌≡◌, ◌≢◌, ◌⊎◌, ◌<◌, ◌≤◌, ◌+◌, ◌-◌, ◌&&◌, ◌||◌, ◌==◌, if◌then◌else◌, [], ℕ, List, Option, slice_get, true, false, not, length, map, string_bytes, is_some, nat_lt, None, Some, IfOk, IfSome, IfErr};
+ghost use Rattle.std.specs.Prelude.{Bool, ◌≡◌, ◌≢◌, ◌⊎◌, ◌<◌, ◌≤◌, ◌+◌, ◌-◌, ◌&&◌, ◌||◌, ◌==◌, if◌then◌else◌, [], ℕ, List, Option, slice_get, true, false, not, length, map, string_bytes, is_some, nat_lt, None, Some, IfOk, IfSome, IfErr};
 ghost use Rattle.std.specs.List.{All, AllZip};
 ghost use Rattle.std.specs.Option.{option_map};
 ghost use Rattle.roam_sockets.specs.Addresses.{number_of};
@@ -13,7 +13,7 @@ ghost use Rattle.roam_serve.specs.Tellings.{count_asked, AreToldClips, AreToldMe
 ghost use Rattle.roam_pane_sockets.specs.Queries.{pane_asked};
 ghost use Rattle.roam_pane_subscribers.specs.Closing.{GivesOwn, HearsAnswer, own_address};
 ghost use Rattle.roam_pane_subscribers.specs.Subscribing.{AreAllTold, HaveCome, most_taken, panes_path};
-ghost use Rattle.roam_serve.specs.Rests.{Flushes, SendsBy, is_paced};
+ghost use Rattle.roam_serve.specs.Rests.{Flushes, GoesBy, SendsBy, is_paced};
 ghost use Rattle.roam_pane_subscribers.specs.declared.closing.Closer.{Closer as CloserOf};
 ghost use Rattle.roam_pane_sockets.specs.Moments.{sooner, standing};
 ghost use Rattle.roam_serve.specs.Ports.{IsPortOf, clients_path, is_looked};
@@ -136,6 +136,7 @@ fn send_udp(udp: &mut Option<Udp>, to: Addr, bytes: &[u8], now: u64) -> bool
 
 // Sends what waits by UDP, as much as may go at this moment, and tells whether that was all.
 fn flush_udp(udp: &mut Option<Udp>, now: u64) -> bool
+    ensures goes { GoesBy now udp.old udp.new result }
     ensures all { result ≡ not (is_paced udp.new) }
 {
     match udp {
@@ -351,6 +352,8 @@ impl<R: Clock + Drop> ServerPorts<R> {
             (frames_until self.old.panes.all.items)))) self.old.clock
             (is_paced self.new.udp))) }
         ensures flushed { Flushes ⟦<UnixStream as Stream>⟧.answers self.old.clients self.new.clients }
+        // What waits to go by UDP goes, as far as the pace of each address lets it at this clock.
+        ensures lanes { (all : Bool) × GoesBy self.old.clock self.old.udp self.new.udp all }
         ensures telling { self.new.telling ≡ self.old.telling }
         ensures clipping { self.new.clipping ≡ self.old.clipping }
         ensures panes { self.new.panes ≡ self.old.panes }
@@ -419,6 +422,8 @@ impl<R: Clock + Drop> ServerPorts<R> {
         ensures moment { self.new.moment ≡ self.old.moment }
         ensures clock { self.new.clock ≡ self.old.clock }
         ensures echoes { self.new.echoes ≡ self.old.echoes }
+        ensures telling { self.new.telling ≡ self.old.telling }
+        ensures clipping { self.new.clipping ≡ self.old.clipping }
     {
         self.take_subscribers();
         let may_ask = self
@@ -439,6 +444,7 @@ impl<R: Clock + Drop> ServerPorts<R> {
         ensures moment { self.new.moment ≡ self.old.moment }
         ensures clock { self.new.clock ≡ self.old.clock }
         ensures echoes { self.new.echoes ≡ self.old.echoes }
+        ensures clipping { self.new.clipping ≡ self.old.clipping }
     {
         tell_metadata(
             self.alloc,
@@ -459,6 +465,7 @@ impl<R: Clock + Drop> ServerPorts<R> {
         ensures moment { self.new.moment ≡ self.old.moment }
         ensures clock { self.new.clock ≡ self.old.clock }
         ensures echoes { self.new.echoes ≡ self.old.echoes }
+        ensures telling { self.new.telling ≡ self.old.telling }
     {
         tell_clips(
             self.alloc,
@@ -479,13 +486,15 @@ impl<R: Clock + Drop> ServerPorts<R> {
         ensures moment { self.new.moment ≡ self.old.moment }
         ensures clock { self.new.clock ≡ self.old.clock }
         ensures echoes { self.new.echoes ≡ self.old.echoes }
+        ensures telling { self.new.telling ≡ self.old.telling }
+        ensures clipping { self.new.clipping ≡ self.old.clipping }
     {
         tell_queries(self.alloc, &mut self.subscribers, &self.panes);
     }
 
     /// Binds those sockets anew whose files are gone, as a cleaner of old files leaves them: once a minute, and only if the folder's file
     /// `session` has this id, since the folder may be another session's by then. Panes, subscribers and client starts that are there stay.
-    pub fn mend<N: Files + Net + AllocGlobal>(&mut self, rt: &N, folder: &str, session: u64)
+    pub fn mend_sockets<N: Files + Net + AllocGlobal>(&mut self, rt: &N, folder: &str, session: u64)
         ensures panes { AllZip IsMended self.old.panes.all.items self.new.panes.all.items
             ⊎ (self.new.panes ≡ self.old.panes) }
         ensures moment { self.new.moment ≡ self.old.moment }

@@ -1,14 +1,15 @@
 //! `roam serve`: a server round its sockets.
-ghost use Rattle.std.specs.Prelude.{◌≡◌, ◌⊎◌, ◌<◌, ℕ, min, Some, Ok, IfOk, OnOk, IfErr, IsOkUnless};
+ghost use Rattle.std.specs.Prelude.{◌≡◌, ◌⊎◌, ℕ, min, Some, Ok, IfOk, OnOk, IfErr, IsOkUnless};
 ghost use Rattle.roam_session.specs.Generations.{generation_of};
 ghost use Rattle.roam_session.specs.Places.{rect_at};
 ghost use Rattle.roam_model.specs.Servers.{Server as ServerOf};
-ghost use Rattle.roam_hub.specs.Servers.{Stands};
+ghost use Rattle.std.specs.List.{AllZip};
+ghost use Rattle.roam_hub.specs.Servers.{ServerView, Stands};
 ghost use Rattle.roam_serve.specs.Echoes.{AimsAt};
 ghost use Rattle.roam_serve.specs.Listed.{ArePanesOf, pane_of};
-ghost use Rattle.roam_pane_sockets.specs.Peers.{frames_until};
+ghost use Rattle.roam_pane_sockets.specs.Peers.{IsMended, frames_until};
 ghost use Rattle.roam_serve.specs.Rests.{HasRested, HasToldAll};
-ghost use Rattle.roam_serve.specs.Runs.{Serves, ServesTurns};
+ghost use Rattle.roam_serve.specs.Runs.{RunsTurns, Serves, ServesTurns};
 ghost use Rattle.roam_pane_sockets.specs.Moments.{sooner};
 
 use crate::server_ports::{OwnStart, ServerPorts};
@@ -20,7 +21,7 @@ use roam_hub::Server;
 use roam_pane_protocol::{ListedPane, PaneList};
 use roam_sockets::{Moments, own_folder, random_id, write_alone};
 use roam_stream_framing::Stream;
-use roam_turns::serve_turn;
+use roam_turns::{Ports, serve_turn};
 use std::alloc::Global;
 use std::fs::{Files, remove_file};
 use std::net::Net;
@@ -86,8 +87,8 @@ fn panes_of(server: &Server) -> PaneList
 // waits where the turn brought nothing: until something is due where the turns go on for good, else a short while, so that they end by
 // themselves.
 fn tell_and_rest<C: Clock + Drop>(turns: u64, server: &Server, ports: &mut ServerPorts<C>)
-    ensures told { HasToldAll ⟦<UnixStream as Stream>⟧.contents server.now ports.new.moment ports.new.panes.all.items
-        ports.new.subscribers.all.items }
+    ensures told { HasToldAll ⟦<UnixStream as Stream>⟧.contents server.now ports.new.moment ports.new.panes.all.items ports.old.telling
+        ports.new.telling ports.old.clipping ports.new.clipping ports.old.subscribers.all.items ports.new.subscribers.all.items }
     ensures rested { HasRested turns server.now ports.new.clock ports.new.clients ports.new.subscribers.may_ask ports.new.udp
         (sooner (sooner ports.new.telling.due ports.new.clipping.due) (frames_until ports.new.panes.all.items))
         ports.new.echoes.wish ports.new.waits.longest }
@@ -106,26 +107,60 @@ fn tell_and_rest<C: Clock + Drop>(turns: u64, server: &Server, ports: &mut Serve
     });
 }
 
-// Takes the turns of a server, and after each tells and waits.
-fn serve_turns<R: Files + Net + AllocGlobal, C: Clock + Drop>(
+/// What a run asks of a server's ports before and after each turn. Neither call is one that the turn makes.
+pub trait RunPorts: Ports {
+    // What `mend` may change.
+    ghost mends: { Self → Self → Type 0 };
+
+    // What follows a turn of a server, in a run of so many turns.
+    ghost follows: { ℕ → ServerView → Self → Self → Type 0 };
+
+    /// Binds sockets anew whose files are gone, in a folder that is still the session's.
+    fn mend<N: Files + Net + AllocGlobal>(&mut self, rt: &N, folder: &str, session: u64)
+        ensures mends { mends self.old self.new }
+        ensures told { Self.told self.new ≡ Self.told self.old };
+
+    /// Sends what is new of a server to its subscribers, and waits if the turn brought nothing.
+    fn follow(&mut self, turns: u64, server: &Server)
+        ensures follows { follows turns server.now self.old self.new }
+        ensures told { Self.told self.new ≡ Self.told self.old };
+}
+
+impl<C: Clock + Drop> RunPorts for ServerPorts<C> {
+    ghost mends = { λ old new. (AllZip IsMended old.panes.all.items new.panes.all.items ⊎ (new.panes ≡ old.panes))
+        × (new.moment ≡ old.moment) };
+
+    ghost follows = { λ turns server old new. HasToldAll ⟦<UnixStream as Stream>⟧.contents server new.moment new.panes.all.items
+        old.telling new.telling old.clipping new.clipping old.subscribers.all.items new.subscribers.all.items
+        × HasRested turns server new.clock new.clients new.subscribers.may_ask new.udp
+        (sooner (sooner new.telling.due new.clipping.due) (frames_until new.panes.all.items)) new.echoes.wish new.waits.longest
+        × AimsAt server old.echoes.echoed old.echoes.wish new.echoes.wish };
+
+    fn mend<N: Files + Net + AllocGlobal>(&mut self, rt: &N, folder: &str, session: u64) {
+        self.mend_sockets(rt, folder, session);
+    }
+
+    fn follow(&mut self, turns: u64, server: &Server) {
+        tell_and_rest(turns, server, self);
+    }
+}
+
+/// Takes the turns of a run: before each the ports are mended, after each they tell and wait.
+pub fn serve_turns<R: Files + Net + AllocGlobal, P: RunPorts>(
     rt: &R,
     serve: &Serve<'_>,
     session: u64,
     server: &mut Server,
-    ports: &mut ServerPorts<C>,
+    ports: &mut P,
 )
     ensures turns { ServesTurns serve.now.turns server.old server.new }
-    // After each turn, and so after the last.
-    ensures told { 0 < serve.now.turns → HasToldAll ⟦<UnixStream as Stream>⟧.contents server.new ports.new.moment ports.new.panes.all.items
-        ports.new.subscribers.all.items }
-    ensures rested { 0 < serve.now.turns → HasRested serve.now.turns server.new ports.new.clock ports.new.clients
-        ports.new.subscribers.may_ask ports.new.udp (sooner (sooner ports.new.telling.due ports.new.clipping.due) (frames_until ports.new.panes.all.items))
-        ports.new.echoes.wish ports.new.waits.longest }
+    // The server and the ports are called for these turns, one after the other, and for nothing else.
+    ensures runs { RunsTurns P.told P.mends P.follows serve.now.turns serve.now.turns ports.old ports.new server.old server.new }
 {
     for _ in 0..serve.turns {
         ports.mend(rt, serve.folder, session);
         serve_turn(rt.alloc(), server, ports);
-        tell_and_rest(serve.turns, server, ports);
+        ports.follow(serve.turns, server);
     }
 }
 
