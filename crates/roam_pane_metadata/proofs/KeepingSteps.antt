@@ -8,9 +8,9 @@ use Rattle.roam_text.specs.declared.strings.StringKind.TheVariants.{SystemComman
 use Rattle.roam_text.specs.declared.strings.StringEnd.{StringEnd}
 use Rattle.roam_text.specs.Strings.{ControlString, OpenString, Strings, ended_so}
 use Rattle.roam_pane_metadata.specs.declared.keeping.Collecting.{Collecting}
-use Rattle.roam_pane_metadata.specs.declared.keeping.Collecting.TheVariants.{Nothing, Text, Lost}
+use Rattle.roam_pane_metadata.specs.declared.keeping.Collecting.TheVariants.{Nothing, Text, TooLong, NoMemory}
 use Rattle.roam_pane_metadata.specs.declared.keeping.Told.{Told}
-use Rattle.roam_pane_metadata.specs.declared.keeping.Told.TheVariants.{Nothing as NothingTold, Title, Clip}
+use Rattle.roam_pane_metadata.specs.declared.keeping.Told.TheVariants.{Nothing as NothingTold, Title, Clip, NoMemory as NoMemoryTold}
 use Rattle.roam_pane_metadata.specs.Texts.{Said, clip_in, longest_text, nothing_said, title_in, with_clip, with_either, with_text, with_title}
 use Rattle.roam_pane_metadata.specs.Emissions.{Emission, Says, TakesBack, IsPartOf, nothing_left, kept_one, left_out, after_emission, without_title}
 use Rattle.roam_pane_metadata.specs.Keeping.{TextsView, Ends, IsCommand, Keeps, Tells, with_told}
@@ -87,6 +87,7 @@ module _ (emitted : List Emission) (all : Strings) (text : List ℕ) (e : String
   keeps-told : (v : TextsView) (told : Told) → Keeps v emitted all.begun → length text ≤ longest_text → Tells told Text text
       → Keeps (record { said = with_told told v.said; collecting = Nothing; text = [] }) later None
   keeps-told v NothingTold k few tells = keeps-out v k
+  keeps-told v NoMemoryTold k few tells = keeps-out v k
   keeps-told v (Title title) k few tells = keeps-in v k few (with_title (Some title.items) v.said)
       (sym (ap (λ o. with_either o (clip_in text) v.said) tells.1))
   keeps-told v (Clip clip) k few tells = keeps-in v k few (with_clip (Some clip.items) v.said)
@@ -95,6 +96,7 @@ module _ (emitted : List Emission) (all : Strings) (text : List ℕ) (e : String
 -- where nothing was collected nothing is told
 quiet-told : (told : Told) (collecting : Collecting) (text : List ℕ) (s : Said) → Tells told collecting text → (collecting ≡ Text → ⊥) → with_told told s ≡ s
 quiet-told NothingTold collecting text s tells never = refl
+quiet-told NoMemoryTold collecting text s tells never = refl
 quiet-told (Title title) collecting text s tells never = absurd (never tells.0)
 quiet-told (Clip clip) collecting text s tells never = absurd (never tells.0)
 
@@ -118,9 +120,12 @@ module _ (emitted : List Emission) (all : Strings) (e : StringEnd) where
   ends-in said Nothing text told tells k =
       subst (λ s. Keeps (record { said = s; collecting = Nothing; text = [] }) ended None)
       (sym (quiet-told told Nothing text said tells (λ h. cc))) (keeps-unsaid (record { said = said; collecting = Nothing; text = text }) k)
-  ends-in said Lost text told tells k =
+  ends-in said TooLong text told tells k =
       subst (λ s. Keeps (record { said = s; collecting = Nothing; text = [] }) ended None)
-      (sym (quiet-told told Lost text said tells (λ h. cc))) (keeps-unsaid (record { said = said; collecting = Lost; text = text }) k)
+      (sym (quiet-told told TooLong text said tells (λ h. cc))) (keeps-unsaid (record { said = said; collecting = TooLong; text = text }) k)
+  ends-in said NoMemory text told tells k =
+      subst (λ s. Keeps (record { said = s; collecting = Nothing; text = [] }) ended None)
+      (sym (quiet-told told NoMemory text said tells (λ h. cc))) (keeps-unsaid (record { said = said; collecting = NoMemory; text = text }) k)
 
   pub ends-keep : (old new : TextsView) → Ends old new → Keeps old emitted all.begun → Keeps new ended None
   ends-keep old new ends k =

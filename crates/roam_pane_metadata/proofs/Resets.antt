@@ -12,7 +12,7 @@ use Rattle.roam_text.proofs.Graphics.{printed_if}
 use Rattle.roam_text.proofs.Growth.{functions_of-front}
 use Rattle.roam_pane_metadata.specs.declared.settings.Settings.{Settings}
 use Rattle.roam_pane_metadata.specs.declared.settings.Wish.{Wish}
-use Rattle.roam_pane_metadata.specs.declared.settings.Wish.TheVariants.{Nothing, SetModes, ResetModes, Keys, PlainKeys, Shape}
+use Rattle.roam_pane_metadata.specs.declared.settings.Wish.TheVariants.{Nothing, SetModes, ResetModes, Keys, PlainKeys, Shape, SoftReset}
 use Rattle.roam_pane_metadata.specs.declared.settings.Tracking.{Tracking}
 use Rattle.roam_pane_metadata.specs.declared.settings.Tracking.TheVariants.{Buttons, Drags, Motion}
 use Rattle.roam_pane_metadata.specs.Settings.{counted, fresh_settings, granted, heard, mode_set, most_counted, reset_settings, resets, settings_of, wish_of, with_tracking}
@@ -70,6 +70,7 @@ granted-bells ResetModes params s = modes-bells false params s
 granted-bells Keys params s = refl
 granted-bells PlainKeys params s = refl
 granted-bells Shape params s = refl
+granted-bells SoftReset params s = refl
 
 rung-grows : (t : Bool) (s : Settings) → Grows s (cond t (record s { bells = counted s.bells }) s)
 rung-grows true s few = (omega (arith, few), omega (arith, few))
@@ -77,7 +78,7 @@ rung-grows false s few = (omega arith, few)
 
 heard-grows : (s : Settings) (f : Function) → Grows s (heard s f)
 heard-grows s (C0 b) = rung-grows (b == 7) s
-heard-grows s (Esc inter last) = same-grows s (heard s (Esc inter last)) (if-bells (resets inter.items last) (reset_settings s) s s refl refl)
+heard-grows s (Esc inter last) = same-grows s (heard s (Esc inter last)) (if-bells (resets inter.items last) (reset_settings s) _ s refl refl)
 heard-grows s (Csi mark params inter last) = same-grows s (heard s (Csi mark params inter last)) (granted-bells (wish_of mark inter.items last) params.items s)
 heard-grows s f = same-grows s s refl
 

@@ -1,14 +1,14 @@
 -- What is kept of what was uttered: the control strings for which there was memory, and each reset.
-use Rattle.std.specs.Prelude.{ℕ, ◌≡◌, ◌≢◌, ◌≤◌, ⊤, List, [], length, Option, None, Some}
+use Rattle.std.specs.Prelude.{ℕ, ◌≡◌, ◌≢◌, ◌≤◌, ◌<◌, ⊤, ◌⊎◌, List, [], length, Option, None, Some}
 use Rattle.roam_text.specs.declared.strings.StringKind.{StringKind}
 use Rattle.roam_text.specs.declared.strings.StringKind.TheVariants.{SystemCommand}
 use Rattle.roam_text.specs.declared.strings.StringStep.{StringStep}
 use Rattle.roam_text.specs.declared.strings.StringStep.TheVariants.{Ended}
 use Rattle.roam_text.specs.Strings.{ControlString, OpenString, ended_so}
 use Rattle.roam_pane_metadata.specs.declared.keeping.Collecting.{Collecting}
-use Rattle.roam_pane_metadata.specs.declared.keeping.Collecting.TheVariants.{Nothing, Text, Lost}
+use Rattle.roam_pane_metadata.specs.declared.keeping.Collecting.TheVariants.{Nothing, Text, TooLong, NoMemory}
 use Rattle.roam_pane_metadata.specs.declared.keeping.Told.{Told}
-use Rattle.roam_pane_metadata.specs.declared.keeping.Told.TheVariants.{Nothing as NothingTold, Title, Clip}
+use Rattle.roam_pane_metadata.specs.declared.keeping.Told.TheVariants.{Nothing as NothingTold, Title, Clip, NoMemory as NoMemoryTold}
 use Rattle.roam_pane_metadata.specs.Texts.{Said, clip_in, longest_text, title_in, with_clip, with_title}
 use Rattle.roam_pane_metadata.specs.Emissions.{Emission, IsPartOf, said_of}
 
@@ -27,11 +27,13 @@ IsOther (Some s) = s.kind ≢ SystemCommand
 abbrev pub IsCommand : Option OpenString → List ℕ → Type 0
 IsCommand begun text = begun ≡ Some (record { kind = SystemCommand; text = text })
 
--- what is collected of the string that is open: its whole text; or it is lost, being too long or for want of memory
+-- what is collected of the open string: its whole text; or nothing of a string that is longer than any that counts; or nothing of a string
+-- for which memory was refused
 abbrev pub Collects : Collecting → List ℕ → Option OpenString → Type 0
 Collects Nothing text begun = IsOther begun
 Collects Text text begun = IsCommand begun text × (length text ≤ longest_text)
-Collects Lost text begun = (whole : List ℕ) × IsCommand begun whole
+Collects TooLong text begun = (whole : List ℕ) × IsCommand begun whole × (longest_text < length whole)
+Collects NoMemory text begun = (whole : List ℕ) × IsCommand begun whole
 
 -- what is said is that of what was kept of what was uttered: the control strings for which there was memory, and each reset; and what is
 -- collected is the text of the string that is open
@@ -56,10 +58,17 @@ abbrev pub with_told : Told → Said → Said
 with_told NothingTold s = s
 with_told (Title title) s = with_title (Some title.items) s
 with_told (Clip clip) s = with_clip (Some clip.items) s
+with_told NoMemoryTold s = s
 
--- what was told is what the text says that was collected, or nothing
+-- a text is neither a title nor a text for the clipboard
+abbrev pub IsSilent : List ℕ → Type 0
+IsSilent text = (title_in text ≡ None) × (clip_in text ≡ None)
+
+-- the meaning of the collected text: nothing, if nothing was collected or the text is silent; a title; a text for the clipboard; or, if memory
+-- was refused for the text or for its meaning, that
 abbrev pub Tells : Told → Collecting → List ℕ → Type 0
-Tells NothingTold collecting text = ⊤
+Tells NothingTold collecting text = (collecting ≢ NoMemory) × (collecting ≡ Text → IsSilent text)
+Tells NoMemoryTold collecting text = (collecting ≡ Text) ⊎ (collecting ≡ NoMemory)
 Tells (Title title) collecting text = (collecting ≡ Text) × (title_in text ≡ Some title.items)
 Tells (Clip clip) collecting text = (collecting ≡ Text) × (title_in text ≡ None) × (clip_in text ≡ Some clip.items)
 

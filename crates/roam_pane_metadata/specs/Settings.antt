@@ -9,7 +9,7 @@ use Rattle.roam_pane_metadata.specs.declared.settings.Tracking.{Tracking}
 use Rattle.roam_pane_metadata.specs.declared.settings.Tracking.TheVariants.{Off, Buttons, Drags, Motion}
 use Rattle.roam_pane_metadata.specs.declared.settings.Settings.{Settings}
 use Rattle.roam_pane_metadata.specs.declared.settings.Wish.{Wish}
-use Rattle.roam_pane_metadata.specs.declared.settings.Wish.TheVariants.{Nothing, SetModes, ResetModes, Keys, PlainKeys, Shape}
+use Rattle.roam_pane_metadata.specs.declared.settings.Wish.TheVariants.{Nothing, SetModes, ResetModes, Keys, PlainKeys, Shape, SoftReset}
 
 -- the most that is counted
 abbrev pub most_counted : ℕ
@@ -27,6 +27,7 @@ fresh_settings = record {
   focus_reports = false;
   bracketed_paste = false;
   alternate_screen = false;
+  application_keypad = false;
   other_keys = 0;
   shape = 0;
   bells = 0;
@@ -80,7 +81,7 @@ wish_of (Some mark) [] last =
     if (mark == 0x3E && last == 0x6D) then Keys else
     if (mark == 0x3E && last == 0x6E) then PlainKeys else
     Nothing
-wish_of None (b ∷ []) last = cond (b == 0x20 && last == 0x71) Shape Nothing
+wish_of None (b ∷ []) last = if (b == 0x20 && last == 0x71) then Shape else if (b == 0x21 && last == 0x70) then SoftReset else Nothing
 wish_of mark inter last = Nothing
 
 -- what is set once it is granted, with these parameters
@@ -91,16 +92,24 @@ granted ResetModes params s = fold (mode_set false) s params
 granted Keys params s = record s { other_keys = keys_asked params s.other_keys }
 granted PlainKeys params s = record s { other_keys = keys_disabled params s.other_keys }
 granted Shape params s = record s { shape = shape_asked params s.shape }
+granted SoftReset params s = record s { application_keypad = false }
 
 -- RIS, ESC 63 (ECMA-48 8.3.105)
 abbrev pub resets : List ℕ → ℕ → Bool
 resets [] last = last == 0x63
 resets inter last = false
 
+-- Application mode of the keypad after an escape sequence: DECKPAM, ESC =, sets it, and DECKPNM, ESC >, resets it (DEC VT220, chapter 4)
+abbrev pub keypad_after : List ℕ → ℕ → Bool → Bool
+keypad_after [] last before = if last == 0x3D then true else if last == 0x3E then false else before
+keypad_after inter last before = before
+
 -- what a function sets; most set nothing
 abbrev pub heard : Settings → Function → Settings
 heard s (C0 b) = cond (b == 7) (record s { bells = counted s.bells }) s
-heard s (Esc inter last) = cond (resets inter.items last) (reset_settings s) s
+heard s (Esc inter last) =
+    cond (resets inter.items last) (reset_settings s)
+    (record s { application_keypad = keypad_after inter.items last s.application_keypad })
 heard s (Csi mark params inter last) = granted (wish_of mark inter.items last) params.items s
 heard s f = s
 

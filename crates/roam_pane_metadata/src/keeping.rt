@@ -1,5 +1,5 @@
 //! The texts that a program's control strings say, and the text of the one that is open.
-ghost use Rattle.std.specs.Prelude.{◌≡◌, ◌≤◌, ◌≢◌, true, false, List, ℕ, [], ◌∷◌, ◌++◌, length, map, IfOk, IsTrue, Option, None, Some};
+ghost use Rattle.std.specs.Prelude.{◌≡◌, ◌≤◌, ◌⊎◌, true, false, List, ℕ, [], ◌∷◌, ◌++◌, length, map, IfOk, IsTrue, Option, None, Some};
 ghost use Rattle.std.specs.Option.{option_map};
 ghost use Rattle.roam_text.specs.Strings.{OpenString, Strings, after_step};
 ghost use Rattle.roam_pane_metadata.specs.Keeping.{Ends, Keeps, Tells, collecting_of, ended_by, with_told};
@@ -18,8 +18,10 @@ pub enum Collecting {
     Nothing,
     /// Its text.
     Text,
-    /// Nothing any more: it is too long, or there was no memory for it.
-    Lost,
+    /// Nothing any more, since the text is longer than any that counts.
+    TooLong,
+    /// Nothing any more, since memory was refused.
+    NoMemory,
 }
 
 /// What a control string said.
@@ -29,6 +31,8 @@ pub enum Told {
     Title(Vec<char>),
     /// A text for the clipboard, in base64.
     Clip(Vec<u8>),
+    /// Nothing, since memory was refused.
+    NoMemory,
 }
 
 // What a text says. Refuses want of memory.
@@ -44,16 +48,17 @@ fn read_text(alloc: Global, text: &[char]) -> Result<Told, AllocError>
     }
 }
 
-// What the text says that was collected; nothing where there is no memory for it.
+// Returns the meaning of the collected text.
 fn told_by(alloc: Global, collecting: Collecting, text: &[char]) -> Told
     ensures tells { Tells result collecting text.now }
 {
     match collecting {
         Collecting::Text => match read_text(alloc, text) {
             Ok(told) => told,
-            Err(_) => Told::Nothing,
+            Err(_) => Told::NoMemory,
         },
-        Collecting::Nothing | Collecting::Lost => Told::Nothing,
+        Collecting::NoMemory => Told::NoMemory,
+        Collecting::Nothing | Collecting::TooLong => Told::Nothing,
     }
 }
 
@@ -66,22 +71,22 @@ fn collecting_of(kind: StringKind) -> Collecting
     }
 }
 
-// One character more, where it is collected and there is room and memory for it.
+// Adds a character to the text, if it is collected, and there is room and memory.
 fn add(collecting: Collecting, text: &mut Vec<char>, c: char) -> Collecting
     ensures text { result ≡ Collecting.Text → (collecting ≡ Collecting.Text) × (text.new.items ≡ text.old.items ++ c ∷ [])
         × (length text.new.items ≤ longest_text) }
     ensures nothing { result ≡ Collecting.Nothing → collecting ≡ Collecting.Nothing }
-    ensures lost { result ≡ Collecting.Lost → collecting ≢ Collecting.Nothing }
+    ensures too_long { result ≡ Collecting.TooLong
+        → (collecting ≡ Collecting.TooLong) ⊎ ((collecting ≡ Collecting.Text) × (longest_text ≤ length text.old.items)) }
+    ensures no_memory { result ≡ Collecting.NoMemory → (collecting ≡ Collecting.NoMemory) ⊎ (collecting ≡ Collecting.Text) }
 {
     match collecting {
-        Collecting::Text => {
-            if text.len() < LONGEST_TEXT && text.push(c).is_ok() {
-                Collecting::Text
-            } else {
-                Collecting::Lost
-            }
-        }
-        Collecting::Nothing | Collecting::Lost => collecting,
+        Collecting::Text if text.len() >= LONGEST_TEXT => Collecting::TooLong,
+        Collecting::Text => match text.push(c) {
+            Ok(()) => Collecting::Text,
+            Err(_) => Collecting::NoMemory,
+        },
+        Collecting::Nothing | Collecting::TooLong | Collecting::NoMemory => collecting,
     }
 }
 
@@ -174,7 +179,10 @@ impl Texts {
         ensures text { self.new.collecting ≡ Collecting.Text → (self.old.collecting ≡ Collecting.Text)
             × (self.new.text ≡ self.old.text ++ c ∷ []) × (length self.new.text ≤ longest_text) }
         ensures nothing { self.new.collecting ≡ Collecting.Nothing → self.old.collecting ≡ Collecting.Nothing }
-        ensures lost { self.new.collecting ≡ Collecting.Lost → self.old.collecting ≢ Collecting.Nothing }
+        ensures too_long { self.new.collecting ≡ Collecting.TooLong → (self.old.collecting ≡ Collecting.TooLong)
+            ⊎ ((self.old.collecting ≡ Collecting.Text) × (longest_text ≤ length self.old.text)) }
+        ensures no_memory { self.new.collecting ≡ Collecting.NoMemory
+            → (self.old.collecting ≡ Collecting.NoMemory) ⊎ (self.old.collecting ≡ Collecting.Text) }
     {
         self.collecting = add(self.collecting, &mut self.text, c);
     }
@@ -209,7 +217,7 @@ impl Texts {
         ensures counted { IsCounted self.old.said self.new.said }
     {
         match told {
-            Told::Nothing => {}
+            Told::Nothing | Told::NoMemory => {}
             Told::Title(title) => self.keep_title(title),
             Told::Clip(clip) => self.keep_clip(clip),
         }

@@ -1,5 +1,5 @@
 //! Laws of the definitions, each the contract of a function without a body.
-ghost use Rattle.std.specs.Prelude.{◌≡◌, ◌≤◌, ◌+◌, ℕ, List, [], ◌∷◌, ◌++◌, length, map, None};
+ghost use Rattle.std.specs.Prelude.{◌≡◌, ◌≤◌, ◌+◌, ℕ, false, List, [], ◌∷◌, ◌++◌, length, map, None};
 ghost use Rattle.std.specs.List.{flat_map};
 ghost use Rattle.roam_text.specs.Log.{Byte};
 ghost use Rattle.roam_text.specs.Strings.{strings_of};
@@ -22,10 +22,11 @@ pub fn a_reset_resets()
     ensures stays { (s : Said) → record (after_emission s TakesBack) { title = s.title; titles = s.titles } ≡ s }
 {}
 
-/// DECSTR, CSI ! p, leaves all that a program sets beside its screen, and takes nothing back.
-pub fn a_soft_reset_leaves_all()
+/// DECSTR, CSI ! p, makes the keypad numeric (DEC VT220, section 4.12). It leaves all else that a program sets outside its screen, and takes
+/// nothing back.
+pub fn a_soft_reset_resets_the_keypad_alone()
     ensures soft { (s : Settings) (params : List ℕ)
-        → heard s (Csi None (record { items = params }) (record { items = 0x21 ∷ [] }) 0x70) ≡ s }
+        → heard s (Csi None (record { items = params }) (record { items = 0x21 ∷ [] }) 0x70) ≡ record s { application_keypad = false } }
     ensures uttered { (params : List ℕ)
         → emitted_by (Csi None (record { items = params }) (record { items = 0x21 ∷ [] }) 0x70) ≡ [] }
 {}

@@ -3,7 +3,7 @@ ghost use Rattle.std.specs.Prelude.{◌≡◌, List, ℕ, [], ◌∷◌};
 ghost use Rattle.std.specs.List.{fold};
 ghost use Rattle.roam_text.specs.Dispatched.{function_of};
 ghost use Rattle.roam_pane_metadata.specs.Emissions.{is_reset};
-ghost use Rattle.roam_pane_metadata.specs.Settings.{counted, fresh_settings, granted, heard, keys_asked, keys_disabled, mode_set, reset_settings, shape_asked, wish_of, with_tracking};
+ghost use Rattle.roam_pane_metadata.specs.Settings.{counted, fresh_settings, granted, heard, keypad_after, keys_asked, keys_disabled, mode_set, reset_settings, shape_asked, wish_of, with_tracking};
 
 use roam_text::Dispatch;
 
@@ -32,6 +32,8 @@ pub struct Settings {
     pub bracketed_paste: bool,
     /// Whether it shows the alternate screen: 47, 1047, 1049.
     pub alternate_screen: bool,
+    /// Whether it asks for the application codes of the keypad: DECKPAM. DECKPNM, DECSTR and RIS reset it.
+    pub application_keypad: bool,
     /// What it asks of modifyOtherKeys: 0, 1 or 2 (xterm, XTMODKEYS).
     pub other_keys: u8,
     /// The shape of the cursor, 0 to 6, 0 where it asks for none (DECSCUSR).
@@ -54,6 +56,8 @@ pub enum Wish {
     PlainKeys,
     /// DECSCUSR, CSI SP q.
     Shape,
+    /// DECSTR, CSI ! p.
+    SoftReset,
 }
 
 /// What a program has set that has written nothing.
@@ -66,6 +70,7 @@ pub fn fresh_settings() -> Settings
         focus_reports: false,
         bracketed_paste: false,
         alternate_screen: false,
+        application_keypad: false,
         other_keys: 0,
         shape: 0,
         bells: 0,
@@ -141,6 +146,7 @@ pub(crate) fn wish_of(mark: Option<u8>, inter: &[u8], last: u8) -> Wish
         (Some(b'>'), [], b'm') => Wish::Keys,
         (Some(b'>'), [], b'n') => Wish::PlainKeys,
         (None, [b' '], b'q') => Wish::Shape,
+        (None, [b'!'], b'p') => Wish::SoftReset,
         _ => Wish::Nothing,
     }
 }
@@ -182,6 +188,21 @@ fn granted(wish: Wish, params: &[u16], settings: Settings) -> Settings
             shape: shape_asked(params, settings.shape),
             ..settings
         },
+        Wish::SoftReset => Settings {
+            application_keypad: false,
+            ..settings
+        },
+    }
+}
+
+// Whether the keypad sends application codes after an escape sequence.
+fn keypad_after(inter: &[u8], last: u8, before: bool) -> bool
+    ensures keypad { result ≡ keypad_after inter.now last before }
+{
+    match (inter, last) {
+        ([], b'=') => true,
+        ([], b'>') => false,
+        _ => before,
     }
 }
 
@@ -220,6 +241,10 @@ pub fn heard(settings: Settings, dispatch: Dispatch, params: &[u16], inter: &[u8
     match dispatch {
         Dispatch::C0(7) => ring(settings),
         Dispatch::Esc { last: b'c' } if inter.is_empty() => reset_settings(settings),
+        Dispatch::Esc { last } => Settings {
+            application_keypad: keypad_after(inter, last, settings.application_keypad),
+            ..settings
+        },
         Dispatch::Csi { mark, last } => granted(wish_of(mark, inter, last), params, settings),
         _ => settings,
     }

@@ -82,7 +82,8 @@ modes_stay s b e =
     let sgr = and_parts (same_flag t.sgr_reports s.sgr_reports) _ tracking.1 in
     let focus = and_parts (same_flag t.focus_reports s.focus_reports) _ sgr.1 in
     let paste = and_parts (same_flag t.bracketed_paste s.bracketed_paste) _ focus.1 in
-    let other = and_parts (same_flag t.alternate_screen s.alternate_screen) (eqb t.other_keys s.other_keys) paste.1 in
+    let other = and_parts (same_flag t.alternate_screen s.alternate_screen) _ paste.1 in
+    let keypad = and_parts (same_flag t.application_keypad s.application_keypad) (eqb t.other_keys s.other_keys) other.1 in
     λ i. record b {
       settings = record t {
         tracking = sym (same_tracking_is t.tracking s.tracking tracking.0) i;
@@ -90,7 +91,8 @@ modes_stay s b e =
         focus_reports = sym (same_flag_is t.focus_reports s.focus_reports focus.0) i;
         bracketed_paste = sym (same_flag_is t.bracketed_paste s.bracketed_paste paste.0) i;
         alternate_screen = sym (same_flag_is t.alternate_screen s.alternate_screen other.0) i;
-        other_keys = sym (eqb-true t.other_keys s.other_keys other.1) i;
+        application_keypad = sym (same_flag_is t.application_keypad s.application_keypad keypad.0) i;
+        other_keys = sym (eqb-true t.other_keys s.other_keys keypad.1) i;
       };
     }
 

@@ -35,11 +35,13 @@ abbrev pub keys_word : ℕ → List ℕ
 keys_word n = if n == 1 then codes " keys1" else if n == 2 then codes " keys2" else []
 
 -- the modes that are set, each by its word: how the mouse is reported; `sgr`, 1006: in the form that SGR has; `focus`, 1004: reports of the
--- focus; `paste`, 2004: pastes between brackets; `other`, 47, 1047 and 1049: the alternate screen; `keys1` and `keys2`: modifyOtherKeys
+-- focus; `paste`, 2004: pastes between brackets; `other`, 47, 1047 and 1049: the alternate screen; `keypad`, DECKPAM: the application codes of
+-- the keypad; `keys1` and `keys2`: modifyOtherKeys
 abbrev pub mode_words : Settings → List ℕ
 mode_words s =
     tracking_word s.tracking ++ (word_if s.sgr_reports (codes " sgr") ++ (word_if s.focus_reports (codes " focus")
-    ++ (word_if s.bracketed_paste (codes " paste") ++ (word_if s.alternate_screen (codes " other") ++ keys_word s.other_keys))))
+    ++ (word_if s.bracketed_paste (codes " paste") ++ (word_if s.alternate_screen (codes " other")
+    ++ (word_if s.application_keypad (codes " keypad") ++ keys_word s.other_keys)))))
 
 -- the name of a line, the pane and its generation
 abbrev pub head_text : List ℕ → ℕ → ℕ → List ℕ

@@ -45,7 +45,8 @@ same_modes one other =
     && (same_flag one.sgr_reports other.sgr_reports
     && (same_flag one.focus_reports other.focus_reports
     && (same_flag one.bracketed_paste other.bracketed_paste
-    && (same_flag one.alternate_screen other.alternate_screen && (one.other_keys == other.other_keys)))))
+    && (same_flag one.alternate_screen other.alternate_screen
+    && (same_flag one.application_keypad other.application_keypad && (one.other_keys == other.other_keys))))))
 
 -- with other modes
 abbrev pub with_modes : Settings → MetadataPane → MetadataPane

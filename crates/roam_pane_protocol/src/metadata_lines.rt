@@ -37,6 +37,7 @@ fn same_modes(one: &Settings, other: &Settings) -> bool
         && same_flag(one.focus_reports, other.focus_reports)
         && same_flag(one.bracketed_paste, other.bracketed_paste)
         && same_flag(one.alternate_screen, other.alternate_screen)
+        && same_flag(one.application_keypad, other.application_keypad)
         && one.other_keys == other.other_keys
 }
 
@@ -78,6 +79,7 @@ fn push_words(text: &mut String, settings: &Settings) -> Result<(), Fault>
     text.push_str(word_if(settings.focus_reports, " focus"))?;
     text.push_str(word_if(settings.bracketed_paste, " paste"))?;
     text.push_str(word_if(settings.alternate_screen, " other"))?;
+    text.push_str(word_if(settings.application_keypad, " keypad"))?;
     text.push_str(keys_word(settings.other_keys))?;
     Ok(())
 }
