@@ -493,7 +493,7 @@ class Loop(Fronts):
         """The keypad goes by the pane in focus, as soon as that is told."""
         client = self.connect()
         self.paints()
-        self.front.views.view.host.take("keypad 2 application")
+        self.panes.modes_of[2] = "keypad"
         self.place.told = Places({1: Rect(1, 1, 23, 39), 2: Rect(1, 41, 23, 40)}, 1)
         self.turn()
         client.send(record("paint", data=b"\x1b[1;1Hx"))

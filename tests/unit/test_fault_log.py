@@ -113,14 +113,14 @@ class Kept(Host):
         panes = self.begin()
         self.host.asked.close = True
         pane = self.host.panes[2]
-        with mock.patch.object(pane.keypad, "fed", side_effect=ValueError("wrong")):
+        with mock.patch.object(pane, "touch", side_effect=ValueError("wrong")):
             for text in (b"one", b"two"):
                 self.made[1].send(text)
                 self.turn()
         self.made[1].send(b"three")
         self.turn()
         self.assertEqual((read_now(panes[1]), pane.state.has_ended), (b"three", False))
-        with mock.patch.object(pane.keypad, "fed", side_effect=ValueError("wrong")):
+        with mock.patch.object(pane, "touch", side_effect=ValueError("wrong")):
             self.made[1].send(b"four")
             self.turn(4)
         self.assertEqual((pane.terminal, self.host.common.hung), (None, [72]))
@@ -137,7 +137,7 @@ class Kept(Host):
         self.host.asked.close = True
         end = self.taken(self.listeners["p1"])
         pane = self.host.panes[1]
-        with mock.patch.object(pane.keypad, "fed", side_effect=ValueError("wrong")):
+        with mock.patch.object(pane, "touch", side_effect=ValueError("wrong")):
             for _ in range(3):
                 self.made[0].send(b"x")
                 self.turn()

@@ -577,9 +577,9 @@ class Told(Played):
         self.assertTrue(self.windows.windows[2].has_terminals())
         nameless = self.asker(0, b"here b:/dev/pts/2 24 80 read-write\nwho\n")
         self.assertIn(b"0 others 1\n", aids.read_now(nameless))
-        self.windows.windows[2].host.channel.tell_keypad(1, True)
+        self.windows.windows[2].host.channel.notify("well")
         self.turns(2)
-        self.assertEqual(aids.read_now(nameless), b"0 keypad 1 application\n")
+        self.assertEqual(aids.read_now(nameless), b"0 say well\n")
 
     def test_joined(self):
         """A window's note tells that it is one; that of a server that stands ready doesn't."""

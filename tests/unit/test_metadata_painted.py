@@ -38,7 +38,7 @@ def pane_lines(chance):
 def beside_line(chance):
     """A line of pane metadata, as it has to be or not."""
     hostile, place = controls(chance), f"{chance.randint(1, 2)} {chance.randint(1, 2)} ".encode()
-    modes = chance.sample(("buttons", "drags", "motion", "sgr", "paste", "other", "focus", "keys1"), chance.randint(0, 4))
+    modes = chance.sample(("buttons", "drags", "motion", "sgr", "paste", "other", "focus", "keypad", "keys1"), chance.randint(0, 4))
     encoded = base64.b64encode(hostile)
     return chance.choice((
         b"title " + place + hostile.hex().encode(), b"title " + place + hostile.hex().encode(), b"title " + place + hostile,
@@ -50,9 +50,8 @@ def beside_line(chance):
 
 def notice_line(chance):
     """A notice at the socket `host`, as it has to be or not."""
-    hostile, pane = controls(chance), str(chance.randint(1, 2)).encode()
-    line = chance.choice((b"keypad " + pane + b" application", b"keypad " + pane + b" numeric", b"say it is well", b"say " + hostile,
-                          b"keypad " + pane + hostile, hostile))
+    hostile = controls(chance)
+    line = chance.choice((b"say it is well", b"say " + hostile, hostile))
     # A line that is led by no number would end the connection.
     return b"0 " + line.replace(b"\n", b"") + b"\n"
 

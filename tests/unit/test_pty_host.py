@@ -223,7 +223,7 @@ class Panes(Host):
         self.assertEqual(self.host.rung, {2})
 
     def test_notices(self):
-        """Each terminal is sent notices and how keypads are; one that comes later is told what is so."""
+        """Each terminal is sent notices; one that comes later is sent the notice that stands."""
         self.begin()
         ends = []
         for line in (b"commands\n", f"here {PERSON}\n".encode()):
@@ -231,19 +231,15 @@ class Panes(Host):
             ends[-1].send(line)
         self.turn()
         read_now(ends[0])
-        self.made[1].send(b"\x1b=")
-        self.turn()
         self.host.tell("pane 3 isn't sh\u00f6wn\x1b[2J" + "x" * 300)
         self.host.common.tell("of all windows")
         self.turn()
         self.assertEqual((unled(read_now(ends[0])), unled(read_now(ends[1]))), (
-            b"", b"keypad 2 application\nsay pane 3 isn't sh?wn?[2J" + b"x" * 178 + b"\nsay of all windows\n"))
+            b"", b"say pane 3 isn't sh?wn?[2J" + b"x" * 178 + b"\nsay of all windows\n"))
         self.host.channel.standing = "for who comes"
         ends[0].send(f"here {PERSON}\nhere {PERSON}\n".encode())
         self.turn()
-        self.assertEqual(unled(read_now(ends[0])), b"keypad 2 application\nsay for who comes\n")
-        self.tell("2 gone")
-        self.assertEqual([unled(read_now(end)) for end in ends], [b"keypad 2 numeric\n"] * 2)
+        self.assertEqual(unled(read_now(ends[0])), b"say for who comes\n")
 
     def test_limits(self):
         """A pane that takes nothing has 16,384 bytes wait, and then its program does; one that reads nothing 65,536."""

@@ -26,7 +26,7 @@ def full_state():
     paste.is_placed = True
     paste.begin(True)
     panes = {1: PaneState(number=1, generation=4, size=(23, 80), folder="/tmp/\udcff", command=["sh", "-c", "a\nb"], process=71),
-             3: PaneState(number=3, generation=2**63, size=(1, 2), process=72, has_ended=True, program="vi", has_application_keypad=True)}
+             3: PaneState(number=3, generation=2**63, size=(1, 2), process=72, has_ended=True, program="vi")}
     zoom = NotedZoom(note=ZoomNote((24, 80), ((48, 160), (50, 170))))
     window = WindowState(number=7, name="l\u00f6gs \u4e2d", panes=panes, focus=3, history=[3, 1], program="vi", zoom=zoom,
                          processes={"server": (70, 5000), "client": (71, None)})
@@ -285,7 +285,6 @@ class Live(Host):
     def test_live(self):
         """What happens to panes, and what comes at the socket, stands there; read back it is the same."""
         panes = self.begin()
-        self.made[0].send(b"\x1b=")
         one = Asker(self, self.folder)
         one.send(b"here a:/dev/pts/1 24 80 read-write\nzoom 24 80 48 160\n")
         one.end.send(f"0 environment DISPLAY {b':7'.hex()}\n0 colour background 1111/2222/3333\n0 buffer add 3\nabc".encode()
@@ -298,8 +297,8 @@ class Live(Host):
         found = state_in(written(kept))
         self.assertEqual(found, kept)
         window = found.windows[0]
-        self.assertEqual([(pane.generation, pane.size, pane.process, pane.has_application_keypad, pane.program)
-                          for pane in window.panes.values()], [(4, (23, 39), 71, True, ""), (5, (23, 40), 72, False, "vi")])
+        self.assertEqual([(pane.generation, pane.size, pane.process, pane.program)
+                          for pane in window.panes.values()], [(4, (23, 39), 71, ""), (5, (23, 40), 72, "vi")])
         self.assertEqual((window.focus, window.history, window.zoom.note), (2, [2, 1], ZoomNote((24, 80), ((48, 160),))))
         self.assertEqual(window.processes, {"server": (os.getpid(), window.processes["server"][1])})
         self.assertEqual((found.environment["DISPLAY"], found.colours, found.buffers.texts),

@@ -89,10 +89,18 @@ abbrev pub painting_said : Option Screenshot → Bor (List ℕ) → Record
 painting_said None text = Anew text
 painting_said (Some before) text = Paint text
 
--- A screen is to be shown: the part of it that is wanted is painted, where it stands and of which size it is are told before, and the
--- terminal shows it from then on; or nothing is told and nothing changes, as where nothing is new or memory is wanting.
+-- the terminal is known to show this part of a screen, and was sent its size and its place
+pub record IsCurrent (part : Part) (view : Screenshot) (t : DisplayStateView) : Type 0 where
+  pub shown : t.view ≡ Some view
+  pub sized : sizes_said t.sized view ≡ []
+  pub placed : places_said t.placed (place_told t.scope part) ≡ []
+
+-- A screen is to be shown. The terminal shows the wanted part of it already, and is sent nothing; or memory was refused, and nothing is sent and
+-- nothing changes; or the part is painted, its size and its place are sent before, and the terminal shows it from then on.
 pub data Tells (screen : Screenshot) (said : List Record) (old new : DisplayStateView) : Type 0 where
-  nothing : said ≡ [] → new ≡ old → Tells screen said old new
+  current : (part : Part) → part ≡ part_for old.scope screen → IsCurrent part (part_of part old.masks screen) old → said ≡ [] → new ≡ old
+      → Tells screen said old new
+  no_memory : said ≡ [] → new ≡ old → Tells screen said old new
   shown : (part : Part) (view : Screenshot) (text : Bor (List ℕ)) → part ≡ part_for old.scope screen
       → view ≡ part_of part old.masks screen → LeadsFrom old.view text.now view → IsStill old.masks old.view text.now view
       → said
@@ -109,15 +117,37 @@ pub data Tells (screen : Screenshot) (said : List Record) (old new : DisplayStat
 
 -- ---- what was asked for
 
--- a screen that was asked for is told cell by cell; or nothing is
+-- No screen was asked for, and nothing is sent; or memory was refused, and nothing is sent and nothing changes; or the screen that was asked
+-- for is sent cell by cell.
 pub data TellsLook (screen : Screenshot) (said : List Record) (old new : DisplayStateView) : Type 0 where
-  nothing : said ≡ [] → new ≡ old → TellsLook screen said old new
+  unasked : old.looking ≡ None → said ≡ [] → new ≡ old → TellsLook screen said old new
+  no_memory : said ≡ [] → new ≡ old → TellsLook screen said old new
   looked : (looking : Looking) (text : Bor (List ℕ)) → old.looking ≡ Some looking → text.now ≡ screen_text looking screen
       → said ≡ Screen text ∷ []
       → new ≡ record old { looking = None } → TellsLook screen said old new
 
--- so many lines are taken and all their acts acknowledged, where so many acts are: that is told where it rose; or nothing is
+-- So many acts are acknowledged. The number of lines that were taken, with all their acts acknowledged, did not rise, and nothing is sent; or
+-- memory was refused, and nothing is sent and nothing changes; or it rose, and is sent.
 pub data TellsTaken (acknowledged : ℕ) (said : List Record) (old new : DisplayStateView) : Type 0 where
-  nothing : said ≡ [] → new ≡ old → TellsTaken acknowledged said old new
+  same : risen old.taken.told (done_after acknowledged old.taken) ≡ None → said ≡ [] → new ≡ old → TellsTaken acknowledged said old new
+  no_memory : said ≡ [] → new ≡ old → TellsTaken acknowledged said old new
   rose : (lines : ℕ) → risen old.taken.told (done_after acknowledged old.taken) ≡ Some lines → said ≡ Taken lines ∷ []
       → new ≡ record old { taken = acknowledged_of acknowledged old.taken } → TellsTaken acknowledged said old new
+
+-- ---- why nothing was sent
+
+-- a call returns an error exactly if memory was refused
+abbrev pub screen_refused : {screen : Screenshot} {said : List Record} {old new : DisplayStateView} → Tells screen said old new → Bool
+screen_refused (current part is_part is_current none stays) = false
+screen_refused (no_memory none stays) = true
+screen_refused (shown part view text is_part is_view leads still says becomes) = false
+
+abbrev pub look_refused : {screen : Screenshot} {said : List Record} {old new : DisplayStateView} → TellsLook screen said old new → Bool
+look_refused (unasked not_asked none stays) = false
+look_refused (no_memory none stays) = true
+look_refused (looked looking text asked is says becomes) = false
+
+abbrev pub taken_refused : {acknowledged : ℕ} {said : List Record} {old new : DisplayStateView} → TellsTaken acknowledged said old new → Bool
+taken_refused (same as_before none stays) = false
+taken_refused (no_memory none stays) = true
+taken_refused (rose lines more says becomes) = false

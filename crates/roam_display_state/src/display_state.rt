@@ -1,5 +1,5 @@
 //! What a terminal is told in records, and what is kept of it.
-ghost use Rattle.std.specs.Prelude.{◌≡◌, ◌++◌, ◌∷◌, [], ℕ, List, true, false, IfOk, IfSome, OnOk, is_some};
+ghost use Rattle.std.specs.Prelude.{◌≡◌, ◌++◌, ◌∷◌, [], ℕ, List, true, false, IfOk, IfSome, OnOk, Ok, None, IsOkUnless, is_err, is_some};
 ghost use Rattle.std.specs.Borrow.{Bor};
 ghost use Rattle.roam_viewport.specs.Parts.{part_of as part_in};
 ghost use Rattle.roam_display_records.specs.Records.{text_of};
@@ -7,9 +7,9 @@ ghost use Rattle.roam_display_records.specs.Taken.{took};
 ghost use Rattle.roam_display_records.specs.declared.records.Record.{Record as RecordOf};
 ghost use Rattle.roam_display_state.specs.Saying.{texts_of};
 ghost use Rattle.roam_display_state.specs.Scopes.{part_for, place_told, scope_after};
-ghost use Rattle.roam_display_state.specs.DisplayState.{IsStill, LeadsFrom, Tells, TellsLook, TellsTaken, has_room_for, is_told, nothing_told, painting_said, places_said, shown_so, sizes_said};
+ghost use Rattle.roam_display_state.specs.DisplayState.{IsCurrent, IsStill, LeadsFrom, Tells, TellsLook, TellsTaken, has_room_for, is_told, nothing_told, painting_said, places_said, screen_refused, look_refused, taken_refused, shown_so, sizes_said};
 
-use crate::painting::{is_other, text_to};
+use crate::painting::{is_shown, text_to};
 use crate::saying::say;
 use crate::scopes::Scope;
 use arrayvec::ArrayVec;
@@ -232,7 +232,7 @@ impl DisplayState {
 }
 
 impl DisplayState {
-    // What is to be told of a screen; none where nothing is new. Refuses want of memory.
+    // Returns the records to send for a screen and what they show, or None if the terminal shows it already. Refuses want of memory.
     fn painting(&self, alloc: Global, shot: &RowShot) -> Result<Option<Painting>, Fault>
         ensures painting { IfOk result (λ found. IfSome found (λ p. (text : Bor (List ℕ)) × (p.part ≡ part_for self.now.scope shot.now)
             × (p.view ≡ part_in p.part self.now.masks shot.now)
@@ -240,13 +240,15 @@ impl DisplayState {
             × IsStill self.now.masks self.now.view text.now p.view
             × (p.text.items ≡ texts_of (sizes_said self.now.sized p.view
             ++ (places_said self.now.placed (place_told self.now.scope p.part) ++ painting_said self.now.view text ∷ []))))) }
+        ensures current { result ≡ Ok None → (part : Part) × (part ≡ part_for self.now.scope shot.now)
+            × IsCurrent part (part_in part self.now.masks shot.now) self.now }
     {
         let part = self.scope.part(shot);
         let view = part_of(alloc, shot, part, &self.masks)?;
         let mut text = Vec::new(alloc);
         push_size(alloc, &mut text, self.sized, &view)?;
         push_place(alloc, &mut text, self.placed, self.scope.place(part))?;
-        if text.is_empty() && !is_other(&self.view, &view) {
+        if text.is_empty() && is_shown(&self.view, &view) {
             return Ok(None);
         }
         let bytes = text_to(alloc, &self.view, &self.masks, &view)?;
@@ -269,46 +271,60 @@ impl DisplayState {
         self.view = Some(view);
     }
 
-    /// Tells of a screen what is to be shown of it, behind what waits: the part that is wanted is painted, but for what is masked. Where
-    /// nothing is new, and where memory is wanting, nothing is told and nothing changes.
-    pub fn tell_screen(&mut self, alloc: Global, waiting: &mut Outbox, shot: &RowShot)
-        ensures tells { (said : List RecordOf) × Tells shot.now said self.old self.new × (waiting.new ≡ waiting.old ++ texts_of said) }
+    /// Adds to `waiting` the records that bring the terminal to a screen: the wanted part is painted, except for masked cells. Adds nothing if
+    /// the terminal shows that part already.
+    ///
+    /// # Errors
+    ///
+    /// `OutOfMemory`: nothing was added and nothing changed; the call may be made again.
+    pub fn tell_screen(&mut self, alloc: Global, waiting: &mut Outbox, shot: &RowShot) -> Result<(), Fault>
+        ensures tells { (said : List RecordOf) × (told : Tells shot.now said self.old self.new)
+            × (waiting.new ≡ waiting.old ++ texts_of said) × (is_err result ≡ screen_refused told) }
+        ensures fault { IsOkUnless result Fault.OutOfMemory }
     {
-        let Ok(Some(painting)) = self.painting(alloc, shot) else {
-            return;
+        let Some(painting) = self.painting(alloc, shot)? else {
+            return Ok(());
         };
-        if waiting.push(&painting.text).is_ok() {
-            self.note(painting.part, painting.view);
-        }
+        waiting.push(&painting.text)?;
+        self.note(painting.part, painting.view);
+        Ok(())
     }
 
-    /// Tells a screen that was asked for, cell by cell, behind what waits. Where none was, and where memory is wanting, nothing is told.
-    pub fn tell_look<S: Seen>(&mut self, alloc: Global, waiting: &mut Outbox, shot: &S)
-        ensures tells { (said : List RecordOf) × TellsLook (S.screen shot.now) said self.old self.new
-            × (waiting.new ≡ waiting.old ++ texts_of said) }
+    /// Adds to `waiting` the screen that was asked for, cell by cell. Adds nothing if none was asked for.
+    ///
+    /// # Errors
+    ///
+    /// `OutOfMemory`: nothing was added, and the screen is still asked for.
+    pub fn tell_look<S: Seen>(&mut self, alloc: Global, waiting: &mut Outbox, shot: &S) -> Result<(), Fault>
+        ensures tells { (said : List RecordOf) × (told : TellsLook (S.screen shot.now) said self.old self.new)
+            × (waiting.new ≡ waiting.old ++ texts_of said) × (is_err result ≡ look_refused told) }
+        ensures fault { IsOkUnless result Fault.OutOfMemory }
     {
         let Some(looking) = self.looking else {
-            return;
+            return Ok(());
         };
-        let Ok(text) = screen_text(alloc, looking, shot) else {
-            return;
-        };
-        if say(alloc, waiting, Record::Screen(&text)) {
-            self.looking = None;
-        }
+        let text = screen_text(alloc, looking, shot)?;
+        say(alloc, waiting, Record::Screen(&text))?;
+        self.looking = None;
+        Ok(())
     }
 
-    /// So many acts are acknowledged: tells how many of the first lines are taken, with all their acts acknowledged, behind what waits,
-    /// where that rose. Where memory is wanting nothing is told.
-    pub fn tell_taken(&mut self, alloc: Global, waiting: &mut Outbox, acknowledged: u64)
-        ensures tells { (said : List RecordOf) × TellsTaken acknowledged said self.old self.new
-            × (waiting.new ≡ waiting.old ++ texts_of said) }
+    /// Adds to `waiting` how many of the first lines were taken, with all their acts acknowledged. Adds nothing if that number did not rise.
+    /// `acknowledged` is the number of acknowledged acts.
+    ///
+    /// # Errors
+    ///
+    /// `OutOfMemory`: nothing was added, and the same number may be given again.
+    pub fn tell_taken(&mut self, alloc: Global, waiting: &mut Outbox, acknowledged: u64) -> Result<(), Fault>
+        ensures tells { (said : List RecordOf) × (told : TellsTaken acknowledged said self.old self.new)
+            × (waiting.new ≡ waiting.old ++ texts_of said) × (is_err result ≡ taken_refused told) }
+        ensures fault { IsOkUnless result Fault.OutOfMemory }
     {
         let Some(lines) = self.taken.risen(acknowledged) else {
-            return;
+            return Ok(());
         };
-        if say(alloc, waiting, Record::Taken(lines)) {
-            let _ = self.taken.acknowledged(acknowledged);
-        }
+        say(alloc, waiting, Record::Taken(lines))?;
+        let _ = self.taken.acknowledged(acknowledged);
+        Ok(())
     }
 }

@@ -1,5 +1,5 @@
 //! What leads a terminal from what it shows to another part of a screen.
-ghost use Rattle.std.specs.Prelude.{◌≡◌, [], ◌∷◌, IfOk, IfSome, Some, None};
+ghost use Rattle.std.specs.Prelude.{◌≡◌, ◌↔◌, [], ◌∷◌, IfOk, IfSome, IsTrue, Some, None};
 ghost use Rattle.roam_scroll_paint.specs.Leads.{Leads};
 ghost use Rattle.roam_display_state.specs.DisplayState.{IsStill, LeadsFrom};
 ghost use Rattle.roam_paint.specs.Painting.{text_between};
@@ -64,15 +64,43 @@ pub(crate) fn text_to(
     }
 }
 
-/// Whether a screen is another than the one that is shown.
-pub(crate) fn is_other(before: &Option<RowShot>, view: &RowShot) -> bool {
-    let Some(before) = before else {
-        return true;
-    };
-    if before.rows() != view.rows() || before.cols() != view.cols() {
-        return true;
+// Returns true if two screens of the same size have the same cells.
+fn has_same_rows(before: &RowShot, view: &RowShot) -> bool
+    requires rows { before.now.rows ≡ view.now.rows }
+    requires cols { before.now.cols ≡ view.now.cols }
+    ensures same { IsTrue result ↔ (before.now.cells ≡ view.now.cells) }
+{
+    before.facts();
+    view.facts();
+    for row in 0..view.rows() {
+        if !are_same_cells(before.row(row), view.row(row)) {
+            return false;
+        }
     }
-    before.cursor() != view.cursor()
-        || before.visible() != view.visible()
-        || (0..view.rows()).any(|row| !are_same_cells(before.row(row), view.row(row)))
+    true
+}
+
+// Returns true if two screens have the same size, cells, cursor and visibility of the cursor.
+fn is_same(before: &RowShot, view: &RowShot) -> bool
+    ensures same { IsTrue result ↔ (before.now ≡ view.now) }
+{
+    if before.rows() != view.rows() || before.cols() != view.cols() {
+        return false;
+    }
+    let (row, col) = before.cursor();
+    let (view_row, view_col) = view.cursor();
+    if row != view_row || col != view_col || before.visible() != view.visible() {
+        return false;
+    }
+    has_same_rows(before, view)
+}
+
+/// Returns true if the terminal is known to show this screen.
+pub(crate) fn is_shown(before: &Option<RowShot>, view: &RowShot) -> bool
+    ensures shown { IsTrue result ↔ (before.now ≡ Some view.now) }
+{
+    match before {
+        Some(before) => is_same(before, view),
+        None => false,
+    }
 }

@@ -1,18 +1,22 @@
-//! A record is said behind what waits for a terminal.
-ghost use Rattle.std.specs.Prelude.{◌≡◌, ◌++◌, true, false};
+//! Records for a terminal, added to the bytes that wait for it.
+ghost use Rattle.std.specs.Prelude.{◌≡◌, ◌++◌, OnErr, OnOk, IsOkUnless};
 ghost use Rattle.roam_display_records.specs.Records.{text_of};
 
+use roam_cells::Fault;
 use roam_display_records::{Record, record_text};
 use roam_stream_framing::Outbox;
 use std::alloc::Global;
 
-/// Says a record behind what waits, and tells whether there was memory for it; where there was none nothing is said.
-pub fn say(alloc: Global, waiting: &mut Outbox, told: Record<'_>) -> bool
-    ensures said { result ≡ true → waiting.new ≡ waiting.old ++ text_of told.entry }
-    ensures unsaid { result ≡ false → waiting.new ≡ waiting.old }
+/// Adds a record to `waiting`.
+///
+/// # Errors
+///
+/// `OutOfMemory`: nothing was added.
+pub fn say(alloc: Global, waiting: &mut Outbox, told: Record<'_>) -> Result<(), Fault>
+    ensures said { OnOk result (waiting.new ≡ waiting.old ++ text_of told.entry) }
+    ensures err { OnErr result (waiting.new ≡ waiting.old) }
+    ensures fault { IsOkUnless result Fault.OutOfMemory }
 {
-    let Ok(text) = record_text(alloc, told) else {
-        return false;
-    };
-    waiting.push(&text).is_ok()
+    let text = record_text(alloc, told)?;
+    waiting.push(&text)
 }

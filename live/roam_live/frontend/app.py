@@ -22,7 +22,7 @@ from roam_live.frontend.window_views import LOSS_TOLD, ViewMaker, WindowView, Wi
 from roam_live.frontend.windows import WindowWishes
 from roam_live.protocol.client_link import LAST_WAIT
 from roam_live.protocol.host_link import HostLink
-from roam_live.protocol.panes import Places
+from roam_live.protocol.panes import KEYPAD, Places
 from roam_live.session.environment import environment_lines
 from roam_live.session.front_end_lock import locked_session
 from roam_live.session.host_watchdog import HostWatchdog
@@ -163,10 +163,7 @@ class FrontEnd:
         except ImportError:
             self.views.commands.tell_replaced()
         view, outer = self.views.view, self.display.outer
-        if view.host.keypads or outer.is_application:
-            # The keypad is an application's, in a pane or at the terminal.
-            places = view.panes.places
-            self.display.outer.set_keypad(places is not None and places.focus in view.host.keypads)
+        outer.set_keypad(KEYPAD in view.panes.focus_modes)
         if view.link.waiting and view.link.peer:
             self.connection.send()
         if outer.waiting or outer.clip.newest:

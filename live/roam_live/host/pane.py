@@ -19,7 +19,6 @@ from roam_live.common.io import UNREAD_LIMIT, read, write
 from roam_live.common.unix_socket import connected_now
 from roam_live.host.input_queue import TypedQueue
 from roam_live.host.options import Options, entered, surroundings
-from roam_live.host.output_scan import KeypadScan
 from roam_live.host.state import PaneState
 from roam_live.session.environment import PaneEnvironment
 from roam_live.session.foreground import group_in_front
@@ -79,7 +78,6 @@ class PaneCommand:
         self.is_settling = False
         # When its close is asked for anew.
         self.asked_until = 0.0
-        self.keypad = KeypadScan(state)
         # True if something was typed or written, or written, since the last look. `touches` is called then, and at the end of a command.
         self.is_touched = self.has_news = False
         self.touches: Callable[[], object] = lambda: None
@@ -372,5 +370,4 @@ class PaneCommand:
         elif written:
             self.has_news = True
             self.touch()
-            self.keypad.fed(written)
             self.show(written)

@@ -213,9 +213,8 @@ class PaneState(StateRecord):
     command: list[str] = field(list_of(text_of(LONGEST_WORD, has_no_nul), 0, MOST_WORDS), list)
     process: int | None = field(optional(number_from(1, MOST_PROCESS)), nothing)
     has_ended: bool = field(flag, bool)
-    # What runs in front, if that was looked up, and True if that asked for application codes of the keypad.
+    # What runs in front, if that was looked up.
     program: str = field(PROGRAM, str)
-    has_application_keypad: bool = field(flag, bool)
 
 
 class WindowState(StateRecord):

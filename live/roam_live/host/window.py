@@ -236,8 +236,6 @@ class WindowHost:
         self.state.history = [other for other in self.state.history if other != number]
         if pane:
             del self.state.panes[number]
-            if pane.state.has_application_keypad != pane.keypad.is_news:
-                self.channel.tell_keypad(number, False)
             self.fronts.drop(number)
             self.rows.drop(self.key(number))
             pane.hang_up()
@@ -399,9 +397,6 @@ class WindowHost:
     def touch(self, pane: PaneCommand) -> None:
         """Has it looked up what runs in front in a pane where something was typed or written, while somebody wants to know."""
         self.has_news, pane.has_news = self.has_news or pane.has_news, False
-        if pane.keypad.is_news:
-            pane.keypad.is_news = False
-            self.channel.tell_keypad(pane.state.number, pane.state.has_application_keypad)
         if pane.is_touched:
             pane.is_touched, self.fronts.is_wanted = False, self.channel.has_asked_commands() or self.common.socket.has_asked_windows()
             self.fronts.touched(pane)

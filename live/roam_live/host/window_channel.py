@@ -69,8 +69,7 @@ class WindowChannel:
         if self.socket.lines:
             self.socket.lines.comes(self.window)
         notices = [notice_line(self.standing)] if self.standing else []
-        keypads = [pane for pane, state in sorted(self.state.panes.items()) if state.has_application_keypad]
-        self.send(peer, [f"keypad {pane} application" for pane in keypads] + notices)
+        self.send(peer, notices)
 
     def has_terminals(self) -> bool:
         """Whether a terminal is here."""
@@ -124,10 +123,6 @@ class WindowChannel:
     def notify(self, text: str) -> None:
         """Send each terminal a notice for its person."""
         self.tell_terminals(notice_line(text))
-
-    def tell_keypad(self, pane: int, is_application: bool) -> None:
-        """Report the mode of a pane's keypad to each terminal."""
-        self.tell_terminals(f"keypad {pane} {'application' if is_application else 'numeric'}")
 
     def tell_terminals(self, line: str) -> None:
         """Send a line to each terminal."""

@@ -11,9 +11,8 @@ from roam_live.protocol.presence import HERE, WHO, OtherTerminals, Presence
 from roam_live.protocol.scrollback_client import ScrollbackClient
 from roam_live.protocol.zoom_record import NONE, ZOOM, ZOOMED, ZoomNote, zoomed_in
 
-# Notices of the host: a line for the person, in printable ASCII; and the mode of a pane's keypad.
+# A notice of the host: a line for the person, in printable ASCII.
 NOTICE = re.compile(r"say ([ -~]{1,200})")
-KEYPAD = re.compile(r"keypad ([1-9]) (application|numeric)")
 
 # So many seconds a host that took the connection has for telling who else is there: the one of another machine takes a round trip.
 KNOWS = 2.0
@@ -34,8 +33,6 @@ class HostClient:
         self.answers: Callable[[str, str, str], object] = lambda name, word, more: None
         self.ran: Callable[[str], object] = lambda told: None
         self.notices: Callable[[str], object] = lambda words: None
-        # The panes whose programs asked for application codes of the keypad.
-        self.keypads: set[int] = set()
         # The zoom of this terminal, and the one that was told of, with the number of who made it, 0 where that has left.
         self.zoom: ZoomNote | None = None
         self.zoomed: tuple[int, ZoomNote | None] = (0, None)
@@ -83,7 +80,6 @@ class HostClient:
     def left(self) -> None:
         """Know no more who is at the window, since the person has gone to another."""
         self.others, self.zoomed = OtherTerminals(), (0, None)
-        self.keypads.clear()
 
     def end(self) -> None:
         """Know nothing of the window any more."""
@@ -113,11 +109,8 @@ class HostClient:
     def take_state(self, line: str) -> None:
         """Take a line about the state of the window where the person is."""
         word, _, rest = line.partition(" ")
-        keypad = KEYPAD.fullmatch(line)
         if word == ZOOMED:
             self.zoomed = zoomed_in(rest.split(" ")) or self.zoomed
-        elif keypad:
-            (self.keypads.add if keypad[2] == "application" else self.keypads.discard)(int(keypad[1]))
         else:
             self.others.take(line)
         if self.others.is_whole:

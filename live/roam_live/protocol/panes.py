@@ -47,6 +47,9 @@ BRACKETED = "paste"
 FOCUS = "focus"
 OTHER = "other"
 
+# The word of the application codes of the keypad (DECKPAM).
+KEYPAD = "keypad"
+
 # What it is asked for by who sets a clipboard too, and the word of its lines.
 CLIPBOARD = "clipboard"
 CLIP = "clip"

@@ -1,24 +1,30 @@
-use Rattle.std.proofs.Common.{◌≡◌, ◌∷◌, ◌++◌, rules, [], refl, sym, ap, ◌∙◌, append-nil}
-use Rattle.roam_display_state.specs.Scopes.{place_told}
-use Rattle.roam_display_state.specs.DisplayState.{places_said, painting_said, sizes_said}
-use Rattle.roam_display_state.specs.DisplayState.Tells.{nothing, shown}
-use Rattle.roam_display_state.proofs.Found.{found}
+use Rattle.std.proofs.Common.{rules, ◌≡◌, ◌++◌, ◌∷◌, [], ℕ, List, true, false, IfOk, IfSome, OnOk, Ok, None, IsOkUnless, is_err, is_some, ◌+◌, ◌-◌, ◌*◌, ◌<◌, ◌≤◌, length, ◌/◌, ◌%◌, Bool, nat_eq, nat_lt, slice_index_or, slice_set, bit_and, bit_or, Fits, w8, w32, w64, MutBor}
+use Rattle.std.specs.Borrow.{Bor}
+use Rattle.roam_viewport.specs.Parts.{part_of as part_in}
+use Rattle.roam_display_records.specs.Records.{text_of}
+use Rattle.roam_display_records.specs.Taken.{took}
+use Rattle.roam_display_records.specs.declared.records.Record.{Record as RecordOf}
+use Rattle.roam_display_state.specs.Saying.{texts_of}
+use Rattle.roam_display_state.specs.Scopes.{part_for, place_told, scope_after}
+use Rattle.roam_display_state.specs.DisplayState.{IsCurrent, IsStill, LeadsFrom, Tells, TellsLook, TellsTaken, has_room_for, is_told, nothing_told, painting_said, places_said, screen_refused, look_refused, taken_refused, shown_so, sizes_said}
 use Rattle.roam_display_state.proofs.display_state.DisplayState.tell_screen.Goals as goal
 
-pub returns-then-is_ok : goal.returns-then-is_ok
-returns-then-is_ok c =
-    let old = c.args.self.now in
-    let is = found _ c.in-Ok-Some.field-0 c.in-Ok-Some.painting (search rules) c.in-Ok-Some.ensures.painting in (
-    record {
-      tells = (
-        sizes_said old.sized c.in-Ok-Some.painting.view
-            ++ (places_said old.placed (place_told old.scope c.in-Ok-Some.painting.part) ++ painting_said old.view is.0 ∷ []),
-        shown c.in-Ok-Some.painting.part c.in-Ok-Some.painting.view is.0 is.1 is.2 is.3 is.4 refl (search rules),
-        search rules,
-      );
-    }
-    )
+-- src/display_state.rt:285:30
+pub returns-in_err-painting-clause-tells : goal.returns-in_err-painting-clause-tells
+returns-in_err-painting-clause-tells c = ?
 
-pub returns-else-is_ok : goal.returns-else-is_ok
-returns-else-is_ok c =
-    record { tells = ([], nothing refl refl, search rules) }
+-- src/display_state.rt:285:30
+pub returns-in_err-painting-clause-fault : goal.returns-in_err-painting-clause-fault
+returns-in_err-painting-clause-fault c = ?
+
+-- src/display_state.rt:286:13
+pub returns-in_default-clause-tells : goal.returns-in_default-clause-tells
+returns-in_default-clause-tells c = ?
+
+-- src/display_state.rt:288:9
+pub returns-in_err-push-clause-tells : goal.returns-in_err-push-clause-tells
+returns-in_err-push-clause-tells c = ?
+
+-- src/display_state.rt:280:5
+pub returns-clause-tells : goal.returns-clause-tells
+returns-clause-tells c = ?
