@@ -18,7 +18,7 @@ use Rattle.roam_display_state.specs.Leading.{AreQuiet, BeginsSaid, FitsSaid, Fit
 use Rattle.roam_display_state.specs.Saying.{painting_in, paintings_in}
 use Rattle.roam_display_state.specs.Scopes.{part_for, place_told, scope_after}
 use Rattle.roam_display_state.specs.DisplayState.{LeadsFrom, DisplayStateView, Tells, is_told, painting_said, places_said, sizes_said}
-use Rattle.roam_display_state.specs.DisplayState.Tells.{current, no_memory, shown}
+use Rattle.roam_display_state.specs.DisplayState.Tells.{bad_size, current, no_memory, shown}
 
 -- ---- records, joined
 
@@ -224,9 +224,11 @@ said_same said old new same h = subst (λ l. IsSaid l new) (sym (append-nil said
 pub tells_on : TellsOn
 tells_on screen said more old new h (current part part_is shown_is none same) =
     subst (λ l. IsSaid (said ++ l) new) (sym none) (said_same said old new same h)
+tells_on screen said more old new h (bad_size part part_is none_is none same) =
+    subst (λ l. IsSaid (said ++ l) new) (sym none) (said_same said old new same h)
 tells_on screen said more old new h (no_memory none same) =
     subst (λ l. IsSaid (said ++ l) new) (sym none) (said_same said old new same h)
-tells_on screen said more old new h (shown part view text part_is view_is leads still is to) =
+tells_on screen said more old new h (shown part view text part_is view_is is_new leads still is to) =
     subst (λ l. IsSaid (said ++ l) new) (sym is) (by old.view refl)
   where
     by : (v : Option Screenshot) → old.view ≡ v → IsSaid (said ++ More said old view (place_told old.scope part) text) new

@@ -1,3 +1,4 @@
 mod Found
 pub mod Leading
 mod Masking
+pub mod Refused

@@ -1,6 +1,9 @@
 -- What a terminal is told in records, and what is kept of it (this project's profile).
 use Rattle.std.specs.Borrow.{Bor}
-use Rattle.std.specs.Prelude.{◌≡◌, ℕ, Bool, true, false, ◌&&◌, ◌==◌, List, [], ◌∷◌, ◌++◌, length, Option, Some, None, nat_lt, if◌then◌else◌}
+use Rattle.std.specs.Prelude.{◌≡◌, ℕ, Bool, true, false, ◌&&◌, ◌==◌, List, [], ◌∷◌, ◌++◌, length, Option, Some, None, nat_lt, if◌then◌else◌, Result, Ok, Err}
+use Rattle.roam_cells.specs.Limits.{IsSize}
+use Rattle.roam_cells.specs.declared.faults.Fault.{Fault}
+use Rattle.roam_cells.specs.declared.faults.Fault.TheVariants.{BadSize, OutOfMemory}
 use Rattle.roam_paint.specs.Painting.{text_between}
 use Rattle.roam_viewport.specs.Parts.{part_of}
 use Rattle.roam_viewport.specs.declared.parts.Part.{Part}
@@ -95,14 +98,18 @@ pub record IsCurrent (part : Part) (view : Screenshot) (t : DisplayStateView) : 
   pub sized : sizes_said t.sized view ≡ []
   pub placed : places_said t.placed (place_told t.scope part) ≡ []
 
--- A screen is to be shown. The terminal shows the wanted part of it already, and is sent nothing; or memory was refused, and nothing is sent and
--- nothing changes; or the part is painted, its size and its place are sent before, and the terminal shows it from then on.
+-- A screen is to be shown. The terminal shows the wanted part of it already, and is sent nothing; or no screen has the size of that part, or
+-- memory was refused, and nothing is sent and nothing changes; or the part is painted, its size and its place are sent before, and the terminal
+-- shows it from then on.
 pub data Tells (screen : Screenshot) (said : List Record) (old new : DisplayStateView) : Type 0 where
   current : (part : Part) → part ≡ part_for old.scope screen → IsCurrent part (part_of part old.masks screen) old → said ≡ [] → new ≡ old
       → Tells screen said old new
+  bad_size : (part : Part) → part ≡ part_for old.scope screen → (IsSize part.rows part.cols → ⊥) → said ≡ [] → new ≡ old
+      → Tells screen said old new
   no_memory : said ≡ [] → new ≡ old → Tells screen said old new
   shown : (part : Part) (view : Screenshot) (text : Bor (List ℕ)) → part ≡ part_for old.scope screen
-      → view ≡ part_of part old.masks screen → LeadsFrom old.view text.now view → IsStill old.masks old.view text.now view
+      → view ≡ part_of part old.masks screen → (IsCurrent part view old → ⊥)
+      → LeadsFrom old.view text.now view → IsStill old.masks old.view text.now view
       → said
       ≡ sizes_said old.sized view
       ++ (places_said old.placed (place_told old.scope part) ++ painting_said old.view text ∷ [])
@@ -134,20 +141,22 @@ pub data TellsTaken (acknowledged : ℕ) (said : List Record) (old new : Display
   rose : (lines : ℕ) → risen old.taken.told (done_after acknowledged old.taken) ≡ Some lines → said ≡ Taken lines ∷ []
       → new ≡ record old { taken = acknowledged_of acknowledged old.taken } → TellsTaken acknowledged said old new
 
--- ---- why nothing was sent
+-- ---- what a call returns
 
--- a call returns an error exactly if memory was refused
-abbrev pub screen_refused : {screen : Screenshot} {said : List Record} {old new : DisplayStateView} → Tells screen said old new → Bool
-screen_refused (current part is_part is_current none stays) = false
-screen_refused (no_memory none stays) = true
-screen_refused (shown part view text is_part is_view leads still says becomes) = false
+-- what a call returns that has sent so much
+abbrev pub answer_of_screen : {screen : Screenshot} {said : List Record} {old new : DisplayStateView} → Tells screen said old new → Result (Unit {0}) Fault
+answer_of_screen (current part is_part is_current none stays) = Ok tt
+answer_of_screen (bad_size part is_part is_none none stays) = Err BadSize
+answer_of_screen (no_memory none stays) = Err OutOfMemory
+answer_of_screen (shown part view text is_part is_view is_new leads still says becomes) = Ok tt
 
-abbrev pub look_refused : {screen : Screenshot} {said : List Record} {old new : DisplayStateView} → TellsLook screen said old new → Bool
-look_refused (unasked not_asked none stays) = false
-look_refused (no_memory none stays) = true
-look_refused (looked looking text asked is says becomes) = false
+abbrev pub answer_of_look : {screen : Screenshot} {said : List Record} {old new : DisplayStateView} → TellsLook screen said old new → Result (Unit {0}) Fault
+answer_of_look (unasked not_asked none stays) = Ok tt
+answer_of_look (no_memory none stays) = Err OutOfMemory
+answer_of_look (looked looking text asked is says becomes) = Ok tt
 
-abbrev pub taken_refused : {acknowledged : ℕ} {said : List Record} {old new : DisplayStateView} → TellsTaken acknowledged said old new → Bool
-taken_refused (same as_before none stays) = false
-taken_refused (no_memory none stays) = true
-taken_refused (rose lines more says becomes) = false
+abbrev pub answer_of_taken : {acknowledged : ℕ} {said : List Record} {old new : DisplayStateView} → TellsTaken acknowledged said old new
+    → Result (Unit {0}) Fault
+answer_of_taken (same as_before none stays) = Ok tt
+answer_of_taken (no_memory none stays) = Err OutOfMemory
+answer_of_taken (rose lines more says becomes) = Ok tt

@@ -1,13 +1,14 @@
 //! What a terminal is told in records, and what is kept of it.
-ghost use Rattle.std.specs.Prelude.{◌≡◌, ◌++◌, ◌∷◌, [], ℕ, List, true, false, IfOk, IfSome, OnOk, Ok, None, IsOkUnless, is_err, is_some};
+ghost use Rattle.std.specs.Prelude.{◌≡◌, ◌⊎◌, ◌++◌, ◌∷◌, [], ℕ, List, true, false, IfOk, IfSome, OnOk, Ok, None, IsErrOf, IsOkUnless, IfErr, is_some};
 ghost use Rattle.std.specs.Borrow.{Bor};
 ghost use Rattle.roam_viewport.specs.Parts.{part_of as part_in};
+ghost use Rattle.roam_cells.specs.Limits.{IsSize};
 ghost use Rattle.roam_display_records.specs.Records.{text_of};
 ghost use Rattle.roam_display_records.specs.Taken.{took};
 ghost use Rattle.roam_display_records.specs.declared.records.Record.{Record as RecordOf};
 ghost use Rattle.roam_display_state.specs.Saying.{texts_of};
 ghost use Rattle.roam_display_state.specs.Scopes.{part_for, place_told, scope_after};
-ghost use Rattle.roam_display_state.specs.DisplayState.{IsCurrent, IsStill, LeadsFrom, Tells, TellsLook, TellsTaken, has_room_for, is_told, nothing_told, painting_said, places_said, screen_refused, look_refused, taken_refused, shown_so, sizes_said};
+ghost use Rattle.roam_display_state.specs.DisplayState.{IsCurrent, IsStill, LeadsFrom, Tells, TellsLook, TellsTaken, has_room_for, is_told, nothing_told, painting_said, places_said, answer_of_look, answer_of_screen, answer_of_taken, shown_so, sizes_said};
 
 use crate::painting::{is_shown, text_to};
 use crate::saying::say;
@@ -64,6 +65,7 @@ struct Painting {
 // Adds a record. Refuses want of memory.
 fn push_record(alloc: Global, text: &mut Vec<u8>, told: Record<'_>) -> Result<(), Fault>
     ensures text { OnOk result (text.new.items ≡ text.old.items ++ text_of told.entry) }
+    ensures fault { IsOkUnless result Fault.OutOfMemory }
 {
     let more = record_text(alloc, told)?;
     text.extend_from_slice(&more)?;
@@ -88,6 +90,7 @@ fn push_size(
     view: &RowShot,
 ) -> Result<(), Fault>
     ensures text { OnOk result (text.new.items ≡ text.old.items ++ texts_of (sizes_said told view.now)) }
+    ensures fault { IsOkUnless result Fault.OutOfMemory }
 {
     let (rows, cols) = (view.rows(), view.cols());
     if is_told(told, rows, cols) {
@@ -104,6 +107,7 @@ fn push_place(
     place: Option<(u16, u16)>,
 ) -> Result<(), Fault>
     ensures text { OnOk result (text.new.items ≡ text.old.items ++ texts_of (places_said told place)) }
+    ensures fault { IsOkUnless result Fault.OutOfMemory }
 {
     let Some((row, col)) = place else {
         return Ok(());
@@ -122,6 +126,7 @@ fn push_painting(
     bytes: &[u8],
 ) -> Result<(), Fault>
     ensures text { OnOk result (text.new.items ≡ text.old.items ++ text_of (painting_said before.now bytes.entry)) }
+    ensures fault { IsOkUnless result Fault.OutOfMemory }
 {
     match before {
         None => push_record(alloc, text, Record::Anew(bytes)),
@@ -235,13 +240,16 @@ impl DisplayState {
     // Returns the records to send for a screen and what they show, or None if the terminal shows it already. Refuses want of memory.
     fn painting(&self, alloc: Global, shot: &RowShot) -> Result<Option<Painting>, Fault>
         ensures painting { IfOk result (λ found. IfSome found (λ p. (text : Bor (List ℕ)) × (p.part ≡ part_for self.now.scope shot.now)
-            × (p.view ≡ part_in p.part self.now.masks shot.now)
+            × (p.view ≡ part_in p.part self.now.masks shot.now) × (IsCurrent p.part p.view self.now → ⊥)
             × LeadsFrom self.now.view text.now p.view
             × IsStill self.now.masks self.now.view text.now p.view
             × (p.text.items ≡ texts_of (sizes_said self.now.sized p.view
             ++ (places_said self.now.placed (place_told self.now.scope p.part) ++ painting_said self.now.view text ∷ []))))) }
         ensures current { result ≡ Ok None → (part : Part) × (part ≡ part_for self.now.scope shot.now)
             × IsCurrent part (part_in part self.now.masks shot.now) self.now }
+        ensures bad_size { IsErrOf result Fault.BadSize → (part : Part) × (part ≡ part_for self.now.scope shot.now)
+            × (IsSize part.rows part.cols → ⊥) }
+        ensures faults { IfErr result (λ fault. (fault ≡ Fault.BadSize) ⊎ (fault ≡ Fault.OutOfMemory)) }
     {
         let part = self.scope.part(shot);
         let view = part_of(alloc, shot, part, &self.masks)?;
@@ -276,11 +284,10 @@ impl DisplayState {
     ///
     /// # Errors
     ///
-    /// `OutOfMemory`: nothing was added and nothing changed; the call may be made again.
+    /// `BadSize`: no screen has the size of the wanted part. `OutOfMemory`: memory was refused. Nothing was added and nothing changed.
     pub fn tell_screen(&mut self, alloc: Global, waiting: &mut Outbox, shot: &RowShot) -> Result<(), Fault>
         ensures tells { (said : List RecordOf) × (told : Tells shot.now said self.old self.new)
-            × (waiting.new ≡ waiting.old ++ texts_of said) × (is_err result ≡ screen_refused told) }
-        ensures fault { IsOkUnless result Fault.OutOfMemory }
+            × (waiting.new ≡ waiting.old ++ texts_of said) × (result ≡ answer_of_screen told) }
     {
         let Some(painting) = self.painting(alloc, shot)? else {
             return Ok(());
@@ -297,8 +304,7 @@ impl DisplayState {
     /// `OutOfMemory`: nothing was added, and the screen is still asked for.
     pub fn tell_look<S: Seen>(&mut self, alloc: Global, waiting: &mut Outbox, shot: &S) -> Result<(), Fault>
         ensures tells { (said : List RecordOf) × (told : TellsLook (S.screen shot.now) said self.old self.new)
-            × (waiting.new ≡ waiting.old ++ texts_of said) × (is_err result ≡ look_refused told) }
-        ensures fault { IsOkUnless result Fault.OutOfMemory }
+            × (waiting.new ≡ waiting.old ++ texts_of said) × (result ≡ answer_of_look told) }
     {
         let Some(looking) = self.looking else {
             return Ok(());
@@ -317,8 +323,7 @@ impl DisplayState {
     /// `OutOfMemory`: nothing was added, and the same number may be given again.
     pub fn tell_taken(&mut self, alloc: Global, waiting: &mut Outbox, acknowledged: u64) -> Result<(), Fault>
         ensures tells { (said : List RecordOf) × (told : TellsTaken acknowledged said self.old self.new)
-            × (waiting.new ≡ waiting.old ++ texts_of said) × (is_err result ≡ taken_refused told) }
-        ensures fault { IsOkUnless result Fault.OutOfMemory }
+            × (waiting.new ≡ waiting.old ++ texts_of said) × (result ≡ answer_of_taken told) }
     {
         let Some(lines) = self.taken.risen(acknowledged) else {
             return Ok(());

@@ -1,5 +1,5 @@
 //! What leads a terminal from what it shows to another part of a screen.
-ghost use Rattle.std.specs.Prelude.{◌≡◌, ◌↔◌, [], ◌∷◌, IfOk, IfSome, IsTrue, Some, None};
+ghost use Rattle.std.specs.Prelude.{◌≡◌, ◌↔◌, [], ◌∷◌, IfOk, IfSome, IsOkUnless, IsTrue, Some, None};
 ghost use Rattle.roam_scroll_paint.specs.Leads.{Leads};
 ghost use Rattle.roam_display_state.specs.DisplayState.{IsStill, LeadsFrom};
 ghost use Rattle.roam_paint.specs.Painting.{text_between};
@@ -17,6 +17,7 @@ use std::alloc::Global;
 // A text that opens a terminal, whatever it shows, and shows a screen there.
 fn opening(alloc: Global, view: &RowShot) -> Result<Vec<u8>, Fault>
     ensures opens { IfOk result (λ text. ShowsSized None text.items view.now) }
+    ensures fault { IsOkUnless result Fault.OutOfMemory }
 {
     let mut outer = Outer::new();
     let Some(text) = outer.paint(alloc, 0, &Shown::New(view)) else {
@@ -28,6 +29,7 @@ fn opening(alloc: Global, view: &RowShot) -> Result<Vec<u8>, Fault>
 // A text that leads from one screen to another, in which rows may be moved.
 fn moving(alloc: Global, before: &RowShot, view: &RowShot) -> Result<Vec<u8>, Fault>
     ensures leads { IfOk result (λ text. Leads before.now view.now text.items) }
+    ensures fault { IsOkUnless result Fault.OutOfMemory }
 {
     let mut text = Vec::new(alloc);
     paint_moved(before, view, &mut text)?;
@@ -38,6 +40,7 @@ fn moving(alloc: Global, before: &RowShot, view: &RowShot) -> Result<Vec<u8>, Fa
 fn standing(alloc: Global, before: &RowShot, view: &RowShot) -> Result<Vec<u8>, Fault>
     ensures leads { IfOk result (λ text. Leads before.now view.now text.items) }
     ensures still { IfOk result (λ text. text.items ≡ text_between before.now view.now) }
+    ensures fault { IsOkUnless result Fault.OutOfMemory }
 {
     paint_leads();
     view.facts();
@@ -56,6 +59,7 @@ pub(crate) fn text_to(
 ) -> Result<Vec<u8>, Fault>
     ensures leads { IfOk result (λ text. LeadsFrom before.now text.items view.now) }
     ensures still { IfOk result (λ text. IsStill masks.now before.now text.items view.now) }
+    ensures fault { IsOkUnless result Fault.OutOfMemory }
 {
     match before {
         None => opening(alloc, view),

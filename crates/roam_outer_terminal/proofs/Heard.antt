@@ -6,7 +6,7 @@ use Rattle.roam_cells.specs.declared.faults.Fault.TheVariants.{BadAct, OutOfMemo
 use Rattle.roam_hub.specs.Clients.{ClientView}
 use Rattle.roam_display_state.specs.DisplayState.{DisplayStateView}
 use Rattle.roam_turns.specs.declared.outer.Noted.{Noted}
-use Rattle.roam_terminal_input.specs.Entries.{Says}
+use Rattle.roam_terminal_input.specs.Entries.{Says, needs_memory}
 use Rattle.roam_terminal_input.specs.Lines.{IsFirst, LinesView, front_of}
 use Rattle.roam_terminal_input.specs.declared.entries.Entry.{Entry}
 use Rattle.roam_terminal_input.specs.declared.entries.Entry.TheVariants.{Acts, Paste, Events, Repaint, Watch, Prediction, Look, LookStyled, Show, End}
@@ -82,13 +82,14 @@ entry_heard entry line rest old mid new client client' told same heard first say
 
 -- why it is refused
 pub line_bad : (lines : LinesView) (display_state : Option DisplayStateView) (line rest : List ℕ) (fault : Fault) → IsFirst lines.kept line rest
-    → ((entry : Entry) → Says line entry → fault ≡ OutOfMemory) → ((fault ≡ BadAct) ⊎ (fault ≡ OutOfMemory)) → IsBad lines display_state
-line_bad lines display_state line rest fault first only (inl bad_act) =
+    → ((entry : Entry) → Says line entry → fault ≡ OutOfMemory) → (fault ≡ OutOfMemory → (entry : Entry) → Says line entry → needs_memory entry ≡ true)
+    → ((fault ≡ BadAct) ⊎ (fault ≡ OutOfMemory)) → IsBad lines display_state
+line_bad lines display_state line rest fault first only memory (inl bad_act) =
     says_nothing line rest first (λ entry says. differ (sym bad_act ∙ only entry says))
   where
     differ : BadAct ≡ OutOfMemory → ⊥
     differ e = cc
-line_bad lines display_state line rest fault first only (inr none) = wanting line rest first
+line_bad lines display_state line rest fault first only memory (inr none) = wanting line rest first (memory none)
 
 -- a terminal is as it is told where it was read
 pub watches_read : {S : Type 0} (old mid : Terminal S) → IsRead old mid → old.watches ≡ mid.watches

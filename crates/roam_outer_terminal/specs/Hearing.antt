@@ -13,7 +13,7 @@ use Rattle.roam_display_records.specs.declared.records.Record.TheVariants as rec
 use Rattle.roam_screens.specs.Screenshot.{Screenshot}
 use Rattle.roam_display_state.specs.DisplayState.{DisplayStateView, has_room_for, nothing_told, shown_so}
 use Rattle.roam_turns.specs.declared.outer.Noted.{Noted}
-use Rattle.roam_terminal_input.specs.Entries.{Says, acts_in}
+use Rattle.roam_terminal_input.specs.Entries.{Says, acts_in, needs_memory}
 use Rattle.roam_terminal_input.specs.declared.entries.Entry.{Entry}
 use Rattle.roam_terminal_input.specs.declared.entries.Entry.TheVariants.{Acts, Paste, Events, Repaint, Watch, Prediction, Look, LookStyled, Show, End}
 use Rattle.roam_terminal_input.specs.Lines.{IsFirst, LinesView, front_of}
@@ -71,11 +71,13 @@ may_take LookStyled count display_state = is_some display_state
 may_take (Show showing) count display_state = may_show showing display_state
 may_take End count display_state = true
 
--- why the line that stands first is refused: it says nothing; what it says can't be taken there; or memory was wanting for it
+-- why the first line is refused: it says nothing; what it says cannot be taken there; or memory was refused, and the line says nothing that takes
+-- none
 pub data IsBad (lines : LinesView) (display_state : Option DisplayStateView) : Type 0 where
   no_entry : (line rest : List ℕ) → IsFirst lines.kept line rest → ((entry : Entry) → Says line entry → ⊥) → IsBad lines display_state
   late : (e : Entry) → Asks lines.kept e → may_take e lines.count display_state ≡ false → IsBad lines display_state
-  no_memory : (line rest : List ℕ) → IsFirst lines.kept line rest → IsBad lines display_state
+  no_memory : (line rest : List ℕ) → IsFirst lines.kept line rest → ((entry : Entry) → Says line entry → needs_memory entry ≡ true)
+      → IsBad lines display_state
 
 -- ---- what an entry makes of a terminal
 

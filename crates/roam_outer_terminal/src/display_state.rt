@@ -28,10 +28,12 @@ fn tell_shown(
         × (waiting.new ≡ waiting.old ++ texts_of said) }
 {
     match screen {
-        Shown::New(shot) => display_state.tell_screen(alloc, waiting, shot),
+        Shown::New(shot) => {
+            let _ = display_state.tell_screen(alloc, waiting, shot);
+        }
         Shown::Old(shot) => {
             if let Ok(copy) = RowShot::of(alloc, *shot) {
-                display_state.tell_screen(alloc, waiting, &copy);
+                let _ = display_state.tell_screen(alloc, waiting, &copy);
             }
         }
     }
@@ -51,9 +53,11 @@ fn tell_noted(
     let Some((_, screen)) = outer.noted() else {
         return;
     };
-    display_state.tell_look(alloc, waiting, &screen);
+    let _ = display_state.tell_look(alloc, waiting, &screen);
     match over {
-        Some(over) => display_state.tell_screen(alloc, waiting, over),
+        Some(over) => {
+            let _ = display_state.tell_screen(alloc, waiting, over);
+        }
         None => tell_shown(alloc, display_state, waiting, &screen),
     }
 }
@@ -74,7 +78,7 @@ impl<S: Duplex + Drop> Terminal<S> {
         ensures told { (before : DisplayStateView) → self.old.display_state ≡ Some before → TellsIt acknowledged before self.old self.new }
     {
         if let Some(display_state) = &mut self.display_state {
-            display_state.tell_taken(alloc, &mut self.waiting, acknowledged);
+            let _ = display_state.tell_taken(alloc, &mut self.waiting, acknowledged);
             tell_noted(
                 alloc,
                 display_state,

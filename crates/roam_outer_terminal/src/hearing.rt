@@ -254,7 +254,7 @@ impl<S: Duplex + Drop> Terminal<S> {
         if self.lines.count() != 0 || self.display_state.is_some() {
             return self.refuse_line(alloc);
         }
-        if !say(alloc, &mut self.waiting, Record::Events) {
+        if say(alloc, &mut self.waiting, Record::Events).is_err() {
             return Taking::NoMemory;
         }
         self.open_records();

@@ -167,7 +167,7 @@ fn push_refusal(alloc: Global, waiting: &mut Outbox, is_told: bool, number: u64,
         return;
     };
     if is_told {
-        say(alloc, waiting, Record::Refused(number, words.as_str()));
+        let _ = say(alloc, waiting, Record::Refused(number, words.as_str()));
     } else if let Ok(text) = format!(in alloc; "\r\nroam: line {number}: {words}\r\n") {
         let _ = waiting.push(text.as_bytes());
     }

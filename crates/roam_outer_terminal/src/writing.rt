@@ -53,7 +53,7 @@ impl<S: Duplex + Drop> Terminal<S> {
         ensures told { (self.new ≡ self.old)
             ⊎ (self.new ≡ record self.old { told = Some seconds; waiting = self.old.waiting ++ text_of (Record.Silent seconds) }) }
     {
-        if say(alloc, &mut self.waiting, Record::Silent(seconds)) {
+        if say(alloc, &mut self.waiting, Record::Silent(seconds)).is_ok() {
             self.told = Some(seconds);
         }
     }
@@ -63,7 +63,7 @@ impl<S: Duplex + Drop> Terminal<S> {
         ensures heard { (self.new ≡ self.old)
             ⊎ (self.new ≡ record self.old { told = None; waiting = self.old.waiting ++ text_of Record.Heard }) }
     {
-        if say(alloc, &mut self.waiting, Record::Heard) {
+        if say(alloc, &mut self.waiting, Record::Heard).is_ok() {
             self.told = None;
         }
     }

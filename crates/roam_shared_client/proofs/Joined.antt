@@ -7,7 +7,7 @@ use Rattle.roam_turns.specs.Calls.{DoorCall, PortCall, Tells}
 use Rattle.roam_turns.specs.Calls.DoorCall.{Came as came, Rested, Slept}
 use Rattle.roam_turns.specs.Calls.PortCall.{Asked}
 use Rattle.roam_shared_client.specs.Running.{ArriveAll, Arrives, IsFresh, IsStep, Rests, RunStep, Runs, RunsBy, TakesTurn, TakesTurns}
-use Rattle.roam_shared_client.specs.Running.Arrives.{let_go, taken_in}
+use Rattle.roam_shared_client.specs.Running.Arrives.{no_memory, taken_in}
 use Rattle.roam_shared_client.specs.Running.Rests.{sleeps, waits}
 use Rattle.roam_shared_client.specs.Running.RunStep.{Asks, Came, Took}
 use Rattle.roam_shared_client.specs.Sharing.{Rounds, Shared, most_terminals}
@@ -82,7 +82,7 @@ module _ {S : Type 0} (remaining contents : S → Option (List ℕ)) (to : Addr)
 -- one who came was taken in where there was room and memory
 pub arrived : {S : Type 0} (stream : S) (result : Result (Unit {0}) Fault) (old new : Shared S)
     → OnOk result ((t : Terminal S) × (t.stream ≡ stream) × IsFresh t × (new.all ≡ old.all ++ t ∷ []))
-    → OnOk result (length old.all < most_terminals) → OnErr result (new.all ≡ old.all) → new ≡ record old { all = new.all } → Arrives old new
+    → length old.all < most_terminals → OnErr result (new.all ≡ old.all) → new ≡ record old { all = new.all } → Arrives old new
 arrived stream (Ok u) old new added room err others =
     taken_in stream room (record {
       terminal = added.0;
@@ -90,7 +90,7 @@ arrived stream (Ok u) old new added room err others =
       fresh = added.2;
       all = others ∙ ap (λ l. record old { all = l }) added.3;
     })
-arrived stream (Err fault) old new added room err others = let_go (others ∙ ap (λ l. record old { all = l }) err)
+arrived stream (Err fault) old new added room err others = no_memory room (others ∙ ap (λ l. record old { all = l }) err)
 
 -- one more came, or one more turn was taken
 one_more : (n : ℕ) → n + 1 ≡ suc n

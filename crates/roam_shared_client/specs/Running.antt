@@ -72,10 +72,12 @@ Runs {S} remaining contents to calls calls' old new = (steps : List (RunStep S))
 abbrev pub most_asked : ℕ
 most_asked = 64
 
--- one who came at a door was taken in, where fewer than sixteen were there; or let go, and the start is as it was
+-- One that came at a door was taken in, if fewer than sixteen were there. If sixteen were there, or memory was refused, it was let go, and the client
+-- is as it was.
 pub data Arrives {S : Type 0} (old new : Shared S) : Type 0 where
   taken_in : (stream : S) → length old.all < most_terminals → Comes stream old new → Arrives old new
-  let_go : new ≡ old → Arrives old new
+  full : most_terminals ≤ length old.all → new ≡ old → Arrives old new
+  no_memory : length old.all < most_terminals → new ≡ old → Arrives old new
 
 -- so many came, one after the other, each asked for
 abbrev pub ArriveAll : {S : Type 0} → ℕ → Option (List PortCall) → Option (List PortCall) → Shared S → Shared S → Type 0

@@ -19,8 +19,8 @@ use Rattle.roam_display_state.specs.Saying.{texts_of}
 use Rattle.roam_display_state.specs.Scopes.{part_for}
 use Rattle.roam_display_state.specs.DisplayState.{DisplayStateView, Tells, TellsLook, TellsTaken}
 use Rattle.roam_display_state.specs.DisplayState.Tells.{nothing as no_screen, shown as a_screen}
-use Rattle.roam_display_state.specs.DisplayState.TellsLook.{nothing as no_look, looked}
-use Rattle.roam_display_state.specs.DisplayState.TellsTaken.{nothing as none_taken, rose}
+use Rattle.roam_display_state.specs.DisplayState.TellsLook.{unasked, no_memory as no_memory_to_look, looked}
+use Rattle.roam_display_state.specs.DisplayState.TellsTaken.{same as same_taken, no_memory as no_memory_for_taken, rose}
 use Rattle.roam_display_state.proofs.Leading.{begins, quiet_on, tells_on}
 use Rattle.roam_turns.specs.declared.outer.Noted.{Noted}
 use Rattle.roam_terminal_input.specs.declared.entries.Entry.{Entry}
@@ -133,13 +133,17 @@ record Quiet (said : List Record) (old new : DisplayStateView) : Type 0 where
   pub view : new.view ≡ old.view
   pub masks : new.masks ≡ old.masks
 
-taken_quiet : (acknowledged : ℕ) (said : List Record) (old new : DisplayStateView) → TellsTaken acknowledged said old new → Quiet said old new
-taken_quiet acknowledged said old new (none_taken none same) = record {
+unchanged_quiet : (said : List Record) (old new : DisplayStateView) → said ≡ [] → new ≡ old → Quiet said old new
+unchanged_quiet said old new none same = record {
   quiet = subst AreQuiet (sym none) tt;
   sized = ap (λ t. t.sized) same;
   view = ap (λ t. t.view) same;
   masks = ap (λ t. t.masks) same;
 }
+
+taken_quiet : (acknowledged : ℕ) (said : List Record) (old new : DisplayStateView) → TellsTaken acknowledged said old new → Quiet said old new
+taken_quiet acknowledged said old new (same_taken as_before none same) = unchanged_quiet said old new none same
+taken_quiet acknowledged said old new (no_memory_for_taken none same) = unchanged_quiet said old new none same
 taken_quiet acknowledged said old new (rose lines risen is to) = record {
   quiet = subst AreQuiet (sym is) (refl, λ told. refl, tt);
   sized = ap (λ t. t.sized) to;
@@ -148,12 +152,8 @@ taken_quiet acknowledged said old new (rose lines risen is to) = record {
 }
 
 look_quiet : (screen : Screenshot) (said : List Record) (old new : DisplayStateView) → TellsLook screen said old new → Quiet said old new
-look_quiet screen said old new (no_look none same) = record {
-  quiet = subst AreQuiet (sym none) tt;
-  sized = ap (λ t. t.sized) same;
-  view = ap (λ t. t.view) same;
-  masks = ap (λ t. t.masks) same;
-}
+look_quiet screen said old new (unasked not_asked none same) = unchanged_quiet said old new none same
+look_quiet screen said old new (no_memory_to_look none same) = unchanged_quiet said old new none same
 look_quiet screen said old new (looked looking text asked is said_is to) = record {
   quiet = subst AreQuiet (sym said_is) (refl, λ told. refl, tt);
   sized = ap (λ t. t.sized) to;

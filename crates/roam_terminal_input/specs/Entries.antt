@@ -85,3 +85,16 @@ acts_in Look = []
 acts_in LookStyled = []
 acts_in (Show showing) = []
 acts_in End = []
+
+-- reading an entry takes memory exactly if it is a line of acts or a paste
+abbrev pub needs_memory : Entry → Bool
+needs_memory (Acts acts) = true
+needs_memory (Paste acts) = true
+needs_memory Events = false
+needs_memory Repaint = false
+needs_memory Watch = false
+needs_memory (Prediction predicting) = false
+needs_memory Look = false
+needs_memory LookStyled = false
+needs_memory (Show showing) = false
+needs_memory End = false

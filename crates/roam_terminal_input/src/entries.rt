@@ -1,10 +1,10 @@
 //! What a line of an outer terminal asks for.
-ghost use Rattle.std.specs.Prelude.{◌≡◌, ◌≢◌, ◌⊎◌, ◌+◌, ◌<◌, ◌≤◌, ◌++◌, ◌∷◌, [], List, true, length, None, IfErr, IfOk, IfSome, ◌-◌, MatchResult, OnOk, OnErr, IsTrue, ◌↔◌, codes};
+ghost use Rattle.std.specs.Prelude.{◌≡◌, ◌≢◌, ◌⊎◌, ◌+◌, ◌<◌, ◌≤◌, ◌++◌, ◌∷◌, [], List, true, length, None, IfErr, IfOk, IsErrOf, IfSome, ◌-◌, MatchResult, OnOk, OnErr, IsTrue, ◌↔◌, codes};
 ghost use Rattle.std.specs.List.{All};
 ghost use Rattle.roam_acts.specs.declared.acts.Act.{Act as ActOf};
 ghost use Rattle.roam_acts.specs.Acts.{IsInRange};
 ghost use Rattle.roam_terminal_input.specs.Keys.{AreLinesOf, IsLineOf};
-ghost use Rattle.roam_terminal_input.specs.Entries.{IsNoBareWord, Says, acts_in, begins_separator, cut_of, predicting_line, is_pasted, most_cuts, parts_of};
+ghost use Rattle.roam_terminal_input.specs.Entries.{IsNoBareWord, Says, acts_in, begins_separator, cut_of, predicting_line, is_pasted, most_cuts, needs_memory, parts_of};
 ghost use Rattle.roam_terminal_input.specs.declared.entries.Entry.{Entry as EntryOf};
 ghost use Rattle.roam_terminal_input.specs.declared.entries.Predicting.{Predicting as PredictingOf};
 ghost use Rattle.roam_terminal_input.specs.declared.showings.Showing.{Showing as ShowingOf};
@@ -204,6 +204,8 @@ pub fn read_entry(alloc: Global, line: &[u8]) -> Result<Entry, Fault>
     // What is said so is read.
     ensures only { (entry : EntryOf) → Says line.now entry → MatchResult result (λ e. Says line.now e) (λ f. f ≡ Fault.OutOfMemory) }
     ensures in_range { IfOk result (λ entry. All IsInRange (acts_in entry)) }
+    // Memory is refused for acts alone.
+    ensures memory { IsErrOf result Fault.OutOfMemory → (entry : EntryOf) → Says line.now entry → needs_memory entry ≡ true }
     ensures fault { IfErr result (λ fault. (fault ≡ Fault.BadAct) ⊎ (fault ≡ Fault.OutOfMemory)) }
 {
     if let Some(entry) = read_word(line) {

@@ -4,7 +4,7 @@ use Rattle.roam_turns.specs.Calls.{Tells}
 use Rattle.roam_turns.specs.Calls.DoorCall.{Came}
 use Rattle.roam_turns.specs.Calls.PortCall.{Asked}
 use Rattle.roam_shared_client.specs.Running.{Arrives, Runs}
-use Rattle.roam_shared_client.specs.Running.Arrives.{let_go}
+use Rattle.roam_shared_client.specs.Running.Arrives.{full}
 use Rattle.roam_shared_client.specs.Running.TakesIn.{many, until_nobody}
 use Rattle.roam_shared_client.proofs.Joined.{arrived, one_more_arrival, runs_asked, runs_came, runs_none}
 use Rattle.roam_shared_client.proofs.running.take_in.Goals as goal
@@ -47,7 +47,7 @@ loop-preserved g c =
             (runs_asked remaining contents c.args.to (Came true) first before after c.args.shared.now c.loop.shared c.loop.invariant.runs
             tells);
         arrive = one_more_arrival c.loop.counter first before after c.args.shared.now c.loop.shared _ c.loop.invariant.arrive tells
-            (let_go w.shared-is);
+            (full (search rules) w.shared-is);
         others = search rules;
       }
       | else-len-ge-MOST_TERMINALS w ↦ record {
@@ -56,7 +56,7 @@ loop-preserved g c =
             c.loop.invariant.runs tells w.add.ensures.added w.add.ensures.err w.add.ensures.others);
         arrive = one_more_arrival c.loop.counter first before after c.args.shared.now c.loop.shared _ c.loop.invariant.arrive tells
             (subst (Arrives c.loop.shared) (sym w.shared-is)
-            (arrived _ w.add.result c.loop.shared w.add.new.self w.add.ensures.added w.add.ensures.room w.add.ensures.err
+            (arrived _ w.add.result c.loop.shared w.add.new.self w.add.ensures.added (search rules) w.add.ensures.err
             w.add.ensures.others));
         others = search rules;
       }
