@@ -9,7 +9,7 @@ use Rattle.roam_normalize.specs.Found.{is_plain}
 use Rattle.std.proofs.lemmas.Bool.Decides.{nat_tests}
 use Rattle.roam_normalize.specs.declared.renditions.Field.{Field}
 use Rattle.roam_normalize.specs.declared.renditions.Field.TheVariants.{Plain, Colour, LineColour, NoLineColour, Parted}
-use Rattle.roam_normalize.specs.Renditions.{count_of, field_kind, fields_length, first_field, first_kind, group_length, has_lines, has_lines_from, is_changed, is_of_lines, is_pair, may_change, most_semicolons, two_kind, whole_kind}
+use Rattle.roam_normalize.specs.Renditions.{count_of, field_kind, fields_length, first_field, first_kind, group_length, has_lines, has_lines_from, is_changed, is_of_lines, is_pair, may_change, most_semicolons, number_kind, two_kind, whole_kind, without_zeros}
 
 -- neither 58 nor 59 in any number
 abbrev NoPair : List ℕ → Type 0
@@ -49,15 +49,26 @@ parted : (t : Bool) (k : Field) → is_of_lines k ≡ false → is_of_lines (con
 parted true k h = refl
 parted false k h = h
 
+-- a number that begins some bytes
+number-kind : (n : ℕ) (bytes : List ℕ) → NoPair bytes → is_of_lines (number_kind (take n bytes)) ≡ false
+number-kind zero bytes h = refl
+number-kind (suc n) [] h = refl
+number-kind (suc zero) (a ∷ rest) h = refl
+number-kind (suc (suc n)) (a ∷ []) h = refl
+number-kind (suc (suc zero)) (a ∷ b ∷ rest) h = two-kind a b h.0
+number-kind (suc (suc (suc n))) (a ∷ b ∷ []) h = two-kind a b h.0
+number-kind (suc (suc (suc n))) (a ∷ b ∷ c ∷ rest) h = refl
+
 -- a field that begins some bytes
 whole-kind : (n : ℕ) (bytes : List ℕ) → NoPair bytes → is_of_lines (whole_kind (take n bytes)) ≡ false
 whole-kind zero bytes h = refl
 whole-kind (suc n) [] h = refl
-whole-kind (suc zero) (a ∷ rest) h = refl
-whole-kind (suc (suc n)) (a ∷ []) h = refl
-whole-kind (suc (suc zero)) (a ∷ b ∷ rest) h = two-kind a b h.0
-whole-kind (suc (suc (suc n))) (a ∷ b ∷ []) h = two-kind a b h.0
-whole-kind (suc (suc (suc n))) (a ∷ b ∷ c ∷ rest) h = refl
+whole-kind (suc n) (b ∷ rest) h = by (b == 0x30) (whole-kind n rest (no-pair-behind b rest h))
+  where
+    by : (t : Bool) → is_of_lines (whole_kind (take n rest)) ≡ false
+        → is_of_lines (number_kind (cond t (without_zeros (take n rest)) (b ∷ take n rest))) ≡ false
+    by true behind = behind
+    by false behind = number-kind (suc n) (b ∷ rest) h
 
 first-plain : (bytes : List ℕ) → NoPair bytes → is_of_lines (first_kind bytes) ≡ false
 first-plain bytes h =

@@ -35,19 +35,31 @@ two_kind a b =
     if a == 0x35 && b == 0x39 then NoLineColour else
     Plain
 
+-- a number without its leading zeros, which add nothing to its value (ECMA-48 5.4.2)
+abbrev pub without_zeros : List ℕ → List ℕ
+without_zeros [] = []
+without_zeros (b ∷ rest) = if b == 0x30 then without_zeros rest else b ∷ rest
+
+-- the same of a number without leading zeros
+abbrev pub number_kind : List ℕ → Field
+number_kind (a ∷ b ∷ []) = two_kind a b
+number_kind number = Plain
+
 -- the same of any field without a colon
 abbrev pub whole_kind : List ℕ → Field
-whole_kind (a ∷ b ∷ []) = two_kind a b
-whole_kind field = Plain
+whole_kind field = number_kind (without_zeros field)
 
 -- a field with a colon has sub-parameters
 abbrev pub field_kind : List ℕ → Field
 field_kind field = cond (nat_lt 0 (count_of 0x3A field)) Parted (whole_kind field)
 
 -- how many parameters belong together: with 5 three, with 2 five, otherwise so many
+abbrev pub number_together : ℕ → List ℕ → ℕ
+number_together otherwise (b ∷ []) = if b == 0x35 then 3 else if b == 0x32 then 5 else otherwise
+number_together otherwise number = otherwise
+
 abbrev pub together : ℕ → List ℕ → ℕ
-together otherwise (b ∷ []) = if b == 0x35 then 3 else if b == 0x32 then 5 else otherwise
-together otherwise field = otherwise
+together otherwise field = number_together otherwise (without_zeros field)
 
 -- more fields than any sequence has
 abbrev pub all_fields : ℕ
@@ -86,18 +98,26 @@ mixed_text layer parts =
     else []
 
 -- the sub-parameters of 38 or 48, of which this is the first digit: 5 and an index, or 2 and a mixture
-abbrev pub colour_text : ℕ → List ℕ → List ℕ
-colour_text layer (way ∷ colon ∷ parts) =
+abbrev pub way_text : ℕ → List ℕ → List ℕ
+way_text layer (way ∷ colon ∷ parts) =
     if not (colon == 0x3A) then [] else
     if way == 0x32 then mixed_text layer parts else
     if way == 0x35 && count_of 0x3A parts == 0 then rendition (layer ∷ 0x38 ∷ 0x3B ∷ 0x35 ∷ 0x3B ∷ with_semicolons parts) else
     []
-colour_text layer parts = []
+way_text layer parts = []
+
+-- the same, whatever zeros lead the first of them
+abbrev pub colour_text : ℕ → List ℕ → List ℕ
+colour_text layer parts = way_text layer (without_zeros parts)
+
+-- a number whose value is 0; an empty one has no value of its own
+abbrev pub is_zero : List ℕ → Bool
+is_zero [] = false
+is_zero (b ∷ rest) = length (without_zeros (b ∷ rest)) == 0
 
 -- the sub-parameter of 4: 0 is no line, others are lines of some form, all of which are shown as one
 abbrev pub line_text : List ℕ → List ℕ
-line_text (form ∷ []) = cond (form == 0x30) (rendition (0x32 ∷ 0x34 ∷ [])) (rendition (0x34 ∷ []))
-line_text form = rendition (0x34 ∷ [])
+line_text form = cond (is_zero form) (rendition (0x32 ∷ 0x34 ∷ [])) (rendition (0x34 ∷ []))
 
 -- a field with sub-parameters that begins with 38 or 48; others say nothing
 abbrev pub wide_text : ℕ → List ℕ → List ℕ
@@ -106,9 +126,13 @@ wide_text layer (eight ∷ colon ∷ parts) =
 wide_text layer parts = []
 
 -- a field with sub-parameters: of 4, 38 or 48; others say nothing
+abbrev pub number_parted_text : List ℕ → List ℕ
+number_parted_text (first ∷ second ∷ rest) =
+    cond (first == 0x34 && second == 0x3A) (line_text rest) (wide_text first (second ∷ rest))
+number_parted_text field = []
+
 abbrev pub parted_text : List ℕ → List ℕ
-parted_text (first ∷ second ∷ rest) = cond (first == 0x34 && second == 0x3A) (line_text rest) (wide_text first (second ∷ rest))
-parted_text field = []
+parted_text field = number_parted_text (without_zeros field)
 
 -- what goes out for a field and those that it takes along
 abbrev pub group_text : Field → List ℕ → List ℕ

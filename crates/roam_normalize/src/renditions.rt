@@ -1,6 +1,6 @@
 //! SGR in the form that this project's profile reads: parameters alone, sixteen at most.
 ghost use Rattle.std.specs.Prelude.{◌≡◌, ◌≤◌, ◌<◌, ◌++◌, ◌∷◌, [], length, take, drop, IfOk, OnOk};
-ghost use Rattle.roam_normalize.specs.Renditions.{after_field, colour_text, count_of, field_kind, fields_length, first_field, first_kind, group_length, group_size, group_text, has_lines, is_changed, is_of_lines, is_pair, line_text, may_change, mixed_text, next_field, parted_text, rendition, spelled_out, together, two_kind, whole_kind, wide_text, with_semicolons};
+ghost use Rattle.roam_normalize.specs.Renditions.{after_field, colour_text, count_of, field_kind, fields_length, first_field, first_kind, group_length, group_size, group_text, has_lines, is_changed, is_of_lines, is_pair, is_zero, line_text, may_change, mixed_text, next_field, parted_text, rendition, spelled_out, together, two_kind, whole_kind, wide_text, with_semicolons, without_zeros};
 
 use std::alloc::{AllocError, Global};
 
@@ -85,10 +85,21 @@ fn two_kind(first: u8, second: u8) -> Field
     }
 }
 
+// A number without its leading zeros.
+fn without_zeros(number: &[u8]) -> &[u8]
+    ensures number { result.now ≡ without_zeros number.now }
+{
+    let mut at = 0;
+    while at < number.len() && number[at] == b'0' {
+        at += 1;
+    }
+    &number[at..]
+}
+
 fn whole_kind(field: &[u8]) -> Field
     ensures kind { result ≡ whole_kind field.now }
 {
-    match field {
+    match without_zeros(field) {
         [first, second] => two_kind(*first, *second),
         _ => Field::Plain,
     }
@@ -107,7 +118,7 @@ fn field_kind(field: &[u8]) -> Field
 fn together(otherwise: usize, field: &[u8]) -> usize
     ensures together { result ≡ together otherwise field.now }
 {
-    match field {
+    match without_zeros(field) {
         [b'5'] => 3,
         [b'2'] => 5,
         _ => otherwise,
@@ -268,7 +279,7 @@ fn push_mixed(alloc: Global, out: &mut Vec<u8>, layer: u8, parts: &[u8]) -> Resu
 fn push_colour(alloc: Global, out: &mut Vec<u8>, layer: u8, parts: &[u8]) -> Result<(), AllocError>
     ensures out { OnOk result (out.new.items ≡ out.old.items ++ colour_text layer parts.now) }
 {
-    match parts {
+    match without_zeros(parts) {
         [b'2', b':', parts @ ..] => push_mixed(alloc, out, layer, parts),
         [b'5', b':', index @ ..] if count_of(b':', index) == 0 => {
             let parameters = colour_parameters(alloc, layer, b'5', index)?;
@@ -278,12 +289,20 @@ fn push_colour(alloc: Global, out: &mut Vec<u8>, layer: u8, parts: &[u8]) -> Res
     }
 }
 
+// Whether the value of a number is 0; an empty one has none of its own.
+fn is_zero(number: &[u8]) -> bool
+    ensures zero { result ≡ is_zero number.now }
+{
+    !number.is_empty() && without_zeros(number).is_empty()
+}
+
 fn push_line(out: &mut Vec<u8>, form: &[u8]) -> Result<(), AllocError>
     ensures out { OnOk result (out.new.items ≡ out.old.items ++ line_text form.now) }
 {
-    match form {
-        [b'0'] => push_rendition(out, b"24"),
-        _ => push_rendition(out, b"4"),
+    if is_zero(form) {
+        push_rendition(out, b"24")
+    } else {
+        push_rendition(out, b"4")
     }
 }
 
@@ -301,7 +320,7 @@ fn push_wide(alloc: Global, out: &mut Vec<u8>, layer: u8, parts: &[u8]) -> Resul
 fn push_parted(alloc: Global, out: &mut Vec<u8>, field: &[u8]) -> Result<(), AllocError>
     ensures out { OnOk result (out.new.items ≡ out.old.items ++ parted_text field.now) }
 {
-    match field {
+    match without_zeros(field) {
         [b'4', b':', form @ ..] => push_line(out, form),
         [layer, parts @ ..] => push_wide(alloc, out, *layer, parts),
         [] => Ok(()),

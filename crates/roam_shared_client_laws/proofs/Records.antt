@@ -18,7 +18,7 @@ use Rattle.roam_display_state.specs.Leading.{AreQuiet, IsSaid}
 use Rattle.roam_display_state.specs.Saying.{texts_of}
 use Rattle.roam_display_state.specs.Scopes.{part_for}
 use Rattle.roam_display_state.specs.DisplayState.{DisplayStateView, Tells, TellsLook, TellsTaken}
-use Rattle.roam_display_state.specs.DisplayState.Tells.{nothing as no_screen, shown as a_screen}
+use Rattle.roam_display_state.specs.DisplayState.Tells.{current as same_screen, bad_size as no_size, no_memory as no_memory_for_screen, shown as a_screen}
 use Rattle.roam_display_state.specs.DisplayState.TellsLook.{unasked, no_memory as no_memory_to_look, looked}
 use Rattle.roam_display_state.specs.DisplayState.TellsTaken.{same as same_taken, no_memory as no_memory_for_taken, rose}
 use Rattle.roam_display_state.proofs.Leading.{begins, quiet_on, tells_on}
@@ -181,8 +181,10 @@ follows_screen screens screen said more old new laid h tells = record {
 }
   where
     by : Tells screen more old new → IsPartOf screens new.masks new.view
-    by (no_screen none same) = subst (λ t. IsPartOf screens t.masks t.view) (sym same) h.shows
-    by (a_screen part view text part_is view_is leads still is to) =
+    by (same_screen part part_is shown_is none same) = subst (λ t. IsPartOf screens t.masks t.view) (sym same) h.shows
+    by (no_size part part_is none_is none same) = subst (λ t. IsPartOf screens t.masks t.view) (sym same) h.shows
+    by (no_memory_for_screen none same) = subst (λ t. IsPartOf screens t.masks t.view) (sym same) h.shows
+    by (a_screen part view text part_is view_is is_new leads still is to) =
         subst (λ t. IsPartOf screens t.masks t.view) (sym to) (part, screen, laid, view_is)
 
 laid_over_noted : (screens : List Screenshot) (now : ℕ) (predicting : Option OverlayOf) (noted : Noted) (over : Option Screenshot)
