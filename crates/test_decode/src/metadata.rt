@@ -6,7 +6,7 @@ use std::fmt::Write;
 
 /// Rows of a heading, bytes and what is said, with an empty line between them. A character of the bytes is the byte of its code, and `␊`
 /// LF. What is said is told where it isn't what it was at first: `buttons`, `drags` or `motion`, `sgr`, `focus`, `paste`, `other` for the
-/// other screen, `keys N`, `shape N`, `bells N`, `title N TEXT`, or `title N taken back` where none stands any more, `clip N TEXT`,
+/// other screen, `keypad` for its application codes, `keys N`, `shape N`, `bells N`, `title N TEXT`, or `title N taken back` where none stands any more, `clip N TEXT`,
 /// `asked N` and the last sixteen questions.
 const ROWS: &str = "\
 nothing is said by text and renditions
@@ -31,6 +31,26 @@ sgr paste
 
 a private mode that isn't known, and a mode that isn't private
 \x1B[?9999h\x1B[1000h\x1B[1002;1006h
+-
+
+the application codes of the keypad, among text and strings
+a\x1B=b\x1B]0;c\x07
+keypad title 1 c
+
+DECKPNM, DECSTR and RIS make the keypad numeric
+\x1B=\x1B>
+-
+
+the soft reset leaves the other modes
+\x1B[?2004h\x1B=\x1B[!p
+paste
+
+the full reset
+\x1B=\x1Bc
+-
+
+an escape sequence with intermediate bytes, and characters alone, are another thing
+\x1B(=\x1B#=\x1B[=c=\x1B[?=
 -
 
 modifyOtherKeys
@@ -181,6 +201,7 @@ fn push_modes(text: &mut String, settings: Settings) -> Result<(), AllocError> {
         (settings.focus_reports, "focus "),
         (settings.bracketed_paste, "paste "),
         (settings.alternate_screen, "other "),
+        (settings.application_keypad, "keypad "),
     ] {
         text.push_str(if is { name } else { "" })?;
     }

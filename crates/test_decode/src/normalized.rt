@@ -59,6 +59,10 @@ seventeen are written one by one
 \x1B[1;1;1;1;1;1;1;1;1;1;1;1;1;38;5;4;7m
 \x1B[1m\x1B[1m\x1B[1m\x1B[1m\x1B[1m\x1B[1m\x1B[1m\x1B[1m\x1B[1m\x1B[1m\x1B[1m\x1B[1m\x1B[1m\x1B[38;5;4m\x1B[7m
 
+zeros that lead a number change nothing
+\x1B[04:3;038;05;1;0058;5;2;048:05:7;4:00m
+\x1B[4m\x1B[038;05;1m\x1B[48;5;7m\x1B[24m
+
 the cursor is saved and restored
 \x1B[s\x1B[1;2s\x1B[u\x1B[?1u
 \x1B7\x1B[1;2s\x1B8\x1B[?1u
