@@ -285,7 +285,12 @@ impl DisplayState {
     /// # Errors
     ///
     /// `BadSize`: no screen has the size of the wanted part. `OutOfMemory`: memory was refused. Nothing was added and nothing changed.
-    pub fn tell_screen(&mut self, alloc: Global, waiting: &mut Outbox, shot: &RowShot) -> Result<(), Fault>
+    pub fn tell_screen(
+        &mut self,
+        alloc: Global,
+        waiting: &mut Outbox,
+        shot: &RowShot,
+    ) -> Result<(), Fault>
         ensures tells { (said : List RecordOf) × (told : Tells shot.now said self.old self.new)
             × (waiting.new ≡ waiting.old ++ texts_of said) × (result ≡ answer_of_screen told) }
     {
@@ -302,7 +307,12 @@ impl DisplayState {
     /// # Errors
     ///
     /// `OutOfMemory`: nothing was added, and the screen is still asked for.
-    pub fn tell_look<S: Seen>(&mut self, alloc: Global, waiting: &mut Outbox, shot: &S) -> Result<(), Fault>
+    pub fn tell_look<S: Seen>(
+        &mut self,
+        alloc: Global,
+        waiting: &mut Outbox,
+        shot: &S,
+    ) -> Result<(), Fault>
         ensures tells { (said : List RecordOf) × (told : TellsLook (S.screen shot.now) said self.old self.new)
             × (waiting.new ≡ waiting.old ++ texts_of said) × (result ≡ answer_of_look told) }
     {
@@ -321,7 +331,12 @@ impl DisplayState {
     /// # Errors
     ///
     /// `OutOfMemory`: nothing was added, and the same number may be given again.
-    pub fn tell_taken(&mut self, alloc: Global, waiting: &mut Outbox, acknowledged: u64) -> Result<(), Fault>
+    pub fn tell_taken(
+        &mut self,
+        alloc: Global,
+        waiting: &mut Outbox,
+        acknowledged: u64,
+    ) -> Result<(), Fault>
         ensures tells { (said : List RecordOf) × (told : TellsTaken acknowledged said self.old self.new)
             × (waiting.new ≡ waiting.old ++ texts_of said) × (result ≡ answer_of_taken told) }
     {

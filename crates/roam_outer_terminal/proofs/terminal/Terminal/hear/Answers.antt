@@ -58,7 +58,7 @@ returns-in-Err-clause-hears g c =
     let line = c.in-Some.line.now in
     let why =
     line_bad mid.lines mid.display_state line (drop (length line + 1) mid.lines.kept) c.in-Err.fault (search rules) (search rules) (search rules)
-        (search rules) in (
+    (search rules) in (
       None,
       record {
         read = mid;
