@@ -42,11 +42,12 @@ import compileall
 import os
 import pathlib
 import shutil
+import subprocess
 import sys
 
 OWN = ("lib/roam/files", "lib/roam/install.sh")
 does, source, prefix = sys.argv[1], pathlib.Path(sys.argv[2]), pathlib.Path(sys.argv[3])
-modules = prefix / "lib/roam/roam_live"
+tools = prefix / "lib/roam"
 
 
 def paths_in(path):
@@ -87,7 +88,7 @@ def drop(paths):
 
 def drop_compiled():
     """Removes what Python compiled."""
-    for folder in list(modules.rglob("__pycache__")):
+    for folder in list(tools.rglob("__pycache__")):
         shutil.rmtree(folder)
 
 
@@ -105,7 +106,9 @@ else:
     if gone:
         drop_compiled()
     drop(gone)
-    compileall.compile_dir(modules, quiet=1)
+    compileall.compile_dir(tools / "roam_live", quiet=1)
+    compileall.compile_file(tools / "roam_bundle.py", quiet=1)
+    subprocess.run([sys.executable, "-S", str(tools / "roam_bundle.py")], check=False)
 END
 
 if [ $does = remove ]; then

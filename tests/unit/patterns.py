@@ -3,11 +3,12 @@ so is one of the table that isn't there any more: nothing in live/ matches or se
 is whatever a pane's program wrote.
 """
 import ast
+import pathlib
 import re
 
 from roam_live.common.process import TOOLS
 
-LIVE = TOOLS
+LIVE = pathlib.Path(TOOLS)
 
 # What is read, or written, in words.
 TYPED = "reads what a person types"
@@ -30,13 +31,12 @@ BEGIN = "the reset with which the start itself begins a record `anew`; another c
 
 # Each use: the file, the name that it is assigned to or the function that it stands in, and whether it is of `re` or of an escape.
 KNOWN = {
+    ("roam_live/common/patterns.py", "LazyPattern.__getattr__", "re"): "compiles the pattern of another module, which is listed there",
     ("roam_live/frontend/outer_terminal.py", "", "ESC"): WRITES,
     ("roam_live/frontend/outer_terminal.py", "shaped", "ESC"): WRITES,
     ("roam_live/frontend/outer_terminal.py", "titled", "ESC"): WRITES,
     ("roam_live/frontend/line_editor.py", "LEAVES", "ESC"): TYPED,
     ("roam_live/session/survey.py", "CLIENT_COUNT", "re"): LINES,
-    ("roam_live/protocol/host_client.py", "KEYPAD", "re"): LINES,
-    ("roam_live/protocol/host_client.py", "NOTICE", "re"): LINES,
     ("roam_live/input/keys.py", "ESCAPE", "ESC"): TYPED,
     ("roam_live/frontend/modes.py", "SCROLL_ENDS", "ESC"): TYPED,
     ("roam_live/protocol/screen_cells.py", "parted", "ESC"): CELLS,
@@ -49,7 +49,7 @@ KNOWN = {
     ("roam_live/frontend/copymode/rows.py", "RowReader.read", "ESC"): LENT,
     ("roam_live/frontend/copymode/render.py", "CopyScreen.lines", "ESC"): WRITES,
     ("roam_live/protocol/colours.py", "ANSWER", "re"): COLOURS,
-    ("roam_live/protocol/colours.py", "ANSWER", "ESC"): COLOURS,
+    ("roam_live/protocol/colours.py", "FORM", "ESC"): COLOURS,
     ("roam_live/protocol/colours.py", "ASKED", "ESC"): WRITES,
     ("roam_live/protocol/colours.py", "BEGINS", "ESC"): COLOURS,
     ("roam_live/protocol/colours.py", "BEGUN", "re"): COLOURS,
@@ -58,7 +58,7 @@ KNOWN = {
     ("roam_live/frontend/last_row.py", "LastRow.put", "ESC"): WRITES,
     ("roam_live/frontend/display.py", "Display.take_painting", "RESET"): BEGIN,
     **{("roam_live/input/extended_keys.py", name, "ESC"): TYPED for name in ("ANSWER", "BEGIN", "FORM")},
-    **{("roam_live/input/extended_keys.py", name, "re"): TYPED for name in ("answered", "extended_key")},
+    **{("roam_live/input/extended_keys.py", name, "re"): TYPED for name in ("ANSWER", "FORM")},
     **{("roam_live/input/extended_keys.py", name, "ESC"): KEY_NAMES for name in ("BACK_TAB", "CONTROLLED", "ExtendedKey.form")},
     ("roam_live/input/extended_keys.py", "", "ESC"): WRITES,
     ("roam_live/input/extended_keys.py", "given_back", "ESC"): WRITES,
@@ -71,23 +71,23 @@ KNOWN = {
     ("roam_live/input/key_names.py", "DIGITS", "ESC"): KEY_NAMES,
     ("roam_live/input/key_names.py", "text_of", "ESC"): KEY_NAMES,
     ("roam_live/input/keys.py", "", "ESC"): "reads what a person types, and is typed round a paste",
-    ("roam_live/input/keys.py", "Keys.typed", "re"): TYPED,
+    ("roam_live/input/keys.py", "BEGUN", "re"): TYPED,
     ("roam_live/input/keys.py", "BEGUN", "ESC"): TYPED,
     ("roam_live/input/keys.py", "Keys.typed", "ESC"): TYPED,
     ("roam_live/input/keys.py", "SPELLINGS", "ESC"): TYPED,
     ("roam_live/input/keys.py", "key_of", "ESC"): KEY_NAMES,
-    ("roam_live/input/keys.py", "keys_in", "re"): TYPED,
+    ("roam_live/input/keys.py", "WHOLE", "re"): TYPED,
     ("roam_live/input/keys.py", "WHOLE", "ESC"): TYPED,
     ("roam_live/input/mouse_reports.py", "ASKED", "ESC"): WRITES,
     ("roam_live/input/mouse_reports.py", "BEGIN", "ESC"): TYPED,
     ("roam_live/input/mouse_reports.py", "OFF", "ESC"): WRITES,
     ("roam_live/input/mouse_reports.py", "OLD_BEGIN", "ESC"): "begins what a pane's program is sent, and reads nothing",
-    ("roam_live/input/mouse_reports.py", "report_of", "re"): TYPED,
+    ("roam_live/input/mouse_reports.py", "REPORT", "re"): TYPED,
     ("roam_live/input/mouse_reports.py", "REPORT", "ESC"): TYPED,
     ("roam_live/frontend/popup.py", "", "ESC"): WRITES,
     ("roam_live/frontend/popup.py", "Popup.laid", "ESC"): WRITES,
     ("roam_live/frontend/popup.py", "put_at", "ESC"): WRITES,
-    ("roam_live/protocol/panes.py", "TOLD", "re"): LINES,
+    ("roam_live/protocol/panes.py", "CLIP_TEXT", "re"): LINES,
     ("roam_live/protocol/queries.py", "", "ESC"): ANSWERS,
     ("roam_live/protocol/queries.py", "NAMED", "ESC"): ANSWERS,
     ("roam_live/protocol/queries.py", "PaneQuery.answer", "ESC"): ANSWERS,
@@ -96,7 +96,6 @@ KNOWN = {
     ("roam_live/cli/ssh.py", "host_of", "re"): WORDS,
     ("roam_live/cli/ssh.py", "near_session", "re"): NAMES,
     ("roam_live/cli/send.py", "demand_acts", "re"): WORDS,
-    ("roam_live/session/names.py", "NAME", "re"): NAMES,
     ("roam_live/session/names.py", "NEAR_NAME", "re"): NAMES,
     **{("roam_live/config/formats.py", name, "re"): SETTINGS for name in ("HEXADECIMAL", "NUMBERED", "CHUNK", "restyled")},
     ("roam_live/config/parser.py", "ESCAPES", "ESC"): "is what an escape of a person's settings file stands for, and reads nothing",
@@ -128,16 +127,13 @@ KNOWN = {
     ("roam_live/protocol/window_lines.py", "NAME", "re"): LINES,
     ("roam_live/protocol/window_lines.py", "OPEN", "re"): LINES,
     ("roam_live/protocol/window_lines.py", "SHUT", "re"): LINES,
-    ("roam_live/session/names.py", "NUMBER", "re"): NAMES,
     ("roam_live/host/window.py", "", "ESC"): "is typed where the focus comes and goes, and reads nothing",
-    ("roam_live/frontend/windows.py", "WindowWishes.take", "re"): LINES,
-    ("roam_live/frontend/windows_client.py", "WindowsState.take", "re"): LINES,
     ("show_client", "", "ESC"): WRITES,
 }
 
 # How a shell script spells an escape; and what a module has in which there may be a use at all.
 SPELLED = re.compile(r"\\033|\\x1b|\\e\[|\$'\\E", re.IGNORECASE)
-MAY_USE = re.compile(r"\b(import|from) re\b|, re\b|RESET|\\(0?33|x1b|u001b|U0000001b|N\{)|\x1b", re.IGNORECASE)
+MAY_USE = re.compile(r"\b(import|from) re\b|LazyPattern|, re\b|RESET|\\(0?33|x1b|u001b|U0000001b|N\{)|\x1b", re.IGNORECASE)
 
 
 class Uses(ast.NodeVisitor):
@@ -182,6 +178,11 @@ class Uses(ast.NodeVisitor):
             self.use("re")
         if node.attr == "RESET":
             self.use("RESET")
+        self.generic_visit(node)
+
+    def visit_Call(self, node):
+        if isinstance(node.func, ast.Name) and node.func.id == "LazyPattern":
+            self.use("re")
         self.generic_visit(node)
 
     def visit_ImportFrom(self, node):

@@ -21,8 +21,6 @@ class Build(Case):
         self.folder = self.made_folder()
         self.patch_of(build_info, "INSTALLED", self.folder / "build_info")
         self.patch_of(build_info, "CLONE", self.folder)
-        version.cache_clear()
-        self.addCleanup(version.cache_clear)
 
     def test_installed(self):
         """The file says all; no program is asked."""

@@ -12,6 +12,7 @@ from roam_live.common import (errors, event_loop, files as common_files, io, pro
                               unix_socket)
 from roam_live.common.errors import Fault
 from roam_live.common.event_loop import Loop
+from roam_live.common.file_path import FilePath
 from roam_live.config import environment
 from roam_live.protocol import datagram_stream, panes_client, server_address
 from roam_live.protocol.server_address import Home
@@ -232,22 +233,22 @@ class Notes(Case):
         self.assertFalse(front_end_lock.has_front_ends(self.folder))
         self.patch_of(errors, "logs", [])
         (self.folder / "log").touch()
-        with front_end_lock.locked_session(self.folder):
-            with front_end_lock.locked_session(self.folder):
+        with front_end_lock.FrontEndLock(self.folder):
+            with front_end_lock.FrontEndLock(self.folder):
                 self.assertTrue(front_end_lock.has_front_ends(self.folder))
             self.assertTrue(front_end_lock.has_front_ends(self.folder))
-            self.assertEqual(errors.logs, [self.folder / "log"])
+            self.assertEqual(errors.logs, [str(self.folder / "log")])
         self.assertFalse(front_end_lock.has_front_ends(self.folder))
         self.assertEqual((self.folder / "front_ends").stat().st_mode & 0o777, 0o600)
 
     def test_none(self):
         """Without a folder nothing is kept; a lock that can't be had is said, and one that can't be asked may be held."""
-        with front_end_lock.locked_session(None):
+        with front_end_lock.FrontEndLock(None):
             pass
-        with self.assertRaisesRegex(Fault, "/none is no folder$"), front_end_lock.locked_session(self.folder / "none"):
+        with self.assertRaisesRegex(Fault, "/none is no folder$"), front_end_lock.FrontEndLock(self.folder / "none"):
             pass
         (self.folder / "front_ends").symlink_to("elsewhere")
-        with front_end_lock.locked_session(self.folder):
+        with front_end_lock.FrontEndLock(self.folder):
             self.assertIn("front_ends cannot be locked: ", self.said.getvalue())
         self.assertTrue(front_end_lock.has_front_ends(self.folder))
 
@@ -308,7 +309,7 @@ class Ends(Case):
     def run_with(self, main):
         """The status with which a tool ends, or its line."""
         self.words("/x/tool")
-        with mock.patch("signal.signal"), mock.patch.dict(os.environ), self.assertRaises(SystemExit) as way:
+        with mock.patch("_signal.signal"), mock.patch.dict(os.environ), self.assertRaises(SystemExit) as way:
             errors.run_tool(main)
         return way.exception.code
 
@@ -470,8 +471,8 @@ class Running(Case):
                 raise FileNotFoundError(2, "none")
             return text
 
-        self.patch_of(pathlib.Path, "read_text", read)
-        self.patch_of(pathlib.Path, "read_bytes", lambda path: (lambda text: text.encode() if isinstance(text, str) else text)(read(path)))
+        self.patch_of(FilePath, "read_text", read)
+        self.patch_of(FilePath, "read_bytes", lambda path: (lambda text: text.encode() if isinstance(text, str) else text)(read(path)))
 
     def test_busy(self):
         """The panes in which something else than a shell has the terminal, by what the pty host started."""

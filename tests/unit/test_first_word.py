@@ -4,7 +4,8 @@ import shutil
 import subprocess
 import unittest
 
-from aids import Case, loaded
+from aids import Case
+from roam_live.cli.words import WORDS
 from roam_live.common.process import TOOLS
 
 PROGRAM = "#!/bin/sh\necho program \"$@\"\n[ $# != 0 ] || exit 2\n"
@@ -70,7 +71,7 @@ class FirstWord(Case):
 
     def test_words_of_mux(self):
         """A word of mux is refused with what was meant, but for those that the program has with options."""
-        for word in loaded("mux").WORDS:
+        for word in WORDS:
             if word not in ("attach", "help", "far"):
                 self.assertEqual(self.says(word, "work"), (2, "", f"roam: sessions by name are those of mux: `roam mux {word}`\n"))
         self.assertEqual(self.says("attach", "work"), (2, "", "roam: sessions by name are those of mux: `roam mux attach work`\n"))

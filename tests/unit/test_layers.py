@@ -11,7 +11,7 @@ import re
 from aids import Case
 from roam_live.common.process import TOOLS
 
-PACKAGE = TOOLS / "roam_live"
+PACKAGE = pathlib.Path(TOOLS, "roam_live")
 
 # From the lowest layer to the highest. Packages on the same line do not import each other.
 LAYERS = (("common",), ("protocol",), ("input", "session"), ("config",), ("frontend", "host", "relay"), ("cli",))

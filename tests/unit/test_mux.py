@@ -1,5 +1,6 @@
 """What the words of mux do, and how they are read."""
 import argparse
+import importlib
 import io
 import os
 import pathlib
@@ -7,8 +8,8 @@ import re
 import types
 from unittest import mock
 
-from aids import Case, loaded
-from roam_live.cli import capture, cmd, paste, scrollback, send, ssh, targets, windows
+from aids import Case
+from roam_live.cli import attaching, capture, cmd, ending, mux, paste, scrollback, send, ssh, targets, windows
 from roam_live.cli.args import TMUX_WORDS
 from roam_live.common.errors import Fault
 from roam_live.common.process import TOOLS
@@ -23,7 +24,6 @@ from roam_live.session.folder import SessionFolder
 from roam_live.session.local import LocalSession, Window
 from roam_live.session.remote import RemoteSession
 
-mux = loaded("mux")
 PAGE = pathlib.Path(__file__).resolve().parents[2] / "docs/man/roam-mux.1"
 
 
@@ -42,7 +42,8 @@ class Mux(Case):
         self.is_terminal = True
         self.patch_of(mux.os, "isatty", lambda end: self.is_terminal)
         # What others left is no matter either.
-        self.sweeps = self.patch_of(mux, "sweep")
+        self.sweeps = self.patch_of(attaching, "sweep")
+        self.patch_of(ending, "sweep", self.sweeps)
         self.runs, self.done = set(), []
         self.patch_of(LocalSession, "spawn_host", self.does("spawn_host"))
         for name in ("launch", "demand_client", "demand_host", "demand_ready", "note_found", "kill", "end_all",
@@ -374,9 +375,9 @@ class Starts(Mux):
     def test_started(self):
         """Whether it ran before is told; what is left of one that doesn't run goes."""
         session = Window(self.base / "main")
-        self.assertEqual((mux.launched(session), self.done), (False, [("kill", "main")]))
+        self.assertEqual((attaching.launched(session), self.done), (False, [("kill", "main")]))
         self.runs.add("main")
-        self.assertTrue(mux.launched(session))
+        self.assertTrue(attaching.launched(session))
 
 
 class Listed(Mux):
@@ -543,14 +544,13 @@ class Words(Mux):
     def test_plain(self):
         """What argparse would make of words with a name at most."""
         for word, rest in (("attach", []), ("attach", ["x"]), ("new", ["x"]), ("ls", []), ("watch", ["x"]), ("kill", ["x"]),
-                           ("capture", ["x"]), ("env", ["x"]), ("far", ["x"]), ("help", []), ("help", ["ls"]), ("detach", [])):
+                           ("capture", ["x"]), ("env", ["x"]), ("far", ["x"]), ("help", []), ("help", ["ls"]), ("detach", []),
+                           ("send", ["a", "b"]), ("send", ["a", "b", "-l"]), ("send", ["a"]), ("new", []), ("new", ["a", "top", "-d"]),
+                           ("cmd", ["a", "split-window", "-h"])):
             plain = mux.plain_words(word, rest)
             parsed = vars(mux.parser_of(word).parse_args(rest))
-            if plain is not None:
-                self.assertEqual(vars(plain), parsed, (word, rest))
-            else:
-                self.assertEqual(word, "new")
-        for word, rest in (("attach", ["-x"]), ("attach", ["a", "b"]), ("watch", []), ("send", ["a", "b"]), ("ssh", ["a"]),
+            self.assertEqual(vars(plain), parsed, (word, rest))
+        for word, rest in (("attach", ["-x"]), ("attach", ["a", "b"]), ("watch", []), ("send", ["-l", "a", "b"]), ("send", []), ("ssh", ["a"]),
                            ("kill", ["-f", "x"])):
             self.assertIsNone(mux.plain_words(word, rest), (word, rest))
 
@@ -637,8 +637,8 @@ class Words(Mux):
 
     def test_variables(self):
         """Each variable that stands in live/ is listed, and each that is listed stands there otherwise too."""
-        owner = TOOLS / "roam_live/config/environment.py"
-        files = [path for path in TOOLS.rglob("*") if path.is_file() and path.suffix != ".pyc" and path != owner]
+        owner = pathlib.Path(TOOLS) / "roam_live/config/environment.py"
+        files = [path for path in pathlib.Path(TOOLS).rglob("*") if path.is_file() and "__pycache__" not in path.parts and path != owner]
         found = {name for path in files for name in re.findall(r"\bROAM_[A-Z]+\b", path.read_text(encoding="utf-8", errors="replace"))}
         self.assertEqual(found, {*config_environment.VARIABLES, *config_environment.INTERNAL_VARIABLES})
 
@@ -661,3 +661,10 @@ class Words(Mux):
         self.assertEqual((asked.options, asked.far, asked.ssh), (["-p", "22"], "f", "ssh"))
         self.assertEqual((asked.host, asked.name, asked.predict), ("there", "main", None))
         self.assertEqual(mux.asked_by("send", ["x", "a", "b"]).words, ["a", "b"])
+        self.assertEqual(mux.asked_by("send", ["-l", "x", "--", "b"]).words, ["--", "b"])
+
+    def test_functions(self):
+        """What each word does is there."""
+        for name, word in mux.WORDS.items():
+            module, _, function = word.function.partition(".")
+            self.assertTrue(callable(getattr(importlib.import_module(f"roam_live.cli.{module}"), function)), name)

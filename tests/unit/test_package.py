@@ -12,7 +12,7 @@ import unittest
 from aids import Case
 from roam_live.common.process import TOOLS
 
-TOP = TOOLS.parent
+TOP = pathlib.Path(TOOLS.parent)
 PACKAGE, NEEDS, VERSION = (str(TOP / "tools" / name) for name in ("package", "needs", "version"))
 
 # A program that is there in any case stands for roam's.

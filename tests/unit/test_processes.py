@@ -180,22 +180,17 @@ class Bases(Case):
 
     def setUp(self):
         self.folder, self.said = self.made_folder(), self.heard()
-        self.path = self.patch_of(session_names.pathlib, "Path", side_effect=self.path_of)
-        session_names.base.cache_clear()
-        self.addCleanup(session_names.base.cache_clear)
-
-    def path_of(self, *words):
-        """A path, with the folder here in place of /tmp."""
-        return pathlib.PosixPath(*(str(self.folder) if word == "/tmp" else word for word in words))
+        self.patch_of(session_names, "TMP", str(self.folder))
+        self.patch_of(session_names, "bases", [])
 
     def test_runtime(self):
         self.environment(XDG_RUNTIME_DIR=str(self.folder))
-        self.assertEqual(session_names.base(), self.folder / "roam")
+        self.assertEqual(session_names.base(), str(self.folder / "roam"))
         self.assertEqual((self.folder / "roam").stat().st_mode & 0o777, 0o700)
 
     def test_tmp(self):
         self.environment(XDG_RUNTIME_DIR=None)
-        self.assertEqual(session_names.base(), self.folder / f"roam-{os.getuid()}")
+        self.assertEqual(session_names.base(), str(self.folder / f"roam-{os.getuid()}"))
         self.assertEqual(self.said.getvalue(), "")
 
     def test_not_own(self):
@@ -209,11 +204,11 @@ class Bases(Case):
         self.environment(XDG_RUNTIME_DIR=str(self.folder))
         for mode in (0o777, 0o1777, 0o770, 0o702):
             self.folder.chmod(mode)
-            session_names.base.cache_clear()
+            session_names.bases.clear()
             with self.assertRaisesRegex(Fault, "^XDG_RUNTIME_DIR is .*, which others may write"):
                 session_names.base()
         self.folder.chmod(0o755)
-        self.assertEqual(session_names.base(), self.folder / "roam")
+        self.assertEqual(session_names.base(), str(self.folder / "roam"))
 
     def test_open(self):
         """A folder that others may enter, a link and what is no folder are refused in a line that says which it has to be."""
@@ -221,7 +216,7 @@ class Bases(Case):
         there = self.folder / f"roam-{os.getuid()}"
         for made in (lambda: (there.mkdir(), there.chmod(0o750)), lambda: there.symlink_to(self.folder), lambda: there.touch(),
                      lambda: os.mkfifo(there), lambda: self.listening(there), lambda: there.symlink_to(self.folder / "none")):
-            session_names.base.cache_clear()
+            session_names.bases.clear()
             made()
             with self.assertRaisesRegex(Fault, "has to be a folder that you own and nobody else may enter$"):
                 session_names.base()
@@ -391,7 +386,7 @@ class Spawned(Based):
     def test_is_scrollback_process(self):
         """A filter is known by its words."""
         texts = {"5": b"/x/roam\0rows\0--normalize\0", "6": b"/x/roam\0serve\0rows\0", "7": b"vi\0rows\0", "8": b""}
-        self.patch_of(processes.pathlib, "Path", side_effect=lambda path: mock.Mock(read_bytes=lambda: texts[path.split("/")[2]]))
+        self.patch_of(processes, "FilePath", side_effect=lambda path: mock.Mock(read_bytes=lambda: texts[path.split("/")[2]]))
         self.assertEqual([processes.is_scrollback_process(int(number)) for number in texts], [True, False, False, False])
 
     def test_lock(self):
@@ -437,7 +432,7 @@ class Spawned(Based):
     def test_front(self):
         """What may ask is in front of the terminal while it does; where there is none that is no fault."""
         opens, sets = self.patch("os.open", return_value=55), self.patch("os.tcsetpgrp")
-        closes, handles = self.patch("os.close"), self.patch("signal.signal", return_value="before")
+        closes, handles = self.patch("os.close"), self.patch("_signal.signal", return_value="before")
         remote.take_front(9)
         self.assertEqual((opens.call_args[0][0], sets.call_args[0], closes.call_args[0]), ("/dev/tty", (55, 9), (55,)))
         self.assertEqual(handles.call_args_list, [mock.call(signal.SIGTTOU, signal.SIG_IGN), mock.call(signal.SIGTTOU, "before")])
@@ -453,7 +448,7 @@ class Spawned(Based):
         """A relay that answers stays; its words tell where it logs, and after which time alone it ends."""
         near = RemoteSession(self.base / "ssh:there:main", "main")
         near.folder.mkdir()
-        (near.folder / "ended").touch()
+        (self.base / "ssh:there:main/ended").touch()
         with mock.patch.object(remote, "take_front") as takes, mock.patch.object(RemoteSession, "spawned") as spawns:
             spawns.return_value.stdout.readline.return_value = b"port - session abc\n"
             self.assertEqual(near.launch_relay(["ssh", "there"]), 0)
@@ -480,7 +475,7 @@ class Ports(Case):
         folder = self.made_folder()
         other = PortSession(Home(port=9, session="5e55"), str(folder))
         self.addCleanup(other.close)
-        self.assertEqual((other.folder, other.name), (folder, "at port 9"))
+        self.assertEqual((other.folder, other.name), (str(folder), "at port 9"))
 
     def test_stopped(self):
         """A client that was stopped is ended by force, and isn't waited for without end."""

@@ -35,7 +35,7 @@ class Answered(Case):
     def test_frames(self):
         """Whether a server holds frames together is told by its words, and not known where these can't be read."""
         folder = self.made_folder()
-        self.patch("roam_live.protocol.queries.pathlib.Path", side_effect=lambda path: folder / path.split("/")[2])
+        self.patch("roam_live.protocol.queries.FilePath", side_effect=lambda path: folder / path.split("/")[2])
         for process, words, wanted in ((7, b"roam\0serve\0--normalize\0--dir\0D\0", True),
                                        (8, b"roam\0serve\0--dir\0--as-meanti\0", False)):
             (folder / str(process)).write_bytes(words)

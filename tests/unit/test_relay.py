@@ -809,7 +809,7 @@ class Fars(Ends):
         self.patch_of(far, "opened_process", return_value=self.pipe()[0])
         watch = self.patch_of(far, "HostWatchdog")
         self.far = self.far_end(server=os.getpid())
-        self.assertEqual(self.far.place.folder, self.folder)
+        self.assertEqual(self.far.place.folder, str(self.folder))
         watch.assert_called_once_with(self.far.place, self.far.loop)
 
     def test_port(self):

@@ -1,6 +1,4 @@
 """A session as a front end needs it, by each way to reach one: what isn't known of it is None, and a person is asked then."""
-import importlib.machinery
-import importlib.util
 import json
 import os
 import pathlib
@@ -12,6 +10,7 @@ from unittest import mock
 
 from aids import comes
 from modes_played import NoWindows
+from roam_live.cli import ending
 from roam_live.common.event_loop import Loop
 from roam_live.common.process import TOOLS
 from roam_live.frontend import display
@@ -28,10 +27,6 @@ from roam_live.session.local import Window
 from roam_live.session.port_session import PortSession
 from roam_live.session.remote import RemoteSession
 from test_display import PlayedHost, PlayedPanes
-
-loader = importlib.machinery.SourceFileLoader("mux", str(TOOLS / "mux"))
-mux = importlib.util.module_from_spec(importlib.util.spec_from_loader("mux", loader))
-loader.exec_module(mux)
 
 # A process that ended: no process has begun at this moment.
 ENDED = [1, 1]
@@ -96,7 +91,7 @@ class Busy(Folder):
         """The system may tell nothing of the programs, or not in which pane one is."""
         self.assertIsNone(busy_panes(1 << 30))
         self.child(ROAM_PANE=f"{self.folder}:2")
-        with mock.patch("pathlib.Path.read_bytes", side_effect=PermissionError):
+        with mock.patch("roam_live.common.file_path.FilePath.read_bytes", side_effect=PermissionError):
             self.assertIsNone(busy_panes(os.getpid()))
 
     def test_no_pane_yet(self):
@@ -141,8 +136,8 @@ class Kill(Folder):
         session = self.by_hand()
         for busy, told in (({}, ""), ({2: "vi", 1: "less"}, "less in pane 1 and vi in pane 2"), (None, "programs that aren't known")):
             with mock.patch.object(session, "busy", lambda busy=busy: busy):
-                self.assertEqual(mux.lost_with(session), told)
-        self.assertEqual(mux.lost_with(RemoteSession(self.folder, "main")), "")
+                self.assertEqual(ending.lost_with(session), told)
+        self.assertEqual(ending.lost_with(RemoteSession(self.folder, "main")), "")
 
 
 class ClientLink:

@@ -15,7 +15,7 @@ from unittest import mock
 from roam_live.common.errors import Fault
 from roam_live.common.process import begun, note_end
 from roam_live.session import local, lookup, processes as session_processes, survey
-from roam_live.session.front_end_lock import locked_session
+from roam_live.session.front_end_lock import FrontEndLock
 from roam_live.session.local import LocalSession, Window
 from roam_live.session.names import WINDOWS_VERSION
 from roam_live.session.remote import RemoteSession
@@ -103,7 +103,7 @@ class Listed(Sessions):
     def test_followed(self):
         """While a front end is there that reads how it ended, that stays; then all goes."""
         (self.folder / "ended").touch()
-        with mock.patch("roam_live.common.errors.logs", []), locked_session(self.folder), locked_session(self.folder):
+        with mock.patch("roam_live.common.errors.logs", []), FrontEndLock(self.folder), FrontEndLock(self.folder):
             lookup.sweep()
             self.assertEqual(self.names(), ["ended", "front_ends", "lock", "log"])
         lookup.sweep()

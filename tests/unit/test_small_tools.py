@@ -137,7 +137,7 @@ class Attach(Case):
         self.listening(self.folder / "clients")
         self.assertEqual(self.attach(str(self.folder)), 5)
         place, is_read_only, prefix, prediction = self.follows.call_args[0]
-        self.assertEqual((type(place), place.folder, place.by_hand), (Window, self.folder, None))
+        self.assertEqual((type(place), place.folder, place.by_hand), (Window, str(self.folder), None))
         self.assertEqual((is_read_only, prefix, prediction), (False, "C-b", "adaptive"))
         self.assertEqual(self.attach("--watch", "--predict", "never", "--server", "7", str(self.folder)), 5)
         place, is_read_only, _, prediction = self.follows.call_args[0]
@@ -154,7 +154,7 @@ class Attach(Case):
             self.assertEqual(self.attach("--dir", str(self.folder), port, "5e55"), 5)
         place = self.follows.call_args[0][0]
         self.addCleanup(place.close)
-        self.assertEqual((type(place), place.folder, place.name), (PortSession, self.folder, f"at port {port}"))
+        self.assertEqual((type(place), place.folder, place.name), (PortSession, str(self.folder), f"at port {port}"))
         with self.assertRaisesRegex(Fault, f"^no server is at port {port}$"):
             self.attach(port, "5e55")
 

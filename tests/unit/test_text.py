@@ -9,6 +9,7 @@ import unittest
 from unittest import mock
 
 from roam_live.common import errors, files
+from roam_live.common.file_path import FilePath
 from roam_live.common.files import KEPT, LOG_LIMIT, make_room
 from roam_live.common.process import TOOLS
 from roam_live.common.text import SAID_LIMIT, Said, decimal_in, one_line, printable
@@ -93,7 +94,7 @@ class Logs(unittest.TestCase):
     def test_each_writer(self):
         """Whoever says a line in a session's log, or fails there, or starts a process that writes there, keeps it small."""
         def fails():
-            with self.assertRaises(SystemExit), mock.patch("signal.signal"), mock.patch.dict(os.environ):
+            with self.assertRaises(SystemExit), mock.patch("_signal.signal"), mock.patch.dict(os.environ):
                 errors.run_tool(lambda: [][0])
 
         def starts():
@@ -123,8 +124,8 @@ class Names(unittest.TestCase):
     def name_of(given):
         """What is told of a program with a terminal that named itself so, by what the system tells of it."""
         stat = "7 (sh) S 1 7 7 34816 9 4194304"
-        told = mock.patch.object(pathlib.Path, "read_bytes", return_value=given + b"\n")
-        with mock.patch.object(pathlib.Path, "read_text", return_value=stat), told:
+        told = mock.patch.object(FilePath, "read_bytes", return_value=given + b"\n")
+        with mock.patch.object(FilePath, "read_text", return_value=stat), told:
             return foreground(7)
 
 
@@ -140,7 +141,7 @@ class Faults(unittest.TestCase):
 
     def test_closed(self):
         """A standard output that is closed from the beginning is nothing to complain of."""
-        with mock.patch("sys.stdout", None), mock.patch("signal.signal"), mock.patch.dict(os.environ), self.assertRaises(SystemExit) as way:
+        with mock.patch("sys.stdout", None), mock.patch("_signal.signal"), mock.patch.dict(os.environ), self.assertRaises(SystemExit) as way:
             errors.run_tool(lambda: print("x"))
         self.assertIsNone(way.exception.code)
 

@@ -148,7 +148,7 @@ class Commands(Case):
         master, slave = pty.openpty()
         for end in (master, slave):
             self.addCleanup(os.close, end)
-        wakes, handles = self.patch("signal.set_wakeup_fd"), self.patch("signal.signal")
+        wakes, handles = self.patch("_signal.set_wakeup_fd"), self.patch("_signal.signal")
         runs = self.patch("os.execvpe")
         gets = self.patch("termios.tcgetattr", return_value=[0, 1, 2])
         sets = self.patch("termios.tcsetattr")
@@ -163,7 +163,7 @@ class Commands(Case):
 
     def test_instead(self):
         """Where it can't be run that is told, and another shell is there, which is named as the shell."""
-        for name in ("signal.set_wakeup_fd", "signal.signal"):
+        for name in ("_signal.set_wakeup_fd", "_signal.signal"):
             self.patch(name)
         self.patch("termios.tcgetattr", side_effect=termios.error(5, "gone"))
         runs = self.patch("os.execvpe", side_effect=[FileNotFoundError(2, "No such file or directory"), None])

@@ -3,6 +3,7 @@ import errno
 import fcntl
 import json
 import os
+import pathlib
 import resource
 import time
 from unittest import mock
@@ -87,7 +88,7 @@ class Found(Sessions):
             with self.assertRaisesRegex(Fault, f"^session main has no window {number}$"):
                 session.window(number)
         one = session.window(2)
-        self.assertEqual((one.window(), one.window(7).number, one.whole_session(), one.common), (one, 7, session, self.base / "main"))
+        self.assertEqual((one.window(), one.window(7).number, one.whole_session(), one.common), (one, 7, session, str(self.base / "main")))
         with self.assertRaisesRegex(Fault, "^session old has one window, as one that was begun by hand, and no window 2$"):
             Window(self.base / "old").window(2)
 
@@ -137,7 +138,7 @@ class Found(Sessions):
         self.assertTrue(window.has_client())
         age.return_value = 10.1
         self.assertFalse(window.has_client())
-        window.terminals.touch()
+        pathlib.Path(window.terminals).touch()
         self.assertTrue(window.has_client())
 
     def test_host_gone(self):
@@ -382,7 +383,7 @@ class Named(Sessions):
         self.environment(ROAM_PANE=f"{self.base}/main/w/7:3")
         for word, number in (("", 7), (":", 7), (":2", 2), ("main", 7), ("main:2", 2)):
             target = target_of(word)
-            self.assertEqual((session_of(target).folder, window_of(session, target).number), (self.base / "main", number), word)
+            self.assertEqual((session_of(target).folder, window_of(session, target).number), (str(self.base / "main"), number), word)
         self.noted("other", 3, server=self.own)
         self.assertEqual(window_of(session_named("other"), target_of("other")).number, 3)
         for folder, is_in in (("main", True), ("main/w/9", True), ("mainly/w/1", False), ("main/x", False)):
@@ -397,10 +398,10 @@ class Near(Sessions):
     def near(self, *windows):
         """What stands here for a session with windows."""
         session = session_named("ssh:h:n")
-        (session.folder / "session").write_text("e\n", encoding="ascii")
+        pathlib.Path(session.folder, "session").write_text("e\n", encoding="ascii")
         for number, name in windows:
-            (session.folder / f"w/{number}").mkdir(parents=True)
-            (session.folder / f"w/{number}/session").write_text(f"{name}\n", encoding="ascii")
+            pathlib.Path(session.folder, f"w/{number}").mkdir(parents=True)
+            pathlib.Path(session.folder, f"w/{number}/session").write_text(f"{name}\n", encoding="ascii")
         self.noted("ssh:h:n", relay=self.own)
         session.read()
         return session

@@ -7,11 +7,12 @@ from roam_live.common.text import printable
 
 TYPE_CHECKING = False
 if TYPE_CHECKING:
-    from types import SimpleNamespace
     from typing import NoReturn, Union
 
+    from roam_live.cli.words import PlainWords
+
     # What the words behind a word of `mux` ask for: a value for each argument, by a parser or without one.
-    Asked = Union[argparse.Namespace, SimpleNamespace]
+    Asked = Union[argparse.Namespace, PlainWords]
 
 # The commands of tmux 3.3a with their other names, and what does the same here: a word of mux, or a key; nothing where nothing does.
 TMUX_TABLE = """

@@ -5,7 +5,6 @@ from __future__ import annotations
 import os
 import sys
 import time
-from collections.abc import Iterable
 
 from roam_live.cli.paste import CONNECTS, paste_buffer
 from roam_live.cli.targets import making_of
@@ -21,6 +20,7 @@ from roam_live.protocol.scrollback_client import (Answer, AnswerReader, BadAnswe
 
 TYPE_CHECKING = False
 if TYPE_CHECKING:
+    from collections.abc import Iterable
     from collections.abc import Callable
     from typing import Any
 

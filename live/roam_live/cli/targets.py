@@ -2,11 +2,11 @@
 from __future__ import annotations
 
 import os
-import re
 import time
-from collections import namedtuple
 
 from roam_live.common.errors import Fault
+from roam_live.common.named_fields import NamedFields
+from roam_live.common.patterns import LazyPattern
 from roam_live.common.unix_socket import connected_in
 from roam_live.protocol.panes import ASKED, BRACKETED, METADATA, AskedPanes
 from roam_live.session.foreground import own_pane
@@ -17,7 +17,7 @@ if TYPE_CHECKING:
     from roam_live.session.folder import SessionFolder
 
 # The name of a session, or of what stands here for one of another machine, which may be missing; a window of it, and a pane.
-WORD = re.compile(r"(?P<name>ssh:[^:]+:[^:.]+(?::[0-9a-f]{8})?|[^:.]*)(?::(?P<window>[1-9]\d?))?(?:\.(?P<pane>[1-9]))?|:", re.ASCII)
+WORD = LazyPattern(r"(?a)(?P<name>ssh:[^:]+:[^:.]+(?::[0-9a-f]{8})?|[^:.]*)(?::(?P<window>[1-9]\d?))?(?:\.(?P<pane>[1-9]))?|:")
 
 # So many seconds a server has for closing a pane.
 CLOSES = 5.0
@@ -25,7 +25,7 @@ CLOSES = 5.0
 NOWHERE = "no session is named, and this is no pane of one; `mux ls` lists them"
 
 
-class Target(namedtuple("Target", "name window pane")):
+class Target(NamedFields):
     """A session's name, nothing where that in which this process runs is meant, and the numbers of a window and of a pane of it: None and
     0 where none is named."""
 
@@ -36,7 +36,7 @@ class Target(namedtuple("Target", "name window pane")):
 
 def target_of(word: str) -> Target:
     """What a word names: no name of a session of this machine has a colon or a dot."""
-    found = WORD.fullmatch(word)
+    found = WORD.fullmatch(word) if ":" in word or "." in word else None
     if not found:
         return Target(word, None, 0)
     return Target(found["name"] or "", int(found["window"]) if found["window"] else None, int(found["pane"] or 0))
@@ -139,3 +139,25 @@ def is_closed(asked: AskedPanes, pane: int, generation: str) -> bool:
         if pane not in asked.told.rects or asked.told.generations.get(pane) != generation:
             return True
     return False
+
+
+def running(name: str) -> SessionFolder:
+    """The session that a word names, which runs."""
+    session = session_of(target_of(name))
+    session.demand()
+    return session
+
+
+def window_named(name: str) -> tuple[SessionFolder, int]:
+    """The window that a word names, of a session that runs, and the pane, or 0."""
+    target = target_of(name)
+    return window_of(running(name), target), target.pane
+
+
+def ready(session: SessionFolder) -> SessionFolder:
+    """A window of a session that runs, and whose client process for terminals does."""
+    with session.locked():
+        session.demand()
+        session.note_found()
+        session.demand_client()
+    return session

@@ -5,11 +5,9 @@ top, and git.
 """
 from __future__ import annotations
 
-import contextlib
-import functools
-from collections import namedtuple
-
+from roam_live.common.named_fields import NamedFields
 from roam_live.common.process import TOOLS
+from roam_live.common.suppress import suppress
 from roam_live.common.text import printable
 
 INSTALLED = TOOLS / "build_info"
@@ -22,13 +20,13 @@ WAIT = 5.0
 UNKNOWN = "unknown"
 
 
-class BuildInfo(namedtuple("BuildInfo", "version commit kit gate", defaults=(UNKNOWN, UNKNOWN, UNKNOWN, UNKNOWN))):
+class BuildInfo(NamedFields):
     """A build: its version, the commit of its sources, the kit, and the last line of the gate that proved it."""
 
-    version: str
-    commit: str
-    kit: str
-    gate: str
+    version: str = UNKNOWN
+    commit: str = UNKNOWN
+    kit: str = UNKNOWN
+    gate: str = UNKNOWN
 
     def line(self) -> str:
         """Return what `--version` prints."""
@@ -51,25 +49,24 @@ def said_by(*words: str) -> str:
     """Return the line that a command prints, or "unknown" if there is none."""
     import subprocess
 
-    with contextlib.suppress(OSError, subprocess.SubprocessError):
+    with suppress(OSError, subprocess.SubprocessError):
         ran = subprocess.run(words, stdin=subprocess.DEVNULL, stdout=subprocess.PIPE, stderr=subprocess.DEVNULL, timeout=WAIT, check=True)
         return word_of(ran.stdout.decode("ascii", "replace"))
     return UNKNOWN
 
 
-@functools.lru_cache(maxsize=None)
 def version() -> str:
     """Return the version alone."""
-    with contextlib.suppress(OSError):
+    with suppress(OSError):
         return str(in_file().version)
-    with contextlib.suppress(OSError):
+    with suppress(OSError):
         return word_of((CLONE / "VERSION").read_text(encoding="ascii", errors="replace"))
     return UNKNOWN
 
 
 def build() -> BuildInfo:
     """Return all that is known of this build. In a clone git and the kit are asked."""
-    with contextlib.suppress(OSError):
+    with suppress(OSError):
         return in_file()
     commit = said_by("git", "-C", str(CLONE), "rev-parse", "--short=12", "HEAD")
     return BuildInfo(version(), commit, said_by("rt", "version"))
@@ -77,7 +74,7 @@ def build() -> BuildInfo:
 
 def identity() -> str:
     """Return what tells two installed builds apart, a word or two: the version, and the commit if a file has it."""
-    with contextlib.suppress(OSError):
+    with suppress(OSError):
         found = in_file()
         return found.version if found.commit == UNKNOWN else f"{found.version} {found.commit}"
     return version()

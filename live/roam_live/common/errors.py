@@ -1,27 +1,26 @@
 """Errors of the tools: how they are reported and logged, and how a tool ends."""
 from __future__ import annotations
 
-import contextlib
 import errno
 import os
-import pathlib
 import select
-import signal
 import sys
-from collections.abc import Callable
 
 from roam_live.common.files import make_room
+from roam_live.common.signals import signal
+from roam_live.common.suppress import suppress
 from roam_live.common.text import one_line, printable
 
 TYPE_CHECKING = False
 if TYPE_CHECKING:
+    from collections.abc import Callable
     from typing import NoReturn
 
 # The variable by which a program is asked to tell why it ended. What runs in a pane isn't asked so.
 ASKS_WHY = "ROAM_WHY"
 
 # The logs that take the whole of what a tool didn't foresee: that of its session, once it is known.
-logs: list[pathlib.Path] = []
+logs: list[str] = []
 
 
 class Fault(Exception):
@@ -30,13 +29,13 @@ class Fault(Exception):
 
 def tool_name() -> str:
     """The name under which this tool was spawned."""
-    return pathlib.Path(sys.argv[0]).name
+    return os.path.basename(sys.argv[0])
 
 
 def say(line: str) -> None:
     """Says a line on standard error, which may be full or gone, or a log that is to stay small."""
     make_room_in_logs(len(line))
-    with contextlib.suppress(OSError, ValueError):
+    with suppress(OSError, ValueError):
         print(f"{tool_name()}: {printable(line)}", file=sys.stderr, flush=True)
 
 
@@ -53,8 +52,8 @@ def reason(fault: BaseException) -> str:
 
 def log_to(folder: str | os.PathLike[str]) -> None:
     """Has what this tool doesn't foresee told in full in the log of a session's folder, where there is one."""
-    path = pathlib.Path(folder, "log")
-    logs[:] = [path] if path.is_file() else []
+    path = os.path.join(folder, "log")
+    logs[:] = [path] if os.path.isfile(path) else []
 
 
 def log_in_full(text: str) -> None:
@@ -62,7 +61,7 @@ def log_in_full(text: str) -> None:
     told = "\n".join(map(printable, text.split("\n")))
     make_room_in_logs(len(told))
     for path in logs:
-        with contextlib.suppress(OSError), open(path, "a", encoding="utf-8", errors="backslashreplace") as log:
+        with suppress(OSError), open(path, "a", encoding="utf-8", errors="backslashreplace") as log:
             log.write(f"{tool_name()}, process {os.getpid()}:\n{told}")
 
 

@@ -1,16 +1,16 @@
 """The event loop of a process: descriptors ("ends") with callbacks, named timers, and hooks before each wait."""
 from __future__ import annotations
 
-import contextlib
 import errno
 import select
 import time
-from collections.abc import Callable
-from functools import partial
-from operator import itemgetter
+from _operator import itemgetter
+
+from roam_live.common.suppress import suppress
 
 TYPE_CHECKING = False
 if TYPE_CHECKING:
+    from collections.abc import Callable
     from typing import Protocol, Union
 
     class HasEnd(Protocol):
@@ -40,7 +40,6 @@ LONGEST = 86400.0
 RESTS = 1.0
 
 MOMENT = itemgetter(0)
-
 
 def place_of(found: tuple[LoopEnd, int, int]) -> int:
     """Return the rank of a ready end: ends are served in the order in which they were added."""
@@ -106,7 +105,7 @@ class Watched:
 
     def tell_system(self, number: int, mask: int) -> None:
         """Register or change a descriptor at epoll. The number may stand for another file than the one that was registered."""
-        with contextlib.suppress(FileNotFoundError):
+        with suppress(FileNotFoundError):
             if number in self.events:
                 self.poller.modify(number, mask)
                 return
@@ -120,7 +119,7 @@ class Watched:
     def forget(self, number: int) -> None:
         """Stop watching a descriptor, which may be closed already."""
         if self.events.pop(number, None) is not None and number not in self.files:
-            with contextlib.suppress(OSError):
+            with suppress(OSError):
                 self.poller.unregister(number)
         self.files.discard(number)
 
@@ -292,7 +291,7 @@ class Loop:
         fails = source.fails
         if not fails:
             self.rest(number, source)
-        elif not self.is_done(partial(fails, fault)) and self.sources.get(number) is source:
+        elif not self.is_done(lambda: fails(fault)) and self.sources.get(number) is source:
             self.remove(number)
 
     def pause(self, end: End) -> None:

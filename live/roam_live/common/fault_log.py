@@ -1,12 +1,15 @@
 """Unexpected exceptions in a process that goes on: each is logged with its traceback, at a limited rate."""
 from __future__ import annotations
 
-import contextlib
 import time
-from collections.abc import Callable
 
 from roam_live.common.errors import Fault, log_in_full, say
+from roam_live.common.suppress import suppress
 from roam_live.common.text import one_line
+
+TYPE_CHECKING = False
+if TYPE_CHECKING:
+    from collections.abc import Callable
 
 # An exception raised at one source line is logged once in APART seconds; MOST_PLACES lines are remembered.
 APART = 60.0
@@ -51,7 +54,7 @@ class FaultLog:
         """Log an exception, or count it."""
         self.count += 1
         # If memory is short, logging may fail too.
-        with contextlib.suppress(Exception):
+        with suppress(Exception):
             place, now = place_of(fault), self.clock()
             since, more = self.logged.get(place, (float("-inf"), 0))
             if now < since + APART:

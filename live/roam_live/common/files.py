@@ -1,9 +1,10 @@
 """Files and folders: logs of bounded size, whole replacements, and whose a folder is."""
 from __future__ import annotations
 
-import contextlib
 import fcntl
 import os
+
+from roam_live.common.suppress import suppress
 
 # A log has so many bytes at most, and keeps so many of the newest when it would have more.
 LOG_LIMIT = 1 << 20
@@ -12,7 +13,7 @@ KEPT = 1 << 19
 
 def make_room(path: str | os.PathLike[str], more: int = 0) -> None:
     """Drops a log's oldest lines where it would have too many bytes with so many more. Who writes there appends: it goes on at the end."""
-    with contextlib.suppress(OSError):
+    with suppress(OSError):
         if os.stat(path).st_size + more <= LOG_LIMIT:
             return
         with open(path, "r+b") as log:
@@ -31,7 +32,7 @@ def replace_text(path: str | os.PathLike[str], text: str, new: str | None = None
             file.write(text)
         os.replace(new, path)
     except OSError:
-        with contextlib.suppress(OSError):
+        with suppress(OSError):
             os.unlink(new)
         raise
 

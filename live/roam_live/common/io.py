@@ -2,11 +2,11 @@
 from __future__ import annotations
 
 import os
-from collections.abc import Iterable
 
 TYPE_CHECKING = False
 if TYPE_CHECKING:
     import socket
+    from collections.abc import Iterable
 
 # No line has so many bytes: what is longer is no line, and isn't kept.
 LONGEST_LINE = 1 << 16

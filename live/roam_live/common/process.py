@@ -1,15 +1,15 @@
 """Processes of the system by their number and start time, and where the program and the tools are."""
 from __future__ import annotations
 
-import contextlib
 import os
-import pathlib
-import signal
 
 from roam_live.common.errors import Fault, is_absent, reason
+from roam_live.common.file_path import FilePath
 from roam_live.common.files import replace_text
+from roam_live.common.signals import signal
+from roam_live.common.suppress import suppress
 
-TOOLS = pathlib.Path(__file__).resolve().parents[2]
+TOOLS = FilePath(os.path.realpath(__file__)).parent.parent.parent
 
 # Where the program is: as make built it, or installed beside the tools.
 PLACES = (TOOLS.parent / "crates/roam/out/roam", TOOLS / "roam", TOOLS.parent / "bin/roam", TOOLS.parent.parent / "bin/roam")
@@ -18,7 +18,7 @@ PLACES = (TOOLS.parent / "crates/roam/out/roam", TOOLS / "roam", TOOLS.parent / 
 def program() -> str:
     """The path of the program: the environment's ROAM, else what make built, else what was installed."""
     named = os.environ.get("ROAM")
-    for path in [pathlib.Path(named)] if named else PLACES:
+    for path in [FilePath(named)] if named else PLACES:
         if path.is_file() and os.access(path, os.X_OK):
             return str(path)
     raise Fault(f"{named or PLACES[0]} isn't there; make builds it")
@@ -26,7 +26,7 @@ def program() -> str:
 
 def read_stat(process: int) -> list[str]:
     """What the system says of a process, from its state on; OSError where there is none, or it doesn't say."""
-    return pathlib.Path(f"/proc/{process}/stat").read_text(encoding="utf-8", errors="replace").rpartition(")")[2].split()
+    return FilePath(f"/proc/{process}/stat").read_text(errors="replace").rpartition(")")[2].split()
 
 
 def stated(process: int) -> list[str]:
@@ -46,7 +46,7 @@ def begun(process: int) -> int | None:
 def age_of(process: int) -> float:
     """For how many seconds a process has been there; 0 where that isn't known."""
     moment = begun(process)
-    with contextlib.suppress(OSError, ValueError):
+    with suppress(OSError, ValueError):
         with open("/proc/uptime", encoding="ascii") as uptime:
             return float(uptime.read().split()[0]) - moment / os.sysconf("SC_CLK_TCK") if moment is not None else 0.0
     return 0.0
@@ -90,7 +90,7 @@ def end_words(process: int, moment: int | None) -> str:
 def note_end(folder: str | os.PathLike[str], process: int, moment: int | None) -> None:
     """Notes in a session's folder that the process that serves it is ended on purpose, before it is, so that nobody takes that for a
     fault."""
-    with contextlib.suppress(OSError):
+    with suppress(OSError):
         replace_text(os.path.join(folder, "ended"), f"{end_words(process, moment)}\n")
 
 
@@ -135,9 +135,9 @@ def holder_of(folder: str | os.PathLike[str]) -> int | None:
 
 def has_open(process: int, file: os.stat_result) -> bool:
     """Whether a process has a file open."""
-    with contextlib.suppress(OSError):
+    with suppress(OSError):
         for end in os.listdir(f"/proc/{process}/fd"):
-            with contextlib.suppress(OSError):
+            with suppress(OSError):
                 if os.path.samestat(file, os.stat(f"/proc/{process}/fd/{end}")):
                     return True
     return False

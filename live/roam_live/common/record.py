@@ -5,15 +5,15 @@ They are used like classes of the standard module `dataclasses`, which takes a p
 from __future__ import annotations
 
 import binascii
-import contextlib
 import json
-from collections.abc import Callable
 
 from roam_live.common.errors import Fault
+from roam_live.common.suppress import suppress
 from roam_live.common.text import decimal_in
 
 TYPE_CHECKING = False
 if TYPE_CHECKING:
+    from collections.abc import Callable
     from typing import Any
 
     # Returns what a value of JSON stands for; Malformed if it is none. A path names it.
@@ -113,7 +113,7 @@ def bytes_of(most: int) -> Reads:
     def reads(value: Any, path: str) -> Any:
         found: bytearray | None = None
         if isinstance(value, str) and len(value) <= (most + 2) // 3 * 4:
-            with contextlib.suppress(ValueError):
+            with suppress(ValueError):
                 found = bytearray(binascii.a2b_base64(value))
         demand(found is not None and len(found) <= most and base64_of(found) == value, path, f"not base64 of at most {most} bytes")
         return found

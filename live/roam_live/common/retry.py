@@ -2,7 +2,10 @@
 from __future__ import annotations
 
 import math
-from collections.abc import Sequence
+
+TYPE_CHECKING = False
+if TYPE_CHECKING:
+    from collections.abc import Sequence
 
 # The pauses in seconds, unless another row is named, and how long something has to last so that its end is no failure.
 PAUSES = (0.1, 1, 2, 4, 8, 15)

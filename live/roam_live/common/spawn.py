@@ -1,12 +1,12 @@
 """Commands on new pseudo-terminals: how they are forked, and their environment and signals."""
 from __future__ import annotations
 
-import contextlib
 import fcntl
 import os
-import signal
 import termios
 
+from roam_live.common.signals import signal
+from roam_live.common.suppress import suppress
 from roam_live.common.text import printable
 from roam_live.common.tty import set_size
 
@@ -89,7 +89,7 @@ def take(slave: int) -> None:
 
 def become(command: list[str], environment: dict[str, str], instead: str | None = None) -> None:
     """Becomes a command on standard input, a terminal; else the shell instead of it."""
-    with contextlib.suppress(termios.error, OSError):
+    with suppress(termios.error, OSError):
         modes = termios.tcgetattr(0)
         modes[0] |= IUTF8
         termios.tcsetattr(0, termios.TCSANOW, modes)

@@ -1,14 +1,14 @@
 """The user's terminal: its modes, its size, its alternate screen, and what is written there beside the painter's text."""
 from __future__ import annotations
 
-import contextlib
 import errno
 import fcntl
 import os
-import struct
+import sys
 import termios
 
 from roam_live.common.errors import Fault
+from roam_live.common.suppress import suppress
 
 TYPE_CHECKING = False
 if TYPE_CHECKING:
@@ -61,14 +61,14 @@ def unwrapped(text: str) -> bytes:
 
 def size_of(terminal: int) -> Size:
     """A terminal's rows and columns; one that tells none has 24 and 80."""
-    rows, cols = struct.unpack("HHHH", fcntl.ioctl(terminal, termios.TIOCGWINSZ, bytes(8)))[:2]
+    cols, rows = os.get_terminal_size(terminal)
     return rows or 24, cols or 80
 
 
 def set_size(terminal: int, rows: int, cols: int) -> None:
     """Gives a terminal a size; its programs are told where it is another."""
-    rows, cols = (min(max(one, 0), MOST_CELLS) for one in (rows, cols))
-    fcntl.ioctl(terminal, termios.TIOCSWINSZ, struct.pack("HHHH", rows, cols, 0, 0))
+    size = b"".join(min(max(one, 0), MOST_CELLS).to_bytes(2, sys.byteorder) for one in (rows, cols, 0, 0))
+    fcntl.ioctl(terminal, termios.TIOCSWINSZ, size)
 
 
 def is_large_enough(size: Size) -> bool:
@@ -121,7 +121,7 @@ def raw(modes: Modes) -> Modes:
 def restore(terminal: int, modes: Modes) -> None:
     """Gives a terminal its modes back; what was typed and not read is no command of the shell that comes back. This doesn't wait until the
     terminal has shown what was written, as TCSAFLUSH would."""
-    with contextlib.suppress(termios.error, OSError):
+    with suppress(termios.error, OSError):
         termios.tcflush(terminal, termios.TCIFLUSH)
         set_modes(terminal, termios.TCSANOW, modes)
 

@@ -1,43 +1,72 @@
-"""Connections to Unix sockets, and who is at the other end."""
+"""Connections to Unix sockets, and who is at the other end.
+
+`UnixSocket` stands on the C module behind the standard library's `socket`. The module in Python makes enums of some hundred numbers; with
+what it imports that takes 118,000 bytecodes, more than all of roam that an attach needs first.
+"""
 from __future__ import annotations
 
-import contextlib
 import errno
 import os
-import socket
-import struct
 import time
-from collections import namedtuple
-from collections.abc import Callable
 
 from roam_live.common.errors import Fault, is_absent, reason, say
 from roam_live.common.event_loop import Loop
+from roam_live.common.named_fields import NamedFields
+from roam_live.common.suppress import suppress
+
+TYPE_CHECKING = False
+if TYPE_CHECKING:
+    from collections.abc import Callable
+    from socket import AF_UNIX, SHUT_WR, SO_PEERCRED, SO_SNDBUF, SOCK_STREAM, SOL_SOCKET, socket as SocketBase
+else:
+    from _socket import AF_UNIX, SHUT_WR, SO_PEERCRED, SO_SNDBUF, SOCK_STREAM, SOL_SOCKET, socket as SocketBase
+
+__all__ = ["SHUT_WR", "SO_SNDBUF", "SOL_SOCKET"]
 
 # How many seconds a socket that isn't there yet is waited for, and after how many that is said.
 LONGEST_WAIT = 10.0
 SAID_AFTER = 0.5
 
-# What the system tells of who is at the other end of a Unix socket: the process, its user and its group.
-CREDENTIALS = struct.Struct("3i")
+# What the system tells of who is at the other end of a Unix socket: three numbers of four bytes, the process, its user and its group.
+CREDENTIALS = 12
 
 
-class SocketPeer(namedtuple("SocketPeer", "process user")):
+class UnixSocket(SocketBase):
+    """A Unix stream socket, which is closed behind a `with`."""
+
+    def __init__(self, descriptor: int | None = None) -> None:
+        super().__init__(AF_UNIX, SOCK_STREAM, 0, descriptor)
+
+    def accept(self) -> tuple[UnixSocket, object]:
+        """Accept a connection, and return it and its address."""
+        descriptor, address = self._accept()
+        return UnixSocket(descriptor), address
+
+    def __enter__(self) -> UnixSocket:
+        return self
+
+    def __exit__(self, *fault: object) -> None:
+        self.close()
+
+
+class SocketPeer(NamedFields):
     """Who is at the other end of a Unix socket."""
 
     process: int
     user: int
 
     @classmethod
-    def of(cls, end: socket.socket) -> SocketPeer:
+    def of(cls, end: SocketBase) -> SocketPeer:
         """That of a socket: who connected, or who began to listen where this end connected."""
-        return cls(*CREDENTIALS.unpack(end.getsockopt(socket.SOL_SOCKET, socket.SO_PEERCRED, CREDENTIALS.size))[:2])
+        process, user, _ = memoryview(end.getsockopt(SOL_SOCKET, SO_PEERCRED, CREDENTIALS)).cast("I")
+        return cls(process, user)
 
     def is_own(self) -> bool:
         """Whether it is of this user. The superuser is another as any, and so is anyone for the superuser."""
         return self.user == os.getuid()
 
 
-def is_own_peer(end: socket.socket) -> bool:
+def is_own_peer(end: SocketBase) -> bool:
     """Whether who is at the other end of a Unix socket is of this user."""
     try:
         return SocketPeer.of(end).is_own()
@@ -45,10 +74,10 @@ def is_own_peer(end: socket.socket) -> bool:
         return False
 
 
-def connected_now(path: str | os.PathLike[str]) -> socket.socket:
+def connected_now(path: str | os.PathLike[str]) -> UnixSocket:
     """A connection to a Unix socket that is there, at which this user listens. It never waits: BlockingIOError tells of a listener that
     takes none now."""
-    peer = socket.socket(socket.AF_UNIX, socket.SOCK_STREAM)
+    peer = UnixSocket()
     try:
         peer.setblocking(False)
         peer.connect(str(path))
@@ -60,7 +89,7 @@ def connected_now(path: str | os.PathLike[str]) -> socket.socket:
     return peer
 
 
-def connected_in(path: str | os.PathLike[str], seconds: float) -> socket.socket:
+def connected_in(path: str | os.PathLike[str], seconds: float) -> UnixSocket:
     """The same, where a listener that takes none now is asked again for so many seconds."""
     end = time.monotonic() + seconds
     while True:
@@ -72,7 +101,7 @@ def connected_in(path: str | os.PathLike[str], seconds: float) -> socket.socket:
         time.sleep(0.01)
 
 
-def connected(path: str | os.PathLike[str]) -> socket.socket:
+def connected(path: str | os.PathLike[str]) -> UnixSocket:
     """A connection to a Unix socket, which may still have to be made."""
     begun_at = time.monotonic()
     has_said = False
@@ -108,7 +137,7 @@ def is_listened(path: str | os.PathLike[str]) -> bool:
 DEAF = 1.0
 
 
-def listening(path: str | os.PathLike[str]) -> socket.socket:
+def listening(path: str | os.PathLike[str]) -> UnixSocket:
     """A socket at which those who come are waited for; one that is left there is removed, but where somebody listens."""
     if is_listened(path):
         raise Fault(f"somebody listens at {path} already")
@@ -116,7 +145,7 @@ def listening(path: str | os.PathLike[str]) -> socket.socket:
         os.unlink(path)
     except FileNotFoundError:
         pass
-    one = socket.socket(socket.AF_UNIX, socket.SOCK_STREAM)
+    one = UnixSocket()
     one.bind(str(path))
     one.listen(16)
     one.setblocking(False)
@@ -127,7 +156,7 @@ class Listener:
     """Accepts connections of this user while there is room; others wait. With `is_told` the owner calls `room_changed`; otherwise the loop
     asks before each wait."""
 
-    def __init__(self, loop: Loop, path: str | os.PathLike[str], takes: Callable[[socket.socket], object], has_room: Callable[[], bool],
+    def __init__(self, loop: Loop, path: str | os.PathLike[str], takes: Callable[[UnixSocket], object], has_room: Callable[[], bool],
                  refused: Callable[[OSError], object], is_told: bool = False) -> None:
         self.loop, self.path, self.takes, self.has_room, self.refused, self.is_told = loop, path, takes, has_room, refused, is_told
         self.end = listening(path)
@@ -190,7 +219,7 @@ class Listener:
         self.loop.remove(self.end)
         self.loop.drop(f"hear {self.path}")
         self.end.close()
-        with contextlib.suppress(OSError):
+        with suppress(OSError):
             # Another session's may be there by now.
             if os.path.samestat(self.made, os.lstat(self.path)):
                 os.unlink(self.path)

@@ -1,14 +1,16 @@
 """The commands that keys, a settings file and the command line have, by tmux's words: what each asks the front end for."""
 from __future__ import annotations
 
-from collections import namedtuple
-from collections.abc import Callable
-
+from roam_live.common.named_fields import NamedFields
 from roam_live.common.text import printable
 from roam_live.input.key_names import acts_of_word
 from roam_live.input.keys import Key, acts_of
 from roam_live.protocol.spawn_request import MOST_BYTES, TOO_LONG, Begins
 from roam_live.protocol.window_lines import LONGEST_BYTES, LONGEST_NAME
+
+TYPE_CHECKING = False
+if TYPE_CHECKING:
+    from collections.abc import Callable
 
 # Words that stand in a command, and the flags that stand before them, with their values.
 MOST_WORDS, LONGEST_TEXT = 100, 1000
@@ -23,15 +25,15 @@ class BadCommand(Exception):
     """What a command says can't be done; why, in words."""
 
 
-class CommandWish(namedtuple("CommandWish", "acts wish text words begins", defaults=((), None))):
+class CommandWish(NamedFields):
     """What a command asks for: acts that are typed, or a wish of the front end's, and a text that belongs to it; its words; and what a new
     pane or window begins with, where that isn't as always."""
 
     acts: list[str]
     wish: str
     text: str
-    words: list[str]
-    begins: Begins | None
+    words: list[str] | tuple[str, ...] = ()
+    begins: Begins | None = None
 
 
 class Flags:
@@ -69,7 +71,7 @@ class Flags:
         return int(text)
 
 
-class NamedCommand(namedtuple("NamedCommand", "names flags reads help")):
+class NamedCommand(NamedFields):
     """A command: its names, the longest first, the flags that it has, as getopt has them, how its words are read, and what it does."""
 
     names: tuple[str, ...]

@@ -3,9 +3,12 @@ mouse, who sets the clipboard, how many rows are kept of a pane, and more; and w
 from __future__ import annotations
 
 import os
-from collections.abc import Iterable
 
 from roam_live.common.errors import Fault
+
+TYPE_CHECKING = False
+if TYPE_CHECKING:
+    from collections.abc import Iterable
 
 # The variables that roam reads: those that a person sets, and those that its tools pass to each other. A variable exists if it is here.
 VARIABLES = ("ROAM_CLIPBOARD", "ROAM_HISTORY", "ROAM_MOUSE", "ROAM_PREDICT", "ROAM_PREFIX", "ROAM_UDP", "ROAM_WHY")

@@ -3,8 +3,8 @@ from __future__ import annotations
 
 import re
 import time
-from collections import namedtuple
 
+from roam_live.common.named_fields import NamedFields
 from roam_live.common.text import printable
 from roam_live.config.styled_text import ROW_STYLE, Styled
 
@@ -33,7 +33,7 @@ OFF = {**{name: "" for name in ATTRIBUTES}, "reverse": "27"}
 HEXADECIMAL = re.compile(r"#([0-9a-fA-F]{2})([0-9a-fA-F]{2})([0-9a-fA-F]{2})")
 NUMBERED = re.compile(r"colou?r([0-9]{1,3})")
 
-class Format(namedtuple("Format", "chunks wrong step")):
+class Format(NamedFields):
     """A format that is read: what stands in it, as a kind and a word each, what of it isn't known, and by how many seconds the clock goes
     on before it changes; 0 where no clock is in it."""
 

@@ -4,15 +4,16 @@ from __future__ import annotations
 import glob
 import os
 import stat
-from collections import namedtuple
-from collections.abc import Container, Iterable
 
 from roam_live.common.errors import reason
+from roam_live.common.named_fields import NamedFields
 from roam_live.common.text import printable
 from roam_live.config.parser import OPTIONS, SWITCHES, TEXTS, BadWord, Block, FileCommand, SettingsReader, key_named
 
 TYPE_CHECKING = False
 if TYPE_CHECKING:
+    from collections.abc import Container, Iterable
+
     from roam_live.config.parser import Value, Word
 
 # A file has so many bytes at most; so many are named by one another at most, and so many are read in all.
@@ -29,7 +30,7 @@ PREFIXED, ROOT = TABLES = ("prefix", "root")
 CONDITIONS = ("%if", "%elif", "%else", "%endif")
 
 
-class Binding(namedtuple("Binding", "commands repeats")):
+class Binding(NamedFields):
     """What a key asks for: commands, each a list of words, and whether it may come again without the prefix for a moment."""
 
     commands: list[list[str]]

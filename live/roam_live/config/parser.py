@@ -3,15 +3,15 @@ from __future__ import annotations
 
 import bisect
 import os
-from collections import namedtuple
-from collections.abc import Callable, Iterator
 
+from roam_live.common.named_fields import NamedFields
 from roam_live.common.text import printable
 from roam_live.config.environment import CLIPBOARD, MOST_ROWS, PREDICTION, PREFIXES
 from roam_live.input.key_names import named, named_key
 
 TYPE_CHECKING = False
 if TYPE_CHECKING:
+    from collections.abc import Callable, Iterator
     from typing import Union
 
     # What stands in a command: a text, or a block of commands between braces.
@@ -41,18 +41,18 @@ def bad_word(words: str, line: int) -> BadWord:
     return fault
 
 
-class Block(namedtuple("Block", "commands")):
+class Block(NamedFields):
     """Commands between braces."""
 
     commands: list[FileCommand]
 
 
-class FileCommand(namedtuple("FileCommand", "line words is_condition", defaults=(False,))):
+class FileCommand(NamedFields):
     """A command: the line at which it begins, and its words; or of a condition its word, which begins with `%`, and the rest."""
 
     line: int
     words: list[Word]
-    is_condition: bool
+    is_condition: bool = False
 
 
 class SettingsReader:

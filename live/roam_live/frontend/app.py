@@ -1,15 +1,13 @@
 """A person's front end of a session: a terminal connected to the session's client process, until the person leaves or the session ends."""
 from __future__ import annotations
 
-import functools
-import signal
 import time
-from collections.abc import Callable
 
 from roam_live.common.errors import all_done
 from roam_live.common.event_loop import Loop
 from roam_live.common.io import read
 from roam_live.common.process import unwoken, woken
+from roam_live.common.signals import signal
 from roam_live.config.environment import sets_clipboard, wants_mouse
 from roam_live.frontend.bindings import Keymap
 from roam_live.frontend.connection import PROBES, SIZES, Connecting
@@ -24,11 +22,13 @@ from roam_live.protocol.client_link import LAST_WAIT
 from roam_live.protocol.host_link import HostLink
 from roam_live.protocol.panes import KEYPAD, Places
 from roam_live.session.environment import environment_lines
-from roam_live.session.front_end_lock import locked_session
+from roam_live.session.front_end_lock import FrontEndLock
 from roam_live.session.host_watchdog import HostWatchdog
 
 TYPE_CHECKING = False
 if TYPE_CHECKING:
+    from collections.abc import Callable
+
     from roam_live.frontend.command_line import CommandRunner
     from roam_live.protocol.session_interface import AnySession
 
@@ -53,6 +53,7 @@ class FrontEnd:
         self.left: str | None = None
         self.left_at: float | None = None
         self.status = 0
+        self.command_runner: CommandRunner | None = None
         self.wakeup = woken(signal.SIGWINCH, signal.SIGCONT, signal.SIGTSTP, *LEAVING)
         self.watchdog = HostWatchdog(session, self.loop, lambda line: self.display.row.tell(line, LOSS_TOLD))
         self.display = Display(self.loop, lambda line: self.connection.say(line))
@@ -84,12 +85,14 @@ class FrontEnd:
         keyboard.enters, keyboard.runs = lambda text: self.runner.typed(text), lambda wish: self.runner.run_wish(wish)
         self.settings.all_commands, self.settings.runs = views.all_commands, lambda commands: self.runner.run_all(commands)
 
-    @functools.cached_property
+    @property
     def runner(self) -> CommandRunner:
         """Return what does commands, which is loaded as it is first used."""
-        from roam_live.frontend.command_line import CommandRunner
+        if not self.command_runner:
+            from roam_live.frontend.command_line import CommandRunner
 
-        return CommandRunner(self.keyboard, self.settings)
+            self.command_runner = CommandRunner(self.keyboard, self.settings)
+        return self.command_runner
 
     def values(self) -> dict[str, str]:
         """Return what the words of formats stand for."""
@@ -237,7 +240,7 @@ def follow(session: AnySession, is_read_only: bool, prefix: str, prediction: str
     there is room for its own status row."""
     try:
         has_mouse, has_clips = wants_mouse(), sets_clipboard()
-        with locked_session(session.common):
+        with FrontEndLock(session.common):
             return FrontEnd(session, is_read_only, prefix, prediction, is_new, is_whole=is_whole, has_mouse=has_mouse,
                             has_clips=has_clips).run()
     finally:

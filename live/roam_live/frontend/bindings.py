@@ -1,8 +1,6 @@
 """What keys mean behind the prefix, the keymap of a person who has bound others, and the list of keys."""
 from __future__ import annotations
 
-import functools
-
 from roam_live.config.environment import PREFIX, PREFIXES
 from roam_live.input.extended_keys import ANSWERED
 from roam_live.input.keys import ESCAPE, Key
@@ -65,10 +63,20 @@ def help_with(prefix: str) -> str:
     return "\n".join(lines).replace(PREFIX, prefix)
 
 
-@functools.lru_cache(maxsize=None)
+# What `defaults` returns, once it was asked for.
+DEFAULTS: dict[str, CommandWish] = {}
+
+
 def defaults() -> dict[str, CommandWish]:
     """Return what the keys behind the prefix ask for where nobody bound them otherwise, by the table of commands: acts, or wishes. An arrow
     is the wish to have the pane there in focus."""
+    if not DEFAULTS:
+        DEFAULTS.update(default_wishes())
+    return DEFAULTS
+
+
+def default_wishes() -> dict[str, CommandWish]:
+    """Return the same, looked up in the table."""
     from roam_live.config.command_table import DEFAULT_KEYS, asked_by
     from roam_live.input.key_names import named, named_key, typed_name
 

@@ -2,9 +2,8 @@
 which the sizes of their parts are reckoned."""
 from __future__ import annotations
 
-from collections import namedtuple
-
 from roam_live.common import tty
+from roam_live.common.named_fields import NamedFields
 from roam_live.protocol.panes import Rect
 
 # What a session, or a part of it, is made of: a pane, by its number, or two parts; and the rectangle that it fills.
@@ -15,7 +14,7 @@ LEAST = {"right": 4, "down": 2}
 MOST_GROWTH = 99
 
 
-class PaneSplit(namedtuple("PaneSplit", "way first second")):
+class PaneSplit(NamedFields):
     """Two parts beside one another (`right`), or one below the other (`down`)."""
 
     way: str
@@ -103,7 +102,7 @@ def least_of(parts: int | PaneSplit, way: str) -> int:
     return first + 1 + second if parts.way == way else max(first, second)
 
 
-class Border(namedtuple("Border", "way least most before behind leaves")):
+class Border(NamedFields):
     """A border, along which panes lie `right` or `down`: its least and its greatest column or row, a pane that touches it at either side,
     and the panes whose own split it is: whether it goes along with one that grows (1) or towards it (-1)."""
 
@@ -137,7 +136,7 @@ def border_at(rects: dict[int, Rect], row: int, col: int) -> Border | None:
     return None
 
 
-class Above(namedtuple("Above", "way is_first shift least_first least_second")):
+class Above(NamedFields):
     """A split above a pane: whether the pane is in its first part, how far its border is shifted from the middle, and how long both parts
     are at least."""
 

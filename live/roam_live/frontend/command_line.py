@@ -3,7 +3,6 @@ from __future__ import annotations
 
 import os
 from collections import deque
-from collections.abc import Callable
 
 from roam_live.common.errors import reason
 from roam_live.common.event_loop import Loop
@@ -19,6 +18,10 @@ from roam_live.frontend.settings import FrontSettings
 from roam_live.frontend.synchronize_panes import OPTION
 from roam_live.input.keys import Key, acts_of
 from roam_live.protocol.window_lines import name_word
+
+TYPE_CHECKING = False
+if TYPE_CHECKING:
+    from collections.abc import Callable
 
 # So many seconds a line stands that a command tells; so many lines that were typed are kept, each so long; and so many programs run at
 # once, of which so much is heard.

@@ -1,9 +1,6 @@
 """The parts of a front end that do what a person asks for in one window, and how they work together."""
 from __future__ import annotations
 
-import functools
-from collections.abc import Callable
-
 from roam_live.common import tty
 from roam_live.common.event_loop import Loop
 from roam_live.frontend.display import Display
@@ -26,6 +23,8 @@ from roam_live.protocol.panes_client import PanesSubscriber
 
 TYPE_CHECKING = False
 if TYPE_CHECKING:
+    from collections.abc import Callable
+
     from roam_live.frontend.copymode.controller import Copying
     from roam_live.frontend.interfaces import OtherWindows
     from roam_live.frontend.resize_keys import BorderKeys
@@ -61,9 +60,10 @@ class Commands:
         self.left_zoom = LeftZoom(acts, self.size, self.zooming.is_on, lambda: self.follower.mend(is_late=True))
         self.follower = SizeFollower(acts, self.size, self.zooming, self.left_zoom, is_new)
         self.panes = PaneActions(acts, self.zooming, windows)
-        # Copy mode, and what moves borders by keys, once they were used here.
+        # Copy mode, what moves borders by keys, and what hands over commands, once they were used here.
         self.copy_mode: Copying | None = None
         self.border_mover: BorderKeys | None = None
+        self.spawner: Handing | None = None
         self.pointing = Pointing(acts, lambda: self.copying.pointing, self.is_copying, self.show_metadata,
                                  lambda place: windows().go_to_shown(place))
         self.lists = Lists(acts, self.is_copying)
@@ -77,12 +77,14 @@ class Commands:
 
     # ---- what is loaded as it is first used: few who attach wait for it
 
-    @functools.cached_property
+    @property
     def handing(self) -> Handing:
         """Return what hands over commands for new panes."""
-        from roam_live.frontend.spawn_commands import Handing
+        if not self.spawner:
+            from roam_live.frontend.spawn_commands import Handing
 
-        return Handing(self.acts, self.zooming, self.windows)
+            self.spawner = Handing(self.acts, self.zooming, self.windows)
+        return self.spawner
 
     @property
     def border_keys(self) -> BorderKeys:

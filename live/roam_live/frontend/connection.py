@@ -3,7 +3,6 @@ where lines that were typed aren't taken. While nothing else is to be done it im
 from __future__ import annotations
 
 import os
-from collections.abc import Callable
 
 from roam_live.common.event_loop import Loop
 from roam_live.frontend.bindings import NEWEST
@@ -12,6 +11,10 @@ from roam_live.frontend.modes import ScrollMode
 from roam_live.frontend.window_views import WindowViews
 from roam_live.protocol.client_link import ClientLink
 from roam_live.protocol.display_records import DisplayRecord
+
+TYPE_CHECKING = False
+if TYPE_CHECKING:
+    from collections.abc import Callable
 
 # What the modules of a front end import inside of functions, in an order in which none brings many others.
 MODULES = (

@@ -1,8 +1,6 @@
 """What a person's terminal shows: a part of a session as it is painted, or lines in place of it, and a line in the last row."""
 from __future__ import annotations
 
-from collections.abc import Callable
-
 from roam_live.common import tty
 from roam_live.common.event_loop import Loop
 from roam_live.common.text import printable
@@ -14,6 +12,10 @@ from roam_live.frontend.shown_part import ShownPart
 from roam_live.frontend.status_line import cut
 from roam_live.protocol.display_records import DisplayRecord
 from roam_live.protocol.panes import Rect
+
+TYPE_CHECKING = False
+if TYPE_CHECKING:
+    from collections.abc import Callable
 
 # A terminal that is drawn larger or smaller by hand is painted anew once in so many seconds at most.
 DRAWN = 0.05

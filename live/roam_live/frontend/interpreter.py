@@ -2,11 +2,10 @@
 from __future__ import annotations
 
 import os
-import signal
 import time
-from collections.abc import Callable
 
 from roam_live.common.event_loop import Loop
+from roam_live.common.signals import signal
 from roam_live.config.environment import ESCAPE_TIME, number_of
 from roam_live.config.user_file import OWN
 from roam_live.frontend import effects
@@ -26,6 +25,8 @@ from roam_live.protocol.window_lines import name_word
 
 TYPE_CHECKING = False
 if TYPE_CHECKING:
+    from collections.abc import Callable
+
     from roam_live.frontend.interfaces import OtherWindows
 
 # What comes among keys and the terminal reports.

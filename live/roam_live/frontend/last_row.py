@@ -1,8 +1,6 @@
 """The last row of a terminal: what a person is asked there, what is told, and else the panes and windows."""
 from __future__ import annotations
 
-from collections.abc import Callable
-
 from roam_live.common import tty
 from roam_live.common.event_loop import Loop
 from roam_live.config.styled_text import ROW_STYLE, Styled
@@ -11,6 +9,10 @@ from roam_live.frontend.shown_part import ShownPart
 from roam_live.frontend.sizes import NO_SIZE
 from roam_live.frontend.status_line import (ALL_PANES, BETWEEN, SYNCHRONIZED, ZOOMED, clipped, columns, fitted, label_at, row_text, said,
                                             tail)
+
+TYPE_CHECKING = False
+if TYPE_CHECKING:
+    from collections.abc import Callable
 
 # So many seconds a line stands in the last row.
 TOLD = 1.0

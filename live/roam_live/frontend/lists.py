@@ -2,8 +2,6 @@
 that are only read."""
 from __future__ import annotations
 
-from collections.abc import Callable
-
 from roam_live.common.text import printable
 from roam_live.frontend.bindings import Keymap
 from roam_live.frontend.effects import Effect, PasteBuffer, Perform
@@ -13,6 +11,10 @@ from roam_live.frontend.status_line import fitted
 from roam_live.frontend.window_acts import WindowActs
 from roam_live.protocol.panes import Rect
 from roam_live.protocol.scrollback_client import BufferNote
+
+TYPE_CHECKING = False
+if TYPE_CHECKING:
+    from collections.abc import Callable
 
 # So many seconds a line stands.
 TOLD = 2.0

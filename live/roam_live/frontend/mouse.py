@@ -2,8 +2,6 @@
 mouse itself."""
 from __future__ import annotations
 
-from collections.abc import Callable
-
 from roam_live.frontend.modes import ScrollMode
 from roam_live.frontend.window_acts import WindowActs
 from roam_live.input.mouse_reports import DOWN, UP, Clicks, MouseReport, is_wanted, report_of, sent, tracking_of
@@ -11,6 +9,8 @@ from roam_live.protocol.panes import Places, Rect
 
 TYPE_CHECKING = False
 if TYPE_CHECKING:
+    from collections.abc import Callable
+
     from roam_live.frontend.copymode.mouse import CopyPointing
     from roam_live.frontend.resize_keys import BorderDrag
 

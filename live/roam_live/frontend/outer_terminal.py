@@ -2,15 +2,15 @@
 cursor's shape of the pane in focus, which reports of the mouse it is asked for, and texts for its clipboard."""
 from __future__ import annotations
 
-import contextlib
 import os
-import signal
 import time
 
 from roam_live.common import tty
 from roam_live.common.errors import Fault
 from roam_live.common.event_loop import WRITE, ready
 from roam_live.common.io import write
+from roam_live.common.signals import signal
+from roam_live.common.suppress import suppress
 from roam_live.common.text import printable
 from roam_live.config.environment import wants_extended_keys
 from roam_live.input.extended_keys import QUERY, WANTED, answered, given_back
@@ -168,7 +168,7 @@ class OuterTerminal:
         had."""
         if not self.is_known:
             self.is_known = True
-            with contextlib.suppress(OSError):
+            with suppress(OSError):
                 self.known = tty.size_of(0)
         return self.known
 

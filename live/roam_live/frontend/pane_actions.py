@@ -1,8 +1,6 @@
 """What a person does with panes: splits and closes one, and puts another in focus."""
 from __future__ import annotations
 
-from collections.abc import Callable
-
 from roam_live.frontend.effects import ClosePane
 from roam_live.frontend.window_acts import WindowActs
 from roam_live.frontend.zoom import Zooming
@@ -10,6 +8,8 @@ from roam_live.session.foreground import told
 
 TYPE_CHECKING = False
 if TYPE_CHECKING:
+    from collections.abc import Callable
+
     from roam_live.frontend.interfaces import OtherWindows
 
 # What is told where no pane is known that was in focus before.

@@ -1,9 +1,6 @@
 """What a person pastes, which is kept until its end, and what is typed behind it."""
 from __future__ import annotations
 
-from collections import deque
-from collections.abc import Callable, Iterable, Sequence
-
 from roam_live.common.event_loop import Loop
 from roam_live.input.keys import pasted_acts
 from roam_live.protocol.client_link import TYPES, ClientLink
@@ -12,6 +9,10 @@ from roam_live.protocol.host_link import LATER, NO_HOST
 from roam_live.protocol.panes import MOVES
 from roam_live.protocol.panes_client import PanesSubscriber
 from roam_live.protocol.paste_text import INSERTED, LOST, MOST_BYTES, STORED, cleaned, placeholder_acts, placeholder_in, random_name
+
+TYPE_CHECKING = False
+if TYPE_CHECKING:
+    from collections.abc import Callable, Iterable, Sequence
 
 # A paste of so many characters at most is typed as acts.
 SHORT = 40
@@ -101,7 +102,7 @@ class Pastes:
     def __init__(self, link: ClientLink, host: HostClient, loop: Loop, tells: Callable[[str], object],
                  is_cut: Callable[[], object]) -> None:
         self.link, self.host, self.loop, self.tells, self.is_cut = link, host, loop, tells, is_cut
-        self.waiting: deque[Behind | Paste] = deque()
+        self.waiting: list[Behind | Paste] = []
         # How many acts wait among them.
         self.behind = 0
         # Until when keys are dropped since a paste wasn't typed, and why that wasn't.
@@ -207,7 +208,7 @@ class Pastes:
 
     def wait_for(self, waiting: Sequence[Behind | Paste]) -> None:
         """Has these wait, and no others."""
-        self.waiting = deque(waiting)
+        self.waiting = list(waiting)
         self.behind = sum(len(one.acts) for one in waiting if isinstance(one, Behind))
 
     def cancel(self, paste: Paste) -> None:
@@ -305,7 +306,7 @@ class Pastes:
                 self.link.say(first.line())
             else:
                 return
-            self.waiting.popleft()
+            del self.waiting[0]
 
     def is_full(self) -> bool:
         """Whether so much waits behind a paste that no more keys are to come."""

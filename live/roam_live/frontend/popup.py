@@ -1,8 +1,11 @@
 """What a front end draws itself over a part of what is painted, under a mask, so that no painting writes there; with its own cursor."""
 from __future__ import annotations
-from collections.abc import Callable, Iterable
 
 from roam_live.protocol.panes import Rect
+
+TYPE_CHECKING = False
+if TYPE_CHECKING:
+    from collections.abc import Callable, Iterable
 
 # The cursor and its style are kept as a painting left them, and are brought back before the next (DECSC, DECRC).
 KEPT, BACK = b"\x1b7", b"\x1b8"

@@ -2,13 +2,16 @@
 from __future__ import annotations
 
 from collections import deque
-from collections.abc import Callable
 
 from roam_live.frontend.borders import MOST_GROWTH, Border, Evened, begin_of, border_at, end_of, is_told_by_numbers, splits_of
 from roam_live.frontend.session_size import SessionSize
 from roam_live.frontend.window_acts import WindowActs
 from roam_live.frontend.zoom import FOCUS_WAIT, Zooming
 from roam_live.protocol.panes import BESIDE, Places, Rect
+
+TYPE_CHECKING = False
+if TYPE_CHECKING:
+    from collections.abc import Callable
 
 # So many keys wait at most until the session has its size again; and even shares take so many lines of acts at most, each once what comes
 # of the one before is told.

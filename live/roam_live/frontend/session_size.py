@@ -1,12 +1,14 @@
 """The size of a window's session, as one terminal asks for it, and whom it follows."""
 from __future__ import annotations
 
-from collections.abc import Callable
-
 from roam_live.common import tty
 from roam_live.frontend import sizes
 from roam_live.frontend.sizes import NO_SIZE
 from roam_live.frontend.window_acts import WindowActs
+
+TYPE_CHECKING = False
+if TYPE_CHECKING:
+    from collections.abc import Callable
 
 # So many seconds a line stands that tells how the session is made as large as the terminal, or why it isn't.
 FITS_TOLD = 3.0

@@ -4,7 +4,6 @@ from __future__ import annotations
 
 import os
 import time
-from collections.abc import Callable
 
 from roam_live.common.errors import Fault
 from roam_live.common.event_loop import Loop
@@ -20,6 +19,8 @@ from roam_live.protocol.panes_client import PanesSubscriber
 
 TYPE_CHECKING = False
 if TYPE_CHECKING:
+    from collections.abc import Callable
+
     from roam_live.config.formats import Format
 
 OPTIONS = ("status-left", "status-right")

@@ -1,8 +1,6 @@
 """Which part of a session a terminal shows, as it is asked of the client process."""
 from __future__ import annotations
 
-from collections.abc import Callable
-
 from roam_live.common import tty
 from roam_live.common.event_loop import Loop
 from roam_live.frontend import sizes
@@ -10,6 +8,10 @@ from roam_live.frontend.outer_terminal import OuterTerminal
 from roam_live.frontend.popup import Popup
 from roam_live.frontend.sizes import NO_SIZE, has_all
 from roam_live.protocol.panes import Rect
+
+TYPE_CHECKING = False
+if TYPE_CHECKING:
+    from collections.abc import Callable
 
 # A part that the client chose over an earlier screen is asked for again after so many seconds, and after twice as many each time, until it
 # has the new one.

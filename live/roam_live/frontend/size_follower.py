@@ -2,7 +2,6 @@
 from __future__ import annotations
 
 import time
-from collections.abc import Callable
 
 from roam_live.common import tty
 from roam_live.config.environment import follows_latest
@@ -12,6 +11,10 @@ from roam_live.frontend.sizes import NO_SIZE
 from roam_live.frontend.window_acts import WindowActs
 from roam_live.frontend.zoom import LeftZoom, Zooming
 from roam_live.protocol.panes import Places
+
+TYPE_CHECKING = False
+if TYPE_CHECKING:
+    from collections.abc import Callable
 
 # So many seconds later it is looked again whether the panes are told, before the session is fitted to the terminal.
 FITS_AGAIN = 0.3

@@ -2,8 +2,6 @@
 attach need it, so it is imported as it is first used."""
 from __future__ import annotations
 
-from collections.abc import Callable
-
 from roam_live.common.text import printable
 from roam_live.config.command_table import BadCommand
 from roam_live.frontend.window_acts import WindowActs
@@ -13,6 +11,8 @@ from roam_live.protocol.spawn_request import LATE, RAN, READY, REFUSED, WAITS, B
 
 TYPE_CHECKING = False
 if TYPE_CHECKING:
+    from collections.abc import Callable
+
     from roam_live.frontend.interfaces import OtherWindows
 
 NOBODY = "not run: the pty host isn't there just now"

@@ -2,15 +2,16 @@
 had it gets it back."""
 from __future__ import annotations
 
-from collections.abc import Callable
-from functools import partial
-
 from roam_live.config.environment import text_of
 from roam_live.frontend.status_line import ALL_PANES
 from roam_live.frontend.window_acts import WindowActs
 
-# What a key types in a pane.
-Typed = Callable[[int], list[str]]
+TYPE_CHECKING = False
+if TYPE_CHECKING:
+    from collections.abc import Callable
+
+    # What a key types in a pane.
+    Typed = Callable[[int], list[str]]
 
 # The option, by tmux's name.
 OPTION = "synchronize-panes"
@@ -147,7 +148,8 @@ class Synchronizing:
 
     def add(self, acts: list[str]) -> None:
         """Acts of a key are typed, or of many."""
-        self.keys += [partial(part, acts[begin : begin + MOST_OF_KEY]) for begin in range(0, len(acts), MOST_OF_KEY)]
+        for begin in range(0, len(acts), MOST_OF_KEY):
+            self.keys.append(lambda pane, some=acts[begin : begin + MOST_OF_KEY]: part(some, pane))
 
     def settle(self, is_last: bool = False) -> None:
         """Types the keys that were typed; while it isn't told where the focus is they wait, but for the last time to wait."""

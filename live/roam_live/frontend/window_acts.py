@@ -1,8 +1,6 @@
 """What one person types in a window, in the order in which it is typed, and which pane is in focus by that."""
 from __future__ import annotations
 
-from collections.abc import Callable
-
 from roam_live.common.event_loop import Loop
 from roam_live.frontend.bindings import NEWEST
 from roam_live.frontend.display import Display
@@ -17,6 +15,8 @@ from roam_live.protocol.panes_client import PanesSubscriber
 
 TYPE_CHECKING = False
 if TYPE_CHECKING:
+    from collections.abc import Callable
+
     from roam_live.protocol.session_interface import AnySession
 
 # So many seconds a line stands that tells what became of a paste.

@@ -3,7 +3,6 @@ that was typed there."""
 from __future__ import annotations
 
 import os
-from collections.abc import Callable
 
 from roam_live.common import tty
 from roam_live.common.errors import Fault
@@ -22,6 +21,8 @@ from roam_live.protocol.panes_client import AWAITED, PanesSubscriber
 
 TYPE_CHECKING = False
 if TYPE_CHECKING:
+    from collections.abc import Callable
+
     from roam_live.protocol.session_interface import AnySession
 
 # So many seconds a line stands that tells what a person has lost.

@@ -2,12 +2,9 @@
 asked of the host, and what is typed for a window that isn't there yet."""
 from __future__ import annotations
 
-import contextlib
-import re
-from collections.abc import Callable
-
 from roam_live.common.errors import Fault, reason
-from roam_live.common.text import printable
+from roam_live.common.suppress import suppress
+from roam_live.common.text import decimal_in, printable
 from roam_live.common.tty import LEAST, is_large_enough, largest
 from roam_live.frontend.effects import SendRequest
 from roam_live.frontend.line_editor import AskedLine
@@ -18,8 +15,12 @@ from roam_live.input.keys import INTERRUPT, Key
 from roam_live.input.mouse_reports import MOUSE
 from roam_live.protocol.host_lines import SESSION
 from roam_live.protocol.host_link import HostLink
-from roam_live.protocol.window_lines import BELL, LONGEST_BYTES, LONGEST_NAME, MOST_WINDOWS
+from roam_live.protocol.window_lines import BELL, LONGEST_BYTES, LONGEST_NAME, MOST_WINDOWS, OPENED
 from roam_live.session.foreground import told
+
+TYPE_CHECKING = False
+if TYPE_CHECKING:
+    from collections.abc import Callable
 
 # So many seconds a window has until it is opened, so often it is looked whether it is there, and after so many a person is told that it
 # takes long: what is typed meanwhile is for it, so many keys and characters at most.
@@ -186,8 +187,21 @@ class WindowOpening:
         return len(self.held) >= MOST_KEYS or self.held_size >= MOST_TEXT
 
 
-# What is told to who had a window opened.
-OPENED = r"opened (?:(?P<window>[1-9]\d?)|none (?P<why>.{1,200}))"
+# The most characters of why no window was opened.
+LONGEST_WHY = 200
+
+
+def opened_by(line: str) -> tuple[int, str] | None:
+    """Return the window that a line reports as opened for this terminal, or 0 and why none was; None if it is another line."""
+    word, _, rest = line.partition(" ")
+    if word != OPENED:
+        return None
+    if rest.startswith("none "):
+        why = rest[len("none ") :]
+        return (0, printable(why)) if 0 < len(why) <= LONGEST_WHY else None
+    number = decimal_in(rest, MOST_WINDOWS)
+    return (number, "") if number else None
+
 
 ONE = "no other window can be had here"
 FAR = f"{ONE}: the session there was begun by hand"
@@ -235,7 +249,7 @@ class WindowWishes:
         """The numbers of the windows; by the session's folder while nobody tells them."""
         if self.told.is_whole:
             return self.told.numbers()
-        with contextlib.suppress(Fault):
+        with suppress(Fault):
             return [window.number for window in self.views.acts.session.windows() if window.number]
         # They can't be asked now.
         return [self.here()]
@@ -267,9 +281,9 @@ class WindowWishes:
         """Takes what the host told."""
         self.waiting.say_unsaid()
         for line in lines:
-            opened = re.fullmatch(OPENED, line, re.ASCII)
+            opened = opened_by(line)
             if opened:
-                self.waiting.opened(int(opened["window"] or 0), printable(opened["why"] or ""))
+                self.waiting.opened(*opened)
                 continue
             gone = self.told.take(line)
             if gone is not None and line.startswith(f"{BELL} ") and not line.startswith(f"{BELL} {self.here()} "):

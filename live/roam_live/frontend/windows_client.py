@@ -2,15 +2,13 @@
 there, and where something happened."""
 from __future__ import annotations
 
-import re
-
-from roam_live.common.text import printable
+from roam_live.common.text import decimal_in, printable
 from roam_live.frontend.status_line import cut, window_label
-from roam_live.protocol.window_lines import LONGEST_NAME, name_in
+from roam_live.protocol.panes import is_pane
+from roam_live.protocol.window_lines import ACTIVITY, BELL, GONE, LONGEST_NAME, MOST_WINDOWS, NO_NAME, RUNS, WINDOW, WINDOWS, name_in
 
-# What is told of the windows to who asked for them: it may be told from another machine.
-TOLD = (r"window (?P<window>[1-9]\d?) (?P<name>-|(?:[0-9a-f]{2}){1,256})|gone (?P<gone>[1-9]\d?)|windows (?P<count>\d{1,2})"
-        r"|bell (?P<bell>[1-9]\d?) [1-9]|activity (?P<activity>[1-9]\d?)|runs (?P<runs>[1-9]\d?) (?P<program>.{1,255})")
+# The longest name of a window, in hexadecimal digits, and of a program, in characters, that is taken: it may be told from another machine.
+LONGEST_WORD, LONGEST_PROGRAM = 512, 255
 
 # So many columns of a name stand in the last row, and so many of what runs in a window.
 MOST_COLUMNS = 24
@@ -39,23 +37,45 @@ class WindowsState:
 
     def take(self, line: str) -> list[int] | None:
         """Takes a line, and tells which windows are gone by it; None where it can be none of these."""
-        found = re.fullmatch(TOLD, line, re.ASCII)
-        if not found:
+        word, _, rest = line.partition(" ")
+        first, _, more = rest.partition(" ")
+        if word == WINDOWS:
+            return self.take_count(rest)
+        number = decimal_in(first, MOST_WINDOWS) or 0
+        if not number:
             return None
-        word = found.lastgroup if found.lastgroup != "program" else "runs"
-        number = int(found[word]) if word and word != "name" else int(found["window"])
-        if word == "name":
-            self.names[number] = name_in(found["name"]) or ""
-            self.anew.add(number)
-        elif word == "gone":
+        if word == WINDOW:
+            return self.take_name(number, more)
+        if word == RUNS:
+            return self.take_program(number, more)
+        if word == GONE and not more:
             return self.forget({number})
-        elif word == "count":
-            self.is_whole = True
-            return self.forget(set(self.names) - self.anew)
-        elif word == "runs":
-            self.runs[number] = printable(found["program"])[:LONGEST_NAME]
-        else:
-            (self.rung if word == "bell" else self.wrote).add(number)
+        if word == BELL and is_pane(more) or word == ACTIVITY and rest == first:
+            (self.rung if word == BELL else self.wrote).add(number)
+            return []
+        return None
+
+    def take_count(self, count: str) -> list[int] | None:
+        """Take how many windows there are, behind all of them."""
+        if not (count.isascii() and count.isdigit() and len(count) <= len(str(MOST_WINDOWS))):
+            return None
+        self.is_whole = True
+        return self.forget(set(self.names) - self.anew)
+
+    def take_name(self, number: int, word: str) -> list[int] | None:
+        """Take a window and its name."""
+        is_hexadecimal = 0 < len(word) <= LONGEST_WORD and len(word) % 2 == 0 and not word.strip("0123456789abcdef")
+        if word != NO_NAME and not is_hexadecimal:
+            return None
+        self.names[number] = name_in(word) or ""
+        self.anew.add(number)
+        return []
+
+    def take_program(self, number: int, program: str) -> list[int] | None:
+        """Take what runs in a window."""
+        if not 0 < len(program) <= LONGEST_PROGRAM or "\n" in program:
+            return None
+        self.runs[number] = printable(program)[:LONGEST_NAME]
         return []
 
     def forget(self, numbers: set[int]) -> list[int]:

@@ -2,8 +2,6 @@
 back that it had."""
 from __future__ import annotations
 
-from collections.abc import Callable
-
 from roam_live.common import tty
 from roam_live.frontend import sizes
 from roam_live.frontend.session_size import SessionSize
@@ -11,6 +9,10 @@ from roam_live.frontend.sizes import NO_SIZE, places_at
 from roam_live.frontend.window_acts import WindowActs
 from roam_live.protocol.panes import Places, Rect
 from roam_live.protocol.zoom_record import LEFT, ZoomNote
+
+TYPE_CHECKING = False
+if TYPE_CHECKING:
+    from collections.abc import Callable
 
 # So many seconds after a larger size was taken, of which nothing is told, it was refused.
 REFUSES = 2.5

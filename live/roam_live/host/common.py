@@ -2,13 +2,13 @@
 from __future__ import annotations
 
 import contextlib
-import signal
 from collections.abc import Callable
 
 from roam_live.common.errors import reason, say
 from roam_live.common.event_loop import Loop
 from roam_live.common.fault_log import FaultLog
 from roam_live.common.io import read
+from roam_live.common.signals import signal
 from roam_live.host.options import Spare, has_ended
 from roam_live.host.scrollback import Scrollback, pane_of_key
 from roam_live.host.socket_server import HostSocket

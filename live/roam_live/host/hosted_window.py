@@ -5,7 +5,6 @@ from __future__ import annotations
 import contextlib
 import json
 import os
-import socket
 from collections.abc import Callable
 
 from roam_live.common.errors import reason, say
@@ -14,7 +13,7 @@ from roam_live.common.io import read
 from roam_live.common.process import begun, end_words, is_running
 from roam_live.common.spawn import forked_apart
 from roam_live.common.tty import size_act
-from roam_live.common.unix_socket import SocketPeer, connected_now
+from roam_live.common.unix_socket import SHUT_WR, SocketPeer, connected_now
 from roam_live.host.window import WindowHost
 from roam_live.protocol.window_lines import NO_NAME, name_in, name_word
 from roam_live.session.foreground import PANE
@@ -24,6 +23,8 @@ from roam_live.session.roles import CLIENT, ROLES, SERVER, client_words, server_
 
 TYPE_CHECKING = False
 if TYPE_CHECKING:
+    import socket
+
     from typing import NoReturn
 
     from roam_live.common.event_loop import Loop
@@ -77,7 +78,7 @@ class SizeAct:
         loop.later(self.name, OPENS, self.close)
         try:
             peer.send(f"{size_act(size)}\n".encode())
-            peer.shutdown(socket.SHUT_WR)
+            peer.shutdown(SHUT_WR)
         except OSError:
             self.close()
 

@@ -1,18 +1,18 @@
 """What is typed into a pane and waits for its programs: bytes, and texts at the places of their placeholders."""
 from __future__ import annotations
 
-import re
 from collections import deque
 from collections.abc import Callable
 
 from roam_live.common.io import UNREAD_LIMIT, keep, write
+from roam_live.common.patterns import LazyPattern
 from roam_live.host.state import PendingPaste
 from roam_live.host.uploads import PendingPastes
 from roam_live.protocol.paste_text import CLOSES
 
 # A placeholder: APC, a name and ST, in their forms of U+009F and U+009C, in UTF-8; and the beginning of one at the end of what came.
-PLACEHOLDER = re.compile(rb"\xc2\x9f([0-9a-f]{16})\xc2\x9c")
-BEGUN = re.compile(rb"\xc2(?:\x9f(?:[0-9a-f]{0,16}|[0-9a-f]{16}\xc2))?\Z")
+PLACEHOLDER = LazyPattern(rb"\xc2\x9f([0-9a-f]{16})\xc2\x9c")
+BEGUN = LazyPattern(rb"\xc2(?:\x9f(?:[0-9a-f]{0,16}|[0-9a-f]{16}\xc2))?\Z")
 LONGEST_BEGUN = 19
 
 INTERRUPT = b"\x03"

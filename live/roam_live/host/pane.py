@@ -5,8 +5,6 @@ import contextlib
 import fcntl
 import math
 import os
-import signal
-import socket
 import struct
 import termios
 from collections.abc import Callable
@@ -16,12 +14,17 @@ from roam_live.common.errors import reason, say
 from roam_live.common.event_loop import Loop, always, comes
 from roam_live.common.fault_log import SoonFaults
 from roam_live.common.io import UNREAD_LIMIT, read, write
-from roam_live.common.unix_socket import connected_now
+from roam_live.common.signals import signal
+from roam_live.common.unix_socket import SO_SNDBUF, SOL_SOCKET, connected_now
 from roam_live.host.input_queue import TypedQueue
 from roam_live.host.options import Options, entered, surroundings
 from roam_live.host.state import PaneState
 from roam_live.session.environment import PaneEnvironment
 from roam_live.session.foreground import group_in_front
+
+TYPE_CHECKING = False
+if TYPE_CHECKING:
+    import socket
 
 # How many bytes may wait for a pane; no more of the command's are read then. What waits here and in the socket is what is still shown
 # of a command that has been interrupted, so it is little.
@@ -95,7 +98,7 @@ class PaneCommand:
     def connect(self, look: Callable[[], object]) -> None:
         """Connects to the pane; a call is for when it can be looked whether the server reads what is written."""
         self.peer = connected_now(self.path)
-        self.peer.setsockopt(socket.SOL_SOCKET, socket.SO_SNDBUF, SOCKET_LIMIT)
+        self.peer.setsockopt(SOL_SOCKET, SO_SNDBUF, SOCKET_LIMIT)
         self.is_connected = True
         # What is typed is read whatever waits: a command that doesn't read would stop the server else.
         self.loop.add(self.peer, self.hear, self.write_pane, has_more=lambda: self.to_pane, fails=self.fail, is_told=True)

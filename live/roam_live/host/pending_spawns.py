@@ -2,10 +2,10 @@
 from __future__ import annotations
 
 import os
-from collections import namedtuple
 from collections.abc import Callable
 
 from roam_live.common.event_loop import Loop
+from roam_live.common.named_fields import NamedFields
 from roam_live.protocol.spawn_request import DONE, LATE, MOST_BYTES, RAN, READY, REFUSED, TOO_LONG, WAITS, unpacked
 
 TYPE_CHECKING = False
@@ -22,7 +22,7 @@ NO_PANE = "the pane isn't there"
 BAD = "its words can't be read"
 
 
-class Handed(namedtuple("Handed", "peer begins pane rects")):
+class Handed(NamedFields):
     """What was handed over: by whom, what, beside which pane, 0 for a window, and where that was and is."""
 
     peer: HostPeer

@@ -4,12 +4,12 @@ from __future__ import annotations
 import contextlib
 import fcntl
 import os
-import signal
-from collections import namedtuple
 from collections.abc import Callable
 
 from roam_live.common.event_loop import Loop, always
 from roam_live.common.io import read, write
+from roam_live.common.named_fields import NamedFields
+from roam_live.common.signals import signal
 from roam_live.common.text import one_line
 from roam_live.session.foreground import PANE
 
@@ -47,7 +47,7 @@ class BadRecord(Exception):
     """What the scrollback process printed is no record."""
 
 
-class ScrollbackRecord(namedtuple("ScrollbackRecord", "word terminal count data")):
+class ScrollbackRecord(NamedFields):
     """What the scrollback process prints of a terminal: how many rows, and their bytes."""
 
     word: str

@@ -1,8 +1,6 @@
 """Who is connected to the socket `host` of the pty host of a session, and a text that comes from one."""
 from __future__ import annotations
 
-import socket
-
 from roam_live.common.io import LinePeer, LineReader
 from roam_live.protocol.host_lines import LONGEST_HOST_LINE
 from roam_live.protocol.presence import CLIENT, GONE, OTHERS, THERE, Presence
@@ -10,6 +8,8 @@ from roam_live.protocol.zoom_record import NO_ZOOM
 
 TYPE_CHECKING = False
 if TYPE_CHECKING:
+    import socket
+
     from roam_live.host.scrollback_queries import RowAsker
     from roam_live.host.window_channel import WindowChannel
 

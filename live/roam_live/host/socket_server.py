@@ -6,12 +6,11 @@ numbers, 0 is that window.
 from __future__ import annotations
 
 import os
-import re
-import socket
 
 from roam_live.common.errors import Fault, reason, say
 from roam_live.common.event_loop import Loop
 from roam_live.common.io import LongLine, read
+from roam_live.common.patterns import LazyPattern
 from roam_live.common.unix_socket import Listener
 from roam_live.host.scrollback_queries import RowAsker
 from roam_live.host.socket_peer import HostPeer, client_line
@@ -25,6 +24,8 @@ from roam_live.session.environment import PaneEnvironment
 
 TYPE_CHECKING = False
 if TYPE_CHECKING:
+    import socket
+
     from roam_live.host.scrollback import Scrollback
     from roam_live.host.scrollback_store import PaneRows
     from roam_live.host.window_channel import WindowChannel
@@ -47,7 +48,7 @@ RECONNECTS = 4.0
 ROWS_DUE = "rows are asked for"
 
 # How one asks which terminals are there, and has one of them told to leave.
-LEAVES = re.compile(r"leave (\d{1,9})", re.ASCII)
+LEAVES = LazyPattern(r"(?a)leave (\d{1,9})")
 
 
 class HostSocket:

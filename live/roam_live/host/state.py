@@ -5,8 +5,7 @@ waits for a connection, as a command that was handed over for a new pane, ends w
 """
 from __future__ import annotations
 
-import re
-
+from roam_live.common.patterns import LazyPattern
 from roam_live.common.record import (StateRecord, bytes_of, decimal, field, flag, list_of, map_of, nothing, number_from, one_of, optional,
                                      read_back, record_of, row_of, text_of)
 from roam_live.common.tty import MOST
@@ -32,7 +31,7 @@ MOST_STATE = 1 << 27
 LONGEST_PATH, LONGEST_WORD, MOST_WORDS, LONGEST_PROGRAM, LONGEST_COLOUR = 4096, 1 << 17, 1 << 16, 64, 14
 MOST_GENERATION, MOST_PROCESS, MOST_TICKS, MOST_NUMBER = 10**19, 1 << 31, 1 << 63, 1 << 53
 
-PASTE_NAME = re.compile(r"[0-9a-f]{16}")
+PASTE_NAME = LazyPattern(r"[0-9a-f]{16}")
 
 
 def has_no_nul(words: str) -> bool:

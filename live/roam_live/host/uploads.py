@@ -1,10 +1,10 @@
 """What connections give the pty host: texts that are pasted, buffers, and commands for new panes, each with its bytes behind a line."""
 from __future__ import annotations
 
-import re
 from collections.abc import Callable
 
 from roam_live.common.event_loop import Loop
+from roam_live.common.patterns import LazyPattern
 from roam_live.host.socket_peer import HostPeer, Upload
 from roam_live.host.state import PendingPaste, SessionState
 from roam_live.protocol.host_lines import SESSION, led
@@ -18,12 +18,12 @@ if TYPE_CHECKING:
     from roam_live.host.socket_server import HostSocket
 
 # How one gives a text, whose bytes follow, and asks for one that it gave.
-PASTE = re.compile(r"paste ([0-9a-f]{16}) ([1-9]\d{0,8})( plain)?", re.ASCII)
-STATUS = re.compile(r"status ([0-9a-f]{16})", re.ASCII)
+PASTE = LazyPattern(r"(?a)paste ([0-9a-f]{16}) ([1-9]\d{0,8})( plain)?")
+STATUS = LazyPattern(r"(?a)status ([0-9a-f]{16})")
 
 # How one gives a buffer, has one kept, whose bytes follow, and asks for one, or for all.
-PASTE_BUFFER = re.compile(r"paste ([0-9a-f]{16}) buffer (\d{1,9})", re.ASCII)
-BUFFER = re.compile(r"buffer (add|show) (\d{1,9})", re.ASCII)
+PASTE_BUFFER = LazyPattern(r"(?a)paste ([0-9a-f]{16}) buffer (\d{1,9})")
+BUFFER = LazyPattern(r"(?a)buffer (add|show) (\d{1,9})")
 BUFFER_LIST = "buffer list"
 
 

@@ -4,13 +4,12 @@ from __future__ import annotations
 import contextlib
 import functools
 import os
-import signal
-import socket
 import time
 from collections.abc import Callable
 
 from roam_live.common.errors import Fault, reason, say
 from roam_live.common.process import begun, is_running, note_end
+from roam_live.common.signals import signal
 from roam_live.host.common import Common
 from roam_live.host.foreground_watch import Fronts
 from roam_live.host.input_queue import TypedQueue
@@ -28,6 +27,8 @@ from roam_live.session.tmp_keepalive import Lasting
 
 TYPE_CHECKING = False
 if TYPE_CHECKING:
+    import socket
+
     from roam_live.common.tty import Size
     from roam_live.protocol.spawn_request import Begins
 

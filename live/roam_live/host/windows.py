@@ -4,11 +4,11 @@ from __future__ import annotations
 import contextlib
 import functools
 import os
-import signal
 from collections.abc import Callable
 
 from roam_live.common.errors import Fault, reason, say
 from roam_live.common.files import replace_text
+from roam_live.common.signals import signal
 from roam_live.common.tty import LEAST
 from roam_live.common.unix_socket import connected_now
 from roam_live.host.common import Common

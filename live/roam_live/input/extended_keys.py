@@ -2,8 +2,8 @@
 what it sent for each before, and in which form a pane's program is sent them that asked for the same."""
 from __future__ import annotations
 
-import re
-from collections import namedtuple
+from roam_live.common.named_fields import NamedFields
+from roam_live.common.patterns import LazyPattern
 
 # What is held with a key, and what each counts for in the parameter of a sequence; and what is no part of a key here, as Num Lock.
 SHIFT, META, CONTROL = 1, 2, 4
@@ -15,10 +15,10 @@ QUERY, WANTED = b"\x1b[?4m", b"\x1b[>4;2m"
 # What an answer is called among the keys, how one begins, which no key does, and all of one.
 ANSWERED = "answered"
 BEGIN = "\x1b[>"
-ANSWER = r"\x1b\[>4(?:;([0-3]?))?m"
+ANSWER = LazyPattern(r"(?a)\x1b\[>4(?:;([0-3]?))?m")
 
 # A key in that form, and in the other that a person may have chosen for a terminal (formatOtherKeys).
-FORM = r"\x1b\[27;(\d{1,3});(\d{1,7})~|\x1b\[(\d{1,7});(\d{1,3})u"
+FORM = LazyPattern(r"(?a)\x1b\[27;(\d{1,3});(\d{1,7})~|\x1b\[(\d{1,7});(\d{1,3})u")
 
 # The keys that are no characters, by the codes that they have there.
 ENTER, TAB, ESCAPE, SPACE = 13, 9, 27, 32
@@ -33,7 +33,7 @@ BACK_TAB = "\x1b[Z"
 SOME, ALL = "keys1", "keys2"
 
 
-class ExtendedKey(namedtuple("ExtendedKey", "held code")):
+class ExtendedKey(NamedFields):
     """A key with what is held: the sum of that, and the code of its character, which Shift has changed already."""
 
     held: int
@@ -85,7 +85,7 @@ def controlled(letter: str) -> str:
 
 def extended_key(text: str) -> ExtendedKey | None:
     """The key that a sequence tells; None where it tells none."""
-    found = re.fullmatch(FORM, text, re.ASCII)
+    found = FORM.fullmatch(text)
     if not found:
         return None
     held, code = (int(found[1]) - 1, int(found[2])) if found[1] else (int(found[4]) - 1, int(found[3]))
@@ -101,7 +101,7 @@ def extended_key(text: str) -> ExtendedKey | None:
 
 def answered(text: str) -> int | None:
     """How a terminal told such keys before, by an answer: 0 where it didn't; None where it is no answer."""
-    found = re.fullmatch(ANSWER, text, re.ASCII)
+    found = ANSWER.fullmatch(text)
     return int(found[1] or 0) if found else None
 
 

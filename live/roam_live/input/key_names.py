@@ -1,8 +1,7 @@
 """Keys by the names that tmux has for them (tmux(1), key bindings), as `C-c`, `M-Left`, `Enter` and `F5`, and the acts that type them."""
 from __future__ import annotations
 
-from collections import namedtuple
-
+from roam_live.common.named_fields import NamedFields
 from roam_live.common.text import printable
 from roam_live.input.keys import Key, acts_of
 
@@ -11,7 +10,7 @@ HELD = {"S": 1, "M": 2, "C": 4}
 SHIFT, META, CONTROL = HELD["S"], HELD["M"], HELD["C"]
 
 
-class NamedKey(namedtuple("NamedKey", "held name")):
+class NamedKey(NamedFields):
     """A key: what is held with it, as the sum of what `HELD` has, and its name, which of a character is itself."""
 
     held: int

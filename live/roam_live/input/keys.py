@@ -2,20 +2,24 @@
 from __future__ import annotations
 
 import codecs
-import re
-from collections import namedtuple
 
+from roam_live.common.named_fields import NamedFields
+from roam_live.common.patterns import LazyPattern
 from roam_live.input.extended_keys import ANSWERED, BEGIN as BEGINS_ANSWER, META, ExtendedKey, answered, extended_key
 from roam_live.input.mouse_reports import BEGIN, MOUSE
-from roam_live.protocol.colours import ANSWER, BEGINS, COLOUR, begun_at
+from roam_live.protocol.colours import BEGINS, COLOUR, FORM, begun_at
 
 
-class Key(namedtuple("Key", "name text extended", defaults=(None,))):
+class Key(NamedFields):
     """A key: its name, which of a character is itself, the text that terminals send for it, and what this one told of what is held."""
 
     name: str
     text: str
-    extended: ExtendedKey | None
+    extended: ExtendedKey | None = None
+
+    def __new__(cls, name: str, text: str, extended: ExtendedKey | None = None) -> Key:
+        # One is made for each key that is typed.
+        return tuple.__new__(cls, (name, text, extended))
 
 
 # The keys that have an act of their own: what a pane's program is sent for them hangs on its modes.
@@ -48,8 +52,8 @@ TYPED = {"\r": "key return", "\x7f": "key backspace"}
 ESCAPE = "\x1b"
 
 # A sequence, or a character; and the beginning of a sequence that more may follow.
-WHOLE = ANSWER.pattern + r"|\x1b\[\[[A-E]|\x1b\[[0-?]*[ -/]*[@-~]|\x1bO[ -~]|."
-BEGUN = r"\x1b(\[\[?|\[[0-?]+[ -/]*|O)?"
+WHOLE = LazyPattern(rf"(?as){FORM}|\x1b\[\[[A-E]|\x1b\[[0-?]*[ -/]*[@-~]|\x1bO[ -~]|.")
+BEGUN = LazyPattern(r"\x1b(\[\[?|\[[0-?]+[ -/]*|O)?")
 
 
 class Keys:
@@ -85,7 +89,7 @@ class Keys:
         """The keys of a text in which no paste begins; what may begin a sequence at its end waits."""
         answer = begun_at(text)
         cut = text.rfind("\x1b", max(0, len(text) - 32)) if answer is None else answer
-        is_cut = answer is not None or cut >= 0 and re.fullmatch(BEGUN, text[cut:]) is not None
+        is_cut = answer is not None or cut >= 0 and BEGUN.fullmatch(text[cut:]) is not None
         self.rest = text[cut:] if is_cut else ""
         return keys_in(text[:cut] if is_cut else text)
 
@@ -109,7 +113,7 @@ class Keys:
 def keys_in(text: str) -> list[Key]:
     """The keys of a text, and reports of the mouse and answers of the terminal among them; a sequence that isn't known has the name of
     none."""
-    return [key_of(found[0]) for found in re.finditer(WHOLE, text, re.DOTALL)]
+    return [key_of(found[0]) for found in WHOLE.finditer(text)]
 
 
 def key_of(text: str) -> Key:

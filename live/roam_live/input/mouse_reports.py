@@ -2,14 +2,14 @@
 it asked for."""
 from __future__ import annotations
 
-import re
-from collections import namedtuple
+from roam_live.common.named_fields import NamedFields
+from roam_live.common.patterns import LazyPattern
 
 # What a report is called among the keys; how one begins, which no key does, and all of it: the button and its marks, column, row, and
 # whether the button is held or was let go.
 MOUSE = "mouse"
 BEGIN = "\x1b[<"
-REPORT = r"\x1b\[<(\d{1,3});(\d{1,5});(\d{1,5})([Mm])"
+REPORT = LazyPattern(r"(?a)\x1b\[<(\d{1,3});(\d{1,5});(\d{1,5})([Mm])")
 
 # What is marked beside a button: the keys that are held, that it moves, and that it is one of the wheel or another further button.
 KEYS, MOVES, WHEEL, FURTHER = 0x1C, 0x20, 0x40, 0x80
@@ -35,7 +35,7 @@ OFF = b"\x1b[?1003l\x1b[?1002l\x1b[?1000l\x1b[?1006l"
 ASKED = {"": OFF, "drags": OFF + b"\x1b[?1002h\x1b[?1006h", "motion": OFF + b"\x1b[?1003h\x1b[?1006h"}
 
 
-class MouseReport(namedtuple("MouseReport", "button row col is_release")):
+class MouseReport(NamedFields):
     """A report: the button with its marks, the row and column, from 1, and whether the button was let go."""
 
     button: int
@@ -62,7 +62,7 @@ class MouseReport(namedtuple("MouseReport", "button row col is_release")):
 
 def report_of(text: str) -> MouseReport | None:
     """The report that a sequence is; None for another."""
-    found = re.fullmatch(REPORT, text, re.ASCII)
+    found = REPORT.fullmatch(text)
     return MouseReport(int(found[1]), int(found[3]), int(found[2]), found[4] == "m") if found else None
 
 

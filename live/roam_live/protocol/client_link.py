@@ -3,20 +3,21 @@ lost."""
 from __future__ import annotations
 
 import os
-import socket
 import time
-from collections.abc import Callable
 
 from roam_live.common.errors import Fault, reason
 from roam_live.common.event_loop import READ, WRITE, ready
 from roam_live.common.files import is_disk_full
 from roam_live.common.io import read
 from roam_live.common.retry import Retry
-from roam_live.common.unix_socket import SocketPeer, connected_now
+from roam_live.common.unix_socket import SHUT_WR, SocketPeer, connected_now
 from roam_live.protocol.display_records import NoRecord, Records
 
 TYPE_CHECKING = False
 if TYPE_CHECKING:
+    import socket
+    from collections.abc import Callable
+
     from roam_live.protocol.display_records import DisplayRecord
     from roam_live.protocol.session_interface import AnySession
 
@@ -255,7 +256,7 @@ class ClientLink:
         while not has_ended and time.monotonic() < end:
             if not has_said and not self.waiting:
                 has_said = True
-                self.end().shutdown(socket.SHUT_WR)
+                self.end().shutdown(SHUT_WR)
             has_ended = self.exchanged() is None
         self.close()
         return has_ended and not self.waiting

@@ -2,7 +2,8 @@
 them."""
 from __future__ import annotations
 
-import re
+from roam_live.common.patterns import LazyPattern
+
 
 # Which there are: that of text that has none of its own, and that behind text; and the numbers by which a terminal is asked (xterm, OSC 10
 # and 11).
@@ -15,8 +16,9 @@ ASKED = b"\x1b]10;?\x1b\\\x1b]11;?\x1b\\"
 # What an answer is called among the keys; all of one; and the beginning of one, at the end of what came, of which so many characters are
 # looked at. Once it has a number nothing else begins so.
 COLOUR = "colour"
-ANSWER = re.compile(r"\x1b\](1[01]);([rgba:0-9A-Fa-f/]{0,30})(?:\x07|\x1b\\)", re.ASCII)
-BEGUN = re.compile(r"\x1b\](?:1(?:[01](?:;[rgba:0-9A-Fa-f/]{0,30}\x1b?)?)?)?\Z", re.ASCII)
+FORM = r"\x1b\](1[01]);([rgba:0-9A-Fa-f/]{0,30})(?:\x07|\x1b\\)"
+ANSWER = LazyPattern(f"(?a){FORM}")
+BEGUN = LazyPattern(r"(?a)\x1b\](?:1(?:[01](?:;[rgba:0-9A-Fa-f/]{0,30}\x1b?)?)?)?\Z")
 LONGEST_BEGUN = 40
 BEGINS = ("\x1b]10;", "\x1b]11;")
 

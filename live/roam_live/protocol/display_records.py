@@ -2,9 +2,8 @@
 many bytes behind it (roam(1), RECORDS)."""
 from __future__ import annotations
 
-from collections import namedtuple
-
 from roam_live.common.io import LineReader, LongLine
+from roam_live.common.named_fields import NamedFields
 from roam_live.common.text import decimal_in
 
 # What came before this was painted, and isn't known to the terminal any more.
@@ -24,13 +23,17 @@ class NoRecord(Exception):
     """What came is no record: whoever is at the other end isn't a client of this version."""
 
 
-class DisplayRecord(namedtuple("DisplayRecord", "word numbers data words", defaults=((), b"", ""))):
+class DisplayRecord(NamedFields):
     """A record: its word, its numbers, and the bytes behind it or the words in its line."""
 
     word: str
-    numbers: tuple[int, ...]
-    data: bytes
-    words: str
+    numbers: tuple[int, ...] = ()
+    data: bytes = b""
+    words: str = ""
+
+    def __new__(cls, word: str, numbers: tuple[int, ...] = (), data: bytes = b"", words: str = "") -> DisplayRecord:
+        # Several are made for each key that is typed.
+        return tuple.__new__(cls, (word, numbers, data, words))
 
 
 def number_of(text: str) -> int:
@@ -98,7 +101,7 @@ class Records:
             return record
         data = self.kept.data(record.numbers[0])
         self.waiting = record if data is None else None
-        return None if data is None else record._replace(data=data)
+        return None if data is None else DisplayRecord(record.word, record.numbers, data, record.words)
 
     def _line(self) -> DisplayRecord | None:
         """The record of the line that stands first, where one does whole."""
@@ -109,7 +112,7 @@ class Records:
         return None if line is None else line_of(line)
 
 
-class Screen(namedtuple("Screen", "rows cols cursor visible cells")):
+class Screen(NamedFields):
     """A screen as it is told, cell by cell: a right half of a wide character is empty."""
 
     rows: int

@@ -1,18 +1,20 @@
 """A front end's connection to the pty host, and what it knows by it of each window."""
 from __future__ import annotations
 
-import re
-import socket
-from collections.abc import Callable
-
 from roam_live.common.io import write
 from roam_live.protocol.host_link import HostLink
+from roam_live.protocol.panes import is_pane
 from roam_live.protocol.presence import HERE, WHO, OtherTerminals, Presence
 from roam_live.protocol.scrollback_client import ScrollbackClient
 from roam_live.protocol.zoom_record import NONE, ZOOM, ZOOMED, ZoomNote, zoomed_in
 
-# A notice of the host: a line for the person, in printable ASCII.
-NOTICE = re.compile(r"say ([ -~]{1,200})")
+TYPE_CHECKING = False
+if TYPE_CHECKING:
+    import socket
+    from collections.abc import Callable
+
+# The word of the host's notices: a line for the person, in so many characters of printable ASCII.
+SAY, LONGEST_NOTICE = "say", 200
 
 # So many seconds a host that took the connection has for telling who else is there: the one of another machine takes a round trip.
 KNOWS = 2.0
@@ -100,9 +102,9 @@ class HostClient:
 
     def take(self, line: str) -> None:
         """Take a line about the window. If the person has left it, drop what comes late: he is told anew once he returns."""
-        notice = NOTICE.fullmatch(line)
-        if notice:
-            self.notices(notice[1])
+        word, _, notice = line.partition(" ")
+        if word == SAY and 0 < len(notice) <= LONGEST_NOTICE and notice.isascii() and notice.isprintable():
+            self.notices(notice)
         elif self.link.here is self:
             self.take_state(line)
 

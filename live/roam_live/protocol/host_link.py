@@ -2,8 +2,6 @@
 from __future__ import annotations
 
 import os
-import socket
-from collections.abc import Callable
 
 from roam_live.common.event_loop import Loop
 from roam_live.common.io import read
@@ -20,6 +18,9 @@ from roam_live.protocol.zoom_record import ZOOM
 
 TYPE_CHECKING = False
 if TYPE_CHECKING:
+    import socket
+    from collections.abc import Callable
+
     from roam_live.common.tty import Size
     from roam_live.protocol.host_client import HostClient
 

@@ -2,18 +2,18 @@
 from __future__ import annotations
 
 import os
-import re
 import time
-from collections import namedtuple
-from collections.abc import Callable
 
 from roam_live.common.event_loop import comes
 from roam_live.common.io import LineReader
+from roam_live.common.named_fields import NamedFields
+from roam_live.common.patterns import LazyPattern
 from roam_live.common.unix_socket import connected_in
 
 TYPE_CHECKING = False
 if TYPE_CHECKING:
     import socket
+    from collections.abc import Callable
 
 BESIDE = {"left": (0, -1), "right": (0, 1), "up": (-1, 0), "down": (1, 0)}
 
@@ -29,20 +29,21 @@ ROOM = {"right": (0, 9), "down": (5, 0)}
 MOST_CLIENTS, MOST_WATCHERS = 64, 16
 WARNED_CLIENTS = 48
 
-# What a line tells: where a pane is and which making of its number, that it is gone, which is in focus, or how many clients there were of
-# how many; and to who asked for it which modes a pane's program has set, or pane metadata. It may have come from
-# another machine: its numbers are small, and a text for the clipboard is base64 and has 131,072 characters at most.
-TOLD = re.compile(r"(?P<pane>[1-9])((?: \d{1,4}){4}) (?P<generation>\d{1,19})|(?P<gone>[1-9]) gone|focus (?P<focus>[1-9])"
-                  r"|(?P<kind>clients|watchers) (?P<count>\d{1,4})(?: of \d{1,4})?"
-                  r"|(?P<metadata>modes [1-9] \d{1,19}(?: [a-z0-9]{1,16}){0,16}|shape [1-9] \d{1,19} [0-6]"
-                  r"|title [1-9] \d{1,19} (?:[0-9a-f]{2}){0,800})|bell (?P<bell>[1-9]) (?P<rung>\d{1,19})|(?P<clip>clip [1-9] \d{1,19} "
-                  r"(?:[A-Za-z0-9+/]{4}){0,32767}(?:[A-Za-z0-9+/]{4}|[A-Za-z0-9+/]{3}=|[A-Za-z0-9+/]{2}==)?)", re.ASCII)
+# No number of a line, which may come from another machine, has more digits: rows, columns and counts; and the making of a pane.
+SMALL_DIGITS, GENERATION_DIGITS = 4, 19
+
+# A text for the clipboard is base64.
+CLIP_TEXT = LazyPattern(r"(?a)(?:[A-Za-z0-9+/]{4}){0,32767}(?:[A-Za-z0-9+/]{4}|[A-Za-z0-9+/]{3}=|[A-Za-z0-9+/]{2}==)?")
+
+# Most modes of a pane, most characters of the name of one, most bytes of a title, and the shapes of a cursor.
+MOST_MODES, LONGEST_MODE, MOST_TITLE, SHAPES = 16, 16, 800, "0123456"
 LONGEST_LINE = (1 << 17) + 64
 
 # What a server is asked for by who goes by pane metadata, and the words that begin the lines of that; that a
 # program wants what is pasted between brackets, and reports of the focus.
 METADATA = "metadata"
-METADATA_WORDS = ("modes", "shape", "title", "bell")
+BELL = "bell"
+METADATA_WORDS = ("modes", "shape", "title", BELL)
 BRACKETED = "paste"
 FOCUS = "focus"
 OTHER = "other"
@@ -59,7 +60,7 @@ ASKED = 1.0
 BEHIND = 0.1
 
 
-class Rect(namedtuple("Rect", "row col rows cols")):
+class Rect(NamedFields):
     """A pane's first row and column, from 1, and its rows and columns."""
 
     row: int
@@ -68,13 +69,13 @@ class Rect(namedtuple("Rect", "row col rows cols")):
     cols: int
 
 
-class Places(namedtuple("Places", "rects focus clients watchers", defaults=(0, 0, 0))):
+class Places(NamedFields):
     """What is told of a session: the rectangles of its panes by number, the focus, and how many clients edited and watched so far."""
 
     rects: dict[int, Rect]
-    focus: int
-    clients: int
-    watchers: int
+    focus: int = 0
+    clients: int = 0
+    watchers: int = 0
 
     def size(self) -> tuple[int, int]:
         """The session's rows and columns."""
@@ -161,7 +162,48 @@ def metadata_key(line: str) -> str:
     return f"{word} {rest[:1]}" if word in METADATA_WORDS else CLIP if word == CLIP else ""
 
 
-class PaneMetadata(namedtuple("PaneMetadata", "generation value line")):
+def is_pane(word: str) -> bool:
+    """Return True if a word is the number of a pane."""
+    return len(word) == 1 and word in "123456789"
+
+
+def is_digits(word: str, most: int) -> bool:
+    """Return True if a word is a number of so many digits at most."""
+    return 0 < len(word) <= most and word.isascii() and word.isdigit()
+
+
+def is_small(word: str) -> bool:
+    """Return True if a word is a number of rows or columns, or a count."""
+    return is_digits(word, SMALL_DIGITS)
+
+
+def is_generation(word: str) -> bool:
+    """Return True if a word is a making of a pane."""
+    return is_digits(word, GENERATION_DIGITS)
+
+
+def is_value(word: str, value: list[str]) -> bool:
+    """Return True if these words may be told behind a pane by a word: modes, a shape, a title in hexadecimal, no bell's, or a text for the
+    clipboard."""
+    if word == "modes":
+        return len(value) <= MOST_MODES and all(0 < len(one) <= LONGEST_MODE and is_mode(one) for one in value)
+    if word == BELL:
+        return not value
+    if len(value) != 1:
+        return False
+    if word == "shape":
+        return len(value[0]) == 1 and value[0] in SHAPES
+    if word == "title":
+        return len(value[0]) <= 2 * MOST_TITLE and len(value[0]) % 2 == 0 and not value[0].strip("0123456789abcdef")
+    return CLIP_TEXT.fullmatch(value[0]) is not None
+
+
+def is_mode(word: str) -> bool:
+    """Return True if a word may name a mode: small letters and digits."""
+    return word.isascii() and word.isalnum() and word == word.lower()
+
+
+class PaneMetadata(NamedFields):
     """A piece of pane metadata of one making of a pane, and the line that tells it."""
 
     generation: str
@@ -187,29 +229,44 @@ class PanesState:
 
     def take(self, line: str) -> bool:
         """Takes a line, and tells whether it can be one of these."""
-        found = TOLD.fullmatch(line)
-        if not found:
+        word, *rest = line.split(" ")
+        if is_pane(word):
+            return self.take_pane(line, int(word), rest)
+        if word in METADATA_WORDS or word == CLIP:
+            return self.take_metadata(line, word, rest)
+        if word == "focus" and len(rest) == 1 and is_pane(rest[0]):
+            self.focus = int(rest[0])
+            return True
+        if word in ("clients", "watchers") and (len(rest) == 1 or len(rest) == 3 and rest[1] == "of"):
+            if all(map(is_small, rest[::2])):
+                self.counts[word] = int(rest[0]), line
+                return True
+        return False
+
+    def take_pane(self, line: str, pane: int, rest: list[str]) -> bool:
+        """Take where a pane is and which making of its number, or that it is gone; return False if the line is none of these."""
+        if rest == ["gone"]:
+            self.panes.pop(pane, None)
+            self.rects.pop(pane, None)
+            self.forget_metadata(str(pane))
+            return True
+        if len(rest) != 5 or not all(map(is_small, rest[:4])) or not is_generation(rest[4]):
             return False
-        if found["pane"]:
-            pane = int(found["pane"])
-            self.panes[pane], self.rects[pane] = line, Rect(*map(int, found[2].split()))
-            self.generations[pane] = found["generation"]
-        elif found["gone"]:
-            self.panes.pop(int(found["gone"]), None)
-            self.rects.pop(int(found["gone"]), None)
-            self.forget_metadata(found["gone"])
-        elif found["focus"]:
-            self.focus = int(found["focus"])
-        elif found["metadata"]:
-            generation, _, value = line.split(" ", 2)[2].partition(" ")
+        self.panes[pane], self.rects[pane] = line, Rect(*map(int, rest[:4]))
+        self.generations[pane] = rest[4]
+        return True
+
+    def take_metadata(self, line: str, word: str, rest: list[str]) -> bool:
+        """Take pane metadata, a bell or a text for the clipboard; return False if the line is none of these."""
+        if len(rest) < 2 or not is_pane(rest[0]) or not is_generation(rest[1]) or not is_value(word, rest[2:]):
+            return False
+        pane, generation, value = int(rest[0]), rest[1], " ".join(rest[2:])
+        if word == CLIP:
+            self.clip = (pane, value) if generation == self.generations.get(pane) else self.clip
+        elif word == BELL:
+            self.rung.update({pane} if generation == self.generations.get(pane) else ())
+        else:
             self.metadata[metadata_key(line)] = PaneMetadata(generation, value, line)
-        elif found["bell"]:
-            self.rung.update({int(found["bell"])} if found["rung"] == self.generations.get(int(found["bell"])) else ())
-        elif found["clip"]:
-            pane_told, generation, text = line.split(" ")[1:]
-            self.clip = (int(pane_told), text) if generation == self.generations.get(int(pane_told)) else self.clip
-        elif found["kind"]:
-            self.counts[found["kind"]] = int(found["count"]), line
         return True
 
     def places(self) -> Places | None:

@@ -2,9 +2,6 @@
 from __future__ import annotations
 
 import os
-import socket
-from collections import deque
-from collections.abc import Callable
 
 from roam_live.common.errors import reason, say
 from roam_live.common.event_loop import Loop
@@ -17,7 +14,10 @@ from roam_live.protocol.queries import QUERIES
 
 TYPE_CHECKING = False
 if TYPE_CHECKING:
-    import pathlib
+    import socket
+    from collections.abc import Callable
+
+    from roam_live.common.file_path import FilePath
 
 LET_GO = "the server lets this go, as where as many others follow the panes as may"
 
@@ -207,7 +207,7 @@ class PanesSubscriber:
     """What a front end knows of a session's panes: where they are, None where that isn't told. A call is for what is new of that, and one
     for why it can't be told here, which a person is told once."""
 
-    def __init__(self, folder: pathlib.Path | None, loop: Loop, changed: Callable[[], object], tells: Callable[[str], object]) -> None:
+    def __init__(self, folder: FilePath | None, loop: Loop, changed: Callable[[], object], tells: Callable[[str], object]) -> None:
         self.folder, self.loop, self.changed, self.tells = folder, loop, changed, tells
         self.told = PanesState()
         self.places: Places | None = None
@@ -220,7 +220,7 @@ class PanesSubscriber:
         self.rings: Callable[[int], object] = lambda pane: None
         self.has_said = self.was_told = self.has_no_place = False
         # What is called at each answer to a probe that is still to come.
-        self.probes: deque[Callable[[], object]] = deque()
+        self.probes: list[Callable[[], object]] = []
         self.awaited_until = loop.clock() + AWAITED if folder else 0.0
         path = os.path.join(folder, "panes") if folder else ""
         self.subscription = Subscription(lambda: connected_now(path), loop, self.hear, self.lose)
@@ -274,7 +274,7 @@ class PanesSubscriber:
             if line != BAD_LINE:
                 self.told.take(line)
             elif self.probes:
-                self.probes.popleft()()
+                self.probes.pop(0)()
         if self.has_no_place and self.loop.clock() < self.subscription.soon.since + STANDS:
             self.loop.later("panes stand", STANDS, self.know)
         else:

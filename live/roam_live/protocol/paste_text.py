@@ -2,7 +2,8 @@
 from __future__ import annotations
 
 import os
-import re
+
+from roam_live.common.patterns import LazyPattern
 
 # What stands round a paste, to a program that asked for it (xterm, bracketed paste); and what either ends with, but for its last byte.
 OPENS, CLOSES = b"\x1b[200~", b"\x1b[201~"
@@ -12,8 +13,8 @@ BRACKET_ENDS = tuple(begin + kind for begin in (b"\x1b[", b"\xc2\x9b", b"\x9b") 
 MOST_BYTES = 1 << 24
 
 # The control characters that are no part of a paste: all but TAB and CR, which LF becomes.
-DROPPED = re.compile(r"[\x00-\x08\x0a-\x0c\x0e-\x1f\x7f-\x9f]")
-DROPPED_BUT_ESCAPE = re.compile(r"[\x00-\x08\x0a-\x0c\x0e-\x1a\x1c-\x1f\x7f-\x9f]")
+DROPPED = LazyPattern(r"[\x00-\x08\x0a-\x0c\x0e-\x1f\x7f-\x9f]")
+DROPPED_BUT_ESCAPE = LazyPattern(r"[\x00-\x08\x0a-\x0c\x0e-\x1a\x1c-\x1f\x7f-\x9f]")
 
 # MOST_TEXTS texts wait at the pty host at most, with MOST_BYTES together.
 MOST_TEXTS = 64

@@ -3,10 +3,13 @@ from __future__ import annotations
 
 import os
 import time
-from collections import namedtuple
-from collections.abc import Callable
 
+from roam_live.common.named_fields import NamedFields
 from roam_live.common.text import decimal_in
+
+TYPE_CHECKING = False
+if TYPE_CHECKING:
+    from collections.abc import Callable
 
 # The word by which a terminal says that it is there, or that its size is another; and that by which it asks to be told of the others.
 HERE, WHO = "here", "who"
@@ -31,7 +34,7 @@ MOST_SIZE, MOST_NUMBER = 99999, 9999999999
 MOST_OTHERS = 64
 
 
-class Presence(namedtuple("Presence", "name rows cols kind")):
+class Presence(NamedFields):
     """A terminal that is at a session: its name, its size, and whether it `read-write` or `read-only`."""
 
     name: str

@@ -1,9 +1,8 @@
 """What the programs of panes ask of their terminals, as a server tells it at `panes`, and the answers that are typed there."""
 from __future__ import annotations
 
-import pathlib
-
 from roam_live.common.build_info import version
+from roam_live.common.file_path import FilePath
 from roam_live.common.text import decimal_in
 from roam_live.protocol.colours import NUMBERS, Colours
 
@@ -29,7 +28,7 @@ AS_MEANT = b"--normalize"
 def holds_frames(process: int | None) -> bool:
     """Whether a server's process holds frames together, by its words; not where that can't be read."""
     try:
-        return process is not None and AS_MEANT in pathlib.Path(f"/proc/{process}/cmdline").read_bytes().split(b"\0")
+        return process is not None and AS_MEANT in FilePath(f"/proc/{process}/cmdline").read_bytes().split(b"\0")
     except OSError:
         return False
 

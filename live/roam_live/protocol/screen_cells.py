@@ -1,13 +1,14 @@
 """The cells of a screen as a client process tells it, each with its style: what stands in one, and the SGR before it."""
 from __future__ import annotations
 
-from collections.abc import Iterable
 from typing import NamedTuple, Optional, Union
 
 from roam_live.protocol.display_records import NoRecord, screen_of
 
 TYPE_CHECKING = False
 if TYPE_CHECKING:
+    from collections.abc import Iterable
+
     from roam_live.protocol.panes import Rect
 
 FLAGS = {1: "bold", 2: "faint", 3: "italic", 4: "underline", 5: "blink", 7: "reverse", 8: "conceal", 9: "strike"}

@@ -2,16 +2,15 @@
 connection there, each with a call for the answer."""
 from __future__ import annotations
 
-from collections import deque, namedtuple
-from collections.abc import Callable
-
 from roam_live.common.io import LineReader, LongLine
+from roam_live.common.named_fields import NamedFields
 from roam_live.common.text import decimal_in
 from roam_live.protocol.host_lines import (BACK, BAD_LINE, COUNT, FIND, FOUND, MORE, MOST_NUMBER, MOST_ROWS, NONE, ON, RELEASE, ROWS,
                                            SESSION, SNAPSHOT, parted)
 
 TYPE_CHECKING = False
 if TYPE_CHECKING:
+    from collections.abc import Callable
     from typing import Union
 
     # What is called with the words of an answer and the bytes behind it; None where it can't be answered.
@@ -32,7 +31,7 @@ class BadAnswer(Exception):
     """What a host told can't be an answer."""
 
 
-class Snapshot(namedtuple("Snapshot", "pane generation first end screen")):
+class Snapshot(NamedFields):
     """A pane's rows at one moment: those that left are `first` to `end` without it, and those of the screen, which are given, are `end` and
     on. Each has a space or `+` before it, which says that the row goes on in the next."""
 
@@ -43,7 +42,7 @@ class Snapshot(namedtuple("Snapshot", "pane generation first end screen")):
     screen: list[bytes]
 
 
-class BufferNote(namedtuple("BufferNote", "number length sample")):
+class BufferNote(NamedFields):
     """A buffer: its number, how many bytes it has, and the first of its characters."""
 
     number: int
@@ -143,7 +142,7 @@ class ScrollbackClient:
         self.ask = ask
         self.on_more: Callable[[int, int, int], object] = lambda pane, generation, count: None
         # What was asked, in the order in which it is answered: the word of its answer, and the call.
-        self.asked: deque[tuple[str, Told]] = deque()
+        self.asked: list[tuple[str, Told]] = []
 
     # ---- questions
 
@@ -213,7 +212,7 @@ class ScrollbackClient:
         is_refusal = " ".join(words) == BAD_LINE
         if not self.asked or not is_refusal and words[0] not in (COUNT, ROWS, FOUND, SNAPSHOT, BUFFER, BUFFERS):
             return is_refusal
-        word, told = self.asked.popleft()
+        word, told = self.asked.pop(0)
         if not is_refusal and word != words[0]:
             raise BadAnswer(f"{words[0]} isn't what was asked for")
         told(None if is_refusal or NONE in words[2:4] else answer)
@@ -221,7 +220,7 @@ class ScrollbackClient:
 
     def forget(self) -> None:
         """Knows of no host any more: nothing that was asked is answered."""
-        asked, self.asked = self.asked, deque()
+        asked, self.asked = self.asked, []
         for _, told in asked:
             told(None)
 

@@ -3,7 +3,6 @@ from __future__ import annotations
 
 import errno
 import os
-import socket
 
 from roam_live.common.process import program
 from roam_live.common.unix_socket import is_listened, unheard
@@ -28,6 +27,8 @@ def is_port(word: str) -> bool:
 
 def is_port_served(port: int) -> bool:
     """Whether somebody has this UDP port of loopback. One byte goes there, which is no datagram to a server."""
+    import socket
+
     with socket.socket(socket.AF_INET, socket.SOCK_DGRAM) as probe:
         probe.connect(("127.0.0.1", port))
         probe.settimeout(0.005)

@@ -3,9 +3,13 @@ port. What isn't known of it is None, and never an empty answer. Nothing of this
 types, and for who makes a session of another kind."""
 from __future__ import annotations
 
-import pathlib
-from collections.abc import Sequence
 from typing import Protocol
+
+from roam_live.common.file_path import FilePath
+
+TYPE_CHECKING = False
+if TYPE_CHECKING:
+    from collections.abc import Sequence
 
 
 class HostedSession(Protocol):
@@ -26,14 +30,14 @@ class AnySession(HostedSession, Protocol):
     # The role of the process whose end is the session's.
     served: str
     # The socket of the client process.
-    terminals: pathlib.Path
+    terminals: FilePath
 
     @property
-    def folder(self) -> pathlib.Path | None:
+    def folder(self) -> FilePath | None:
         """Where bells and the panes are told; None where no folder is known."""
 
     @property
-    def common(self) -> pathlib.Path | None:
+    def common(self) -> FilePath | None:
         """Where front ends are noted: the folder of the session of which this is a window, or the same."""
 
     def read(self) -> None:

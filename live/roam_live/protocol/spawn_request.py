@@ -2,11 +2,12 @@
 from __future__ import annotations
 
 import os
-import re
-from collections import namedtuple
+
+from roam_live.common.named_fields import NamedFields
+from roam_live.common.patterns import LazyPattern
 
 # How one hands it over, under a name that is chosen by chance: for a pane beside that making of one, or for a window. Its bytes follow.
-RUN = re.compile(r"run ([0-9a-f]{16}) (?:([1-9]) (\d{1,20})|window) ([1-9]\d{0,5})", re.ASCII)
+RUN = LazyPattern(r"(?a)run ([0-9a-f]{16}) (?:([1-9]) (\d{1,20})|window) ([1-9]\d{0,5})")
 RAN = "run"
 
 # A command has MOST_BYTES at most, and waits WAITS seconds for its pane.
@@ -19,14 +20,14 @@ READY, REFUSED, DONE, LATE = "ready", "refused", "done", "late"
 TOO_LONG = f"a command has {MOST_BYTES} bytes at most"
 
 
-class Begins(namedtuple("Begins", "words folder title is_aside", defaults=("", "", False))):
+class Begins(NamedFields):
     """What a new pane or window begins with: the words of its command, its folder and its name, where it isn't as always; and whether who
     asks for it stays where he is."""
 
     words: list[str]
-    folder: str
-    title: str
-    is_aside: bool
+    folder: str = ""
+    title: str = ""
+    is_aside: bool = False
 
     def packed(self) -> bytes:
         """The bytes by which it is handed over."""

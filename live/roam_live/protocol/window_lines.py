@@ -1,16 +1,17 @@
 """The lines about windows at the sockets `host`: which windows there are, and how one is opened, named and shut."""
 from __future__ import annotations
 
-import re
+from roam_live.common.patterns import LazyPattern
+
 
 # The words of lines that are said, and of those that are told.
 WINDOWS, WINDOW, GONE, OPENED, BELL, ACTIVITY, RUNS = "windows", "window", "gone", "opened", "bell", "activity", "runs"
 
 # How one asks for a window to be opened, by a command that was handed over where its name stands there, named and shut. A size is cut to
 # the largest that a session may have.
-OPEN = re.compile(r"open ([1-9]\d{0,4}) ([1-9]\d{0,4})(?: ([0-9a-f]{16}))?", re.ASCII)
-NAME = re.compile(r"name ([1-9]\d?) (-|(?:[0-9a-f]{2}){1,119})", re.ASCII)
-SHUT = re.compile(r"shut ([1-9]\d?)", re.ASCII)
+OPEN = LazyPattern(r"(?a)open ([1-9]\d{0,4}) ([1-9]\d{0,4})(?: ([0-9a-f]{16}))?")
+NAME = LazyPattern(r"(?a)name ([1-9]\d?) (-|(?:[0-9a-f]{2}){1,119})")
+SHUT = LazyPattern(r"(?a)shut ([1-9]\d?)")
 
 # A session has so many windows at most, and a name so many characters, and bytes, which stand in a line in hexadecimal.
 MOST_WINDOWS = 99

@@ -2,8 +2,7 @@
 the front end was killed that made it larger."""
 from __future__ import annotations
 
-from collections import namedtuple
-
+from roam_live.common.named_fields import NamedFields
 from roam_live.common.tty import MOST
 from roam_live.protocol.presence import MOST_NUMBER, number_in
 
@@ -25,7 +24,7 @@ LEFT = 2.0
 OVER = 10.0
 
 
-class ZoomNote(namedtuple("ZoomNote", "size asked")):
+class ZoomNote(NamedFields):
     """The size that a session is to have again, and those that it was asked for by the zoom, the last of them last."""
 
     size: Size

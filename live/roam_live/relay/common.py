@@ -3,13 +3,13 @@ ways, the stream or the path, carries what waits."""
 from __future__ import annotations
 
 import math
-import signal
 import socket
 import time
 from collections.abc import Callable
 
 from roam_live.common.event_loop import Loop, comes
 from roam_live.common.io import read
+from roam_live.common.signals import signal
 from roam_live.protocol.datagram_stream import is_datagram
 from roam_live.relay.forwarding import PipeStreams
 from roam_live.relay.frames import WAITING_LIMIT, RelayStream, Waiting

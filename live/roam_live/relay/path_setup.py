@@ -9,7 +9,6 @@ import math
 import os
 import pathlib
 import resource
-import signal
 import socket
 import struct
 import threading
@@ -19,6 +18,7 @@ from collections.abc import Iterable
 from roam_live.common.errors import reason, say
 from roam_live.common.files import replace_text
 from roam_live.common.process import begun, is_running
+from roam_live.common.signals import signal
 from roam_live.config.environment import wants_udp
 from roam_live.relay.aead_packets import KEY_LENGTH, PORTS, AeadPackets, cipher, places_of, random_key, udp_end
 from roam_live.relay.batches import has_lzma

@@ -2,7 +2,6 @@
 of where the person comes from, which new panes have."""
 from __future__ import annotations
 
-import contextlib
 import os
 import stat
 import time
@@ -11,6 +10,7 @@ from roam_live.common.errors import Fault, reason
 from roam_live.common.event_loop import comes
 from roam_live.common.files import is_own_folder
 from roam_live.common.io import LineReader
+from roam_live.common.suppress import suppress
 from roam_live.common.unix_socket import SocketPeer, connected_in, connected_now
 from roam_live.protocol.host_lines import SESSION, led, parted
 from roam_live.protocol.panes import ASKED
@@ -131,13 +131,13 @@ def renew_agent(folder: str | os.PathLike[str]) -> None:
     if not is_own_folder(folder) or not is_socket(path, True) or leads_over(path, link):
         return
     new = f"{link}.{os.getpid()}"
-    with contextlib.suppress(OSError):
+    with suppress(OSError):
         os.unlink(new)
     try:
         os.symlink(path, new)
         os.replace(new, link)
     except OSError:
-        with contextlib.suppress(OSError):
+        with suppress(OSError):
             os.unlink(new)
 
 
@@ -179,7 +179,7 @@ def environment_lines(session: AnySession, is_read_only: bool) -> list[str]:
 def send_environment(session: SessionFolder) -> None:
     """Brings what this process has to a session, whose host reads it once it can; one that isn't there yet is spawned with that."""
     lines = environment_lines(session, False)
-    with contextlib.suppress(OSError), connected_now(session.common / "host") as peer:
+    with suppress(OSError), connected_now(session.common / "host") as peer:
         peer.send(joined(lines))
 
 

@@ -1,15 +1,15 @@
 """A folder of a session, or of one of its windows: how the processes there are found, cleaned up after and listed."""
 from __future__ import annotations
 
-import contextlib
-import json
 import os
 import time
 
 from roam_live.common.build_info import identity
 from roam_live.common.errors import Fault
+from roam_live.common.file_path import FilePath
 from roam_live.common.files import is_locked, is_own_folder, replace_text
 from roam_live.common.process import age_of, begun, end_words, is_stopped
+from roam_live.common.suppress import suppress
 from roam_live.common.text import printable
 from roam_live.common.unix_socket import is_listened
 from roam_live.protocol.panes import ASKED, MOST_CLIENTS, asked_places
@@ -148,7 +148,7 @@ class SessionFolder(Processes):
         found: dict[str, int | None] = {self.served: process}
         for role in self.roles:
             if role != self.served:
-                with contextlib.suppress(Fault):
+                with suppress(Fault):
                     found[role] = self.listener(ROLES[role].socket)
         self.state = {"version": WINDOWS_VERSION, **{role: [one, begun(one)] for role, one in found.items() if one}}
         self.is_found = True
@@ -166,7 +166,7 @@ class SessionFolder(Processes):
     def note_found(self) -> None:
         """Notes again what was found by its sockets, where the note is lost; its lock is held."""
         if self.is_found:
-            replace_text(self.note, json.dumps(self.state))
+            self.write_note()
 
     # ---- what belongs to it
 
@@ -211,7 +211,7 @@ class SessionFolder(Processes):
 
     def revive(self) -> None:
         """Starts the client of the terminals anew, where it has ended, and nobody else does."""
-        with contextlib.suppress(BlockingIOError), self.locked(may_wait=False):
+        with suppress(BlockingIOError), self.locked(may_wait=False):
             if not self.has_client():
                 self.spawn_client()
 
@@ -246,7 +246,7 @@ class SessionFolder(Processes):
         """Removes what is left of a session that has ended; its lock is held, since one that is being spawned looks like that too."""
         if not self.find():
             self.kill()
-            with contextlib.suppress(OSError):
+            with suppress(OSError):
                 self.leave()
 
     def leave(self) -> None:
@@ -258,7 +258,7 @@ class SessionFolder(Processes):
         if self.log.exists() and (front_ends.exists() or ended.exists()):
             # It has ended just now.
             os.utime(self.log)
-        for path in [ended, front_ends, *(path for path in self.folder.iterdir() if path.stem in WRITTEN and path.suffix[1:].isdigit())]:
+        for path in [ended, front_ends, *filter(is_half_written, self.folder.iterdir())]:
             path.unlink(missing_ok=True)
         if relays.is_dir():
             relays.rmdir()
@@ -273,7 +273,7 @@ class SessionFolder(Processes):
 
     def drop_ended(self) -> None:
         """Cleans up after one that has ended, where nobody launches it anew."""
-        with contextlib.suppress(OSError), self.locked(may_wait=False):
+        with suppress(OSError), self.locked(may_wait=False):
             self.tidy()
 
     def close(self) -> None:
@@ -316,6 +316,12 @@ class SessionFolder(Processes):
         if host is None:
             return ", its pty host is not running"
         return ", the pty host is stopped" if is_stopped(host) else ""
+
+
+def is_half_written(path: FilePath) -> bool:
+    """Return True if a process that was killed left this file, which has its number behind the name of the one that it wrote."""
+    stem, _, suffix = path.name.rpartition(".")
+    return stem in WRITTEN and suffix.isdigit()
 
 
 def listed(name: str, size: str, panes: int | None, terminals: int | None, width: int) -> str:

@@ -1,13 +1,16 @@
 """Which programs run in a session's panes, and where."""
 from __future__ import annotations
 
-import contextlib
 import os
-import pathlib
-from collections import namedtuple
-from collections.abc import Iterable, Iterator
 
+from roam_live.common.file_path import FilePath
+from roam_live.common.named_fields import NamedFields
+from roam_live.common.suppress import suppress
 from roam_live.common.text import printable
+
+TYPE_CHECKING = False
+if TYPE_CHECKING:
+    from collections.abc import Iterable, Iterator
 
 # What a pane may lose without a question.
 SHELLS = {"sh", "ash", "bash", "dash", "zsh", "fish", "ksh", "mksh", "csh", "tcsh", "nu", "xonsh", "elvish", "rc", "es"}
@@ -32,7 +35,7 @@ def busy_panes(host: int, folder: str = "") -> dict[int, str] | None:
 def busy_programs(host: int) -> dict[tuple[str, int], str] | None:
     """The same of all windows, by their folders and the panes there."""
     try:
-        own = pathlib.Path(f"/proc/{host}/task/{host}/children").read_text(encoding="utf-8").split()
+        own = FilePath(f"/proc/{host}/task/{host}/children").read_text(encoding="utf-8").split()
     except OSError:
         return None
     jobs = jobs_of(int(process) for process in own)
@@ -57,7 +60,7 @@ def running(process: str, jobs: list[str]) -> str:
     return " and ".join(filter(None, (", ".join(names[:MOST_NAMED]), *more)))
 
 
-class Process(namedtuple("Process", "number state group session front")):
+class Process(NamedFields):
     """A process as /proc/PID/stat describes it. `front` is the foreground process group of its terminal."""
 
     number: int
@@ -71,8 +74,8 @@ def processes() -> Iterator[Process]:
     """Yield the processes that /proc shows to this user, without those that have ended. If /proc is mounted with `hidepid`, the processes
     of other users are missing."""
     for number in filter(str.isdigit, os.listdir("/proc")):
-        with contextlib.suppress(OSError, IndexError, ValueError):
-            text = pathlib.Path(f"/proc/{number}/stat").read_text(encoding="utf-8", errors="replace")
+        with suppress(OSError, IndexError, ValueError):
+            text = FilePath(f"/proc/{number}/stat").read_text(encoding="utf-8", errors="replace")
             words = text.rpartition(")")[2].split()
             if words[STATE] not in "ZXx":
                 yield Process(int(number), words[STATE], *(int(words[place]) for place in (GROUP, SESSION, FOREGROUND)))
@@ -112,7 +115,7 @@ def pane_of(process: str) -> tuple[str, int] | None:
     """The pane of a process, and the folder of its window, by its environment: nowhere where that names none, or the process has ended, and
     None where it can't be read."""
     try:
-        words = pathlib.Path(f"/proc/{process}/environ").read_bytes().split(b"\0")
+        words = FilePath(f"/proc/{process}/environ").read_bytes().split(b"\0")
     except PermissionError:
         return None
     except OSError:
@@ -135,7 +138,7 @@ def own_pane() -> tuple[str, int]:
 def foreground(process: str) -> str:
     """The printable name of the program that has the terminal of a process, as far as one is known; none where that process has ended."""
     try:
-        words = pathlib.Path(f"/proc/{process}/stat").read_text(encoding="utf-8", errors="replace").rpartition(")")[2].split()
+        words = FilePath(f"/proc/{process}/stat").read_text(encoding="utf-8", errors="replace").rpartition(")")[2].split()
         state, group = words[0], words[FOREGROUND]
     except (OSError, IndexError):
         return ""
@@ -147,7 +150,7 @@ def foreground(process: str) -> str:
 def name_of(group: int | str) -> str:
     """The printable name of the program that leads a process group."""
     try:
-        name = pathlib.Path(f"/proc/{group}/comm").read_bytes()[:-1].decode("utf-8", "replace")
+        name = FilePath(f"/proc/{group}/comm").read_bytes()[:-1].decode("utf-8", "replace")
     except OSError:
         # The first of several programs may have ended.
         name = ""
@@ -166,7 +169,7 @@ def group_in_front(terminal: int) -> int | None:
 def working_folder(processes: Iterable[int | None]) -> str:
     """The working folder of the first of these processes of which it can be read and is there still; nothing where there is none."""
     for process in processes:
-        with contextlib.suppress(OSError):
+        with suppress(OSError):
             folder = os.readlink(f"/proc/{process}/cwd")
             if os.path.isdir(folder):
                 return folder

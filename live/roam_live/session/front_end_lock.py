@@ -4,30 +4,37 @@ Each front end holds a shared lock on the file `front_ends`; the kernel releases
 """
 from __future__ import annotations
 
-import contextlib
 import fcntl
 import os
-from collections.abc import Iterator
 
 from roam_live.common.errors import Fault, log_to, reason, say
 from roam_live.common.files import is_own_folder
+from roam_live.common.suppress import suppress
+
+TYPE_CHECKING = False
+if TYPE_CHECKING:
+    from collections.abc import Iterator
 
 # The locked file in a session's folder.
 FRONT_ENDS = "front_ends"
 
 
-@contextlib.contextmanager
-def locked_session(folder: str | os.PathLike[str] | None) -> Iterator[None]:
-    """Keep a session's folder, if it has one, and log unexpected errors there. Fault if it is no folder."""
-    end = opened(folder) if folder else None
-    try:
-        if end is not None:
-            with contextlib.suppress(OSError):
-                fcntl.flock(end, fcntl.LOCK_SH | fcntl.LOCK_NB)
-        yield
-    finally:
-        if end is not None:
-            os.close(end)
+class FrontEndLock:
+    """Keeps a session's folder in a `with`, if it has one, and logs unexpected errors there. Fault if it is no folder."""
+
+    def __init__(self, folder: str | os.PathLike[str] | None) -> None:
+        self.folder = folder
+        self.end: int | None = None
+
+    def __enter__(self) -> None:
+        self.end = opened(self.folder) if self.folder else None
+        if self.end is not None:
+            with suppress(OSError):
+                fcntl.flock(self.end, fcntl.LOCK_SH | fcntl.LOCK_NB)
+
+    def __exit__(self, *fault: object) -> None:
+        if self.end is not None:
+            os.close(self.end)
 
 
 def opened(folder: str | os.PathLike[str]) -> int | None:

@@ -3,7 +3,6 @@ from __future__ import annotations
 
 import os
 import time
-from collections.abc import Callable
 
 from roam_live.common.errors import Fault, reason
 from roam_live.common.event_loop import Loop
@@ -12,6 +11,8 @@ from roam_live.common.retry import Retry
 
 TYPE_CHECKING = False
 if TYPE_CHECKING:
+    from collections.abc import Callable
+
     from roam_live.protocol.session_interface import HostedSession
 
 # So many seconds after its end the pty host is spawned anew: by the first it is known whether that is the session's end.

@@ -1,14 +1,14 @@
 """Sessions of this machine and their windows, also a window whose server was started by hand and that belongs to no session."""
 from __future__ import annotations
 
-import contextlib
 import os
-import pathlib
 import time
 
 from roam_live.common.build_info import identity
 from roam_live.common.errors import Fault
+from roam_live.common.file_path import FilePath
 from roam_live.common.process import begun, end_words, holder_of
+from roam_live.common.suppress import suppress
 from roam_live.common.unix_socket import is_listened
 from roam_live.protocol.window_lines import MOST_WINDOWS, name_in
 from roam_live.session.folder import SessionFolder
@@ -78,7 +78,7 @@ class LocalSession(SessionFolder):
 
     def last(self) -> int:
         """The window where somebody was last, as far as that is noted."""
-        with contextlib.suppress(OSError, ValueError):
+        with suppress(OSError, ValueError):
             return int((self.folder_of_windows / "last").read_text(encoding="ascii")[:9])
         return 0
 
@@ -93,7 +93,7 @@ class LocalSession(SessionFolder):
         if self.process(self.served):
             return True
         self.demand_read()
-        with contextlib.suppress(Fault):
+        with suppress(Fault):
             host = self.listener(ROLES[self.served].socket)
             host = self.holder() if host is None else host
             if host is not None:
@@ -148,7 +148,7 @@ class LocalSession(SessionFolder):
 
     def revive_host(self) -> bool:
         """Spawns the pty host anew where it has ended, and takes them over; tells whether it runs."""
-        with contextlib.suppress(BlockingIOError), self.locked(may_wait=False):
+        with suppress(BlockingIOError), self.locked(may_wait=False):
             if not self.runs("host") and self.find():
                 self.spawn_host()
         return self.runs("host")
@@ -168,15 +168,10 @@ class LocalSession(SessionFolder):
 
     # ---- its end
 
-    @contextlib.contextmanager
-    def whole(self) -> Iterator[None]:
-        """Ends what is spawned inside, where not all of it could be, with what that has spawned."""
-        with super().whole():
-            try:
-                yield
-            except BaseException:
-                self.end_all()
-                raise
+    def undo(self) -> None:
+        """End what was spawned, with what that has spawned, and let what it left go."""
+        self.end_all()
+        super().undo()
 
     def await_end(self) -> None:
         """Waits for the pty host, which ends soon once there are none."""
@@ -202,7 +197,7 @@ class LocalSession(SessionFolder):
         for window in self.all_windows():
             window.clean()
         (self.folder_of_windows / "last").unlink(missing_ok=True)
-        with contextlib.suppress(OSError):
+        with suppress(OSError):
             self.folder_of_windows.rmdir()
         super().clean()
 
@@ -292,7 +287,7 @@ class Window(SessionFolder):
         if host is None and not self.is_found and (self.served in (self.state or {}) or "host" in (self.state or {})):
             # What kept its shells has ended.
             return {}
-        with contextlib.suppress(Fault):
+        with suppress(Fault):
             host = self.listener(ROLES["host"].socket) if host is None else host
         return None if host is None else busy_panes(host)
 
@@ -334,14 +329,14 @@ class Window(SessionFolder):
         for name in ("name", SPARE):
             (self.folder / name).unlink(missing_ok=True)
         for folder in (self.folder / "relays", self.folder):
-            with contextlib.suppress(OSError):
+            with suppress(OSError):
                 folder.rmdir()
 
 
-def command_of(host: int | None, folder: pathlib.Path) -> list[str]:
+def command_of(host: int | None, folder: FilePath) -> list[str]:
     """The command that a process keeps in each pane of a folder's session; none where it is the shell, or isn't known."""
     try:
-        words = pathlib.Path(f"/proc/{host}/cmdline").read_bytes().split(b"\0")[:-1]
+        words = FilePath(f"/proc/{host}/cmdline").read_bytes().split(b"\0")[:-1]
         return [os.fsdecode(word) for word in words[words.index(os.fsencode(folder)) + 1 :]]
     except (OSError, ValueError):
         return []

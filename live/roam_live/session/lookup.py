@@ -1,14 +1,14 @@
 """Finds sessions by name or folder, and removes what ended ones left."""
 from __future__ import annotations
 
-import contextlib
 import os
-import pathlib
 
 from roam_live.common.errors import Fault
+from roam_live.common.file_path import FilePath
+from roam_live.common.suppress import suppress
 from roam_live.common.unix_socket import is_listened
 from roam_live.session.local import LocalSession, Window
-from roam_live.session.names import LONGEST_PATH, NAME, NEAR_NAME, NUMBER, WINDOWS, base
+from roam_live.session.names import LONGEST_PATH, WINDOWS, base, is_name, is_near_name, is_number
 from roam_live.session.remote import RemoteSession
 from roam_live.session.roles import ROLES
 
@@ -19,7 +19,7 @@ if TYPE_CHECKING:
 
 def session_named(name: str) -> SessionFolder:
     """The session of a name: one of this machine, or what stands here for one of another."""
-    if not NEAR_NAME.fullmatch(name):
+    if not is_near_name(name):
         session = LocalSession.named(name)
         if is_by_hand(session.folder):
             raise Fault(f"{session.folder} has a server that was started by hand, and is no session of mux; `live/attach` of it attaches")
@@ -30,7 +30,7 @@ def session_named(name: str) -> SessionFolder:
     return near
 
 
-def is_by_hand(folder: pathlib.Path) -> bool:
+def is_by_hand(folder: FilePath) -> bool:
     """Return True if a server was started by hand in a folder: its sockets are in the folder itself."""
     path = folder / ROLES["server"].socket
     return os.path.lexists(path) and is_listened(path)
@@ -42,22 +42,22 @@ def sessions_here() -> list[SessionFolder]:
     own: list[SessionFolder] = []
     for path in folders:
         # One whose path is too long for its windows' sockets can't be one.
-        with contextlib.suppress(Fault):
-            own += [LocalSession(path)] if NAME.fullmatch(path.name) and not is_by_hand(path) else []
-    return own + [RemoteSession(path) for path in folders if NEAR_NAME.fullmatch(path.name)]
+        with suppress(Fault):
+            own += [LocalSession(path)] if is_name(path.name) and not is_by_hand(path) else []
+    return own + [RemoteSession(path) for path in folders if is_near_name(path.name)]
 
 
 def sweep() -> None:
     """Cleans up after the sessions of this machine that ended while nobody was there who did."""
     for session in sessions_here():
-        with contextlib.suppress(Fault):
+        with suppress(Fault):
             if session.served != RemoteSession.served and not session.find():
                 session.drop_ended()
 
 
 def window_in(folder: str | os.PathLike[str], server: int | None = None) -> Window:
     """What is served in a folder: a window of a session, where it is that of one, or one that was started by hand."""
-    path = pathlib.Path(folder).absolute()
-    if path.parent.name == WINDOWS and NUMBER.fullmatch(path.name) and NAME.fullmatch(path.parent.parent.name):
+    path = FilePath(os.path.abspath(folder))
+    if path.parent.name == WINDOWS and is_number(path.name) and is_name(path.parent.parent.name):
         return LocalSession(path.parent.parent).window_of(int(path.name), server)
     return Window(folder, server)

@@ -2,26 +2,30 @@
 ended on purpose."""
 from __future__ import annotations
 
-import contextlib
-import functools
 import os
-import pathlib
-import re
 import stat
 
 from roam_live.common.errors import Fault, is_absent, reason, say
+from roam_live.common.file_path import FilePath
 from roam_live.common.files import replace_text
+from roam_live.common.patterns import LazyPattern
+from roam_live.common.suppress import suppress
+from roam_live.common.text import decimal_in
 
-NAME = re.compile(r"[A-Za-z0-9_-]{1,32}")
+LONGEST_NAME = 32
 
 # What stands here for a session of another machine: ssh, the host, the session, and a number where ssh is called in another way.
-NEAR_NAME = re.compile(r"ssh:[A-Za-z0-9_.@-]{1,128}:[A-Za-z0-9_-]{1,32}(:[0-9a-f]{8})?")
+NEAR_NAME = LazyPattern(r"ssh:[A-Za-z0-9_.@-]{1,128}:[A-Za-z0-9_-]{1,32}(:[0-9a-f]{8})?")
 
 # A socket's path has at most so many bytes.
 LONGEST_PATH = 107
 
 
-def runtime_folder() -> pathlib.Path | None:
+# Where sessions lie if XDG_RUNTIME_DIR names no folder.
+TMP = "/tmp"
+
+
+def runtime_folder() -> FilePath | None:
     """The folder that XDG_RUNTIME_DIR offers; one of another user, as after `su`, is told of and not used, and one that others may write,
     who could put another in the place of what lies there, is refused."""
     chosen = os.environ.get("XDG_RUNTIME_DIR")
@@ -30,20 +34,30 @@ def runtime_folder() -> pathlib.Path | None:
     if os.path.isdir(chosen) and os.stat(chosen).st_uid == os.getuid():
         if os.stat(chosen).st_mode & 0o022:
             raise Fault(f"XDG_RUNTIME_DIR is {chosen}, which others may write; `chmod go-w` on it, or another, is needed")
-        return pathlib.Path(chosen, "roam")
+        return FilePath(os.path.join(chosen, "roam"))
     say(f"XDG_RUNTIME_DIR is {chosen}, which is no folder of yours; /tmp has the sessions")
     return None
 
 
-@functools.lru_cache()
-def base() -> pathlib.Path:
+# The folder of the user's sessions, once it was looked at.
+bases: list[FilePath] = []
+
+
+def base() -> FilePath:
     """The folder of the user's sessions, which is made where it isn't there, and refused where others may enter it."""
-    path = runtime_folder() or pathlib.Path("/tmp", f"roam-{os.getuid()}")
+    if not bases:
+        bases.append(made_base())
+    return bases[0]
+
+
+def made_base() -> FilePath:
+    """Make the folder of the user's sessions unless it is there, and return it; Fault if others may enter it."""
+    path = runtime_folder() or FilePath(f"{TMP}/roam-{os.getuid()}")
     try:
         # What is there and no folder is refused below, as what it is.
-        with contextlib.suppress(FileExistsError):
+        with suppress(FileExistsError):
             path.mkdir(mode=0o700)
-        found = path.lstat()
+        found = os.lstat(path)
     except OSError as fault:
         raise Fault(f"{path}: {fault.strerror}") from fault
     if not stat.S_ISDIR(found.st_mode) or found.st_uid != os.getuid() or found.st_mode & 0o077:
@@ -51,9 +65,19 @@ def base() -> pathlib.Path:
     return path
 
 
+def is_name(word: str) -> bool:
+    """Return True if a word may name a session: letters, digits, - and _."""
+    return 0 < len(word) <= LONGEST_NAME and word.isascii() and word.replace("-", "_").replace("_", "0").isalnum()
+
+
+def is_near_name(word: str) -> bool:
+    """Return True if a word names what stands here for a session of another machine."""
+    return word.startswith("ssh:") and NEAR_NAME.fullmatch(word) is not None
+
+
 def check_name(name: str) -> None:
     """Refuses what can't name a session."""
-    if not NAME.fullmatch(name):
+    if not is_name(name):
         raise Fault(f"{name!r} is no name: letters, digits, - and _, 32 at most")
 
 
@@ -77,7 +101,7 @@ WINDOWS_VERSION = 4
 
 # The folder in a session's in which those of its windows lie, and what names one.
 WINDOWS = "w"
-NUMBER = re.compile(r"[1-9]\d?", re.ASCII)
+HIGHEST_NUMBER = 99
 
 # So many of those that were ended on purpose are noted.
 MOST_ENDED = 128
@@ -93,10 +117,15 @@ def window_folder(common: str, number: int) -> str:
     return os.path.join(windows_folder(common), str(number))
 
 
+def is_number(word: str) -> bool:
+    """Return True if a word is the number of a window."""
+    return bool(decimal_in(word, HIGHEST_NUMBER))
+
+
 def numbers_in(folder: str) -> list[int]:
     """The windows of which there are folders, in order; Fault where it can't be told."""
     try:
-        return sorted(int(name) for name in os.listdir(folder) if NUMBER.fullmatch(name))
+        return sorted(int(name) for name in os.listdir(folder) if is_number(name))
     except OSError as fault:
         if not is_absent(fault):
             raise Fault(f"{folder} can't be read: {reason(fault)}") from fault
@@ -105,7 +134,7 @@ def numbers_in(folder: str) -> list[int]:
 
 def is_spare_server(server: int | None) -> bool:
     """Whether a server was spawned to stand ready for a window."""
-    with contextlib.suppress(OSError):
+    with suppress(OSError):
         with open(f"/proc/{server}/environ", "rb") as words:
             return f"{SPARE_VARIABLE}=1".encode() in words.read().split(b"\0")
     return False
@@ -117,8 +146,8 @@ def note_ends(common: str, lines: list[str]) -> None:
         return
     path = os.path.join(common, "ended")
     before: list[str] = []
-    with contextlib.suppress(OSError, ValueError):
+    with suppress(OSError, ValueError):
         with open(path, encoding="utf-8") as file:
             before = file.read(1 << 14).splitlines()
-    with contextlib.suppress(OSError):
+    with suppress(OSError):
         replace_text(path, "".join(f"{line}\n" for line in [*(one for one in before if one not in lines), *lines][-MOST_ENDED:]))

@@ -1,12 +1,12 @@
 """A session whose server has a UDP port of loopback, where somebody knows its id: no folder keeps others out there."""
 from __future__ import annotations
 
-import pathlib
 import shutil
 import subprocess
 import tempfile
 
 from roam_live.common.errors import Fault
+from roam_live.common.file_path import FilePath
 from roam_live.protocol.server_address import Home
 
 
@@ -22,9 +22,9 @@ class PortSession:
 
     def __init__(self, home: Home, folder: str | None) -> None:
         self.home = home
-        self.folder = self.common = pathlib.Path(folder) if folder else None
+        self.folder = self.common = FilePath(folder) if folder else None
         self.own = tempfile.mkdtemp(prefix="roam-terminals-")
-        self.terminals = pathlib.Path(self.own, "terminals")
+        self.terminals = FilePath(self.own) / "terminals"
         self.client: subprocess.Popen[bytes] | None = None
         self.name = str(home)
 

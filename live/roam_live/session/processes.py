@@ -1,18 +1,17 @@
 """The processes that belong to a session: who keeps them has a note of each in the session's folder, and a log of what they say."""
 from __future__ import annotations
 
-import contextlib
 import fcntl
-import json
 import os
-import pathlib
-import signal
 import time
-from collections.abc import Callable, Iterator
 
 from roam_live.common.errors import Fault, is_absent, reason, say
+from roam_live.common.file_path import FilePath
 from roam_live.common.files import is_own_folder, make_room, replace_text
+from roam_live.common.json_reader import read_json
 from roam_live.common.process import begun, is_running
+from roam_live.common.signals import signal
+from roam_live.common.suppress import suppress
 from roam_live.common.unix_socket import SAID_AFTER, SocketPeer, connected_in
 from roam_live.session.front_end_lock import FRONT_ENDS
 from roam_live.session.roles import NOTED, ROLES
@@ -20,6 +19,7 @@ from roam_live.session.roles import NOTED, ROLES
 TYPE_CHECKING = False
 if TYPE_CHECKING:
     import subprocess
+    from collections.abc import Callable, Iterator
     from typing import IO, Any
 
     # What JSON has of a note, of which `is_note` says what may be one.
@@ -57,8 +57,7 @@ def is_note(state: object) -> bool:
 def noted_in(path: str | os.PathLike[str]) -> State | None:
     """Return what a file notes of processes; None if that isn't whole. OSError if it can't be read."""
     try:
-        with open(path, encoding="utf-8") as note:
-            state = json.loads(note.read(MOST_NOTE))
+        state = read_json(FilePath(path).read_text()[:MOST_NOTE])
     except (ValueError, RecursionError):
         return None
     return dict(state) if is_note(state) else None
@@ -66,7 +65,7 @@ def noted_in(path: str | os.PathLike[str]) -> State | None:
 
 def signal_now(process: int, number: int) -> None:
     """Signals a process, which takes that now: one that was stopped goes on."""
-    with contextlib.suppress(ProcessLookupError):
+    with suppress(ProcessLookupError):
         os.kill(process, number)
         os.kill(process, signal.SIGCONT)
 
@@ -74,7 +73,7 @@ def signal_now(process: int, number: int) -> None:
 def children_of(process: int) -> list[int]:
     """The processes that one has spawned and that are there; none where the system doesn't tell."""
     try:
-        return [int(child) for child in pathlib.Path(f"/proc/{process}/task/{process}/children").read_text(encoding="ascii").split()]
+        return [int(child) for child in FilePath(f"/proc/{process}/task/{process}/children").read_text(encoding="ascii").split()]
     except (OSError, ValueError):
         return []
 
@@ -82,7 +81,7 @@ def children_of(process: int) -> list[int]:
 def is_scrollback_process(process: int) -> bool:
     """Whether a process is a scrollback process."""
     try:
-        words = pathlib.Path(f"/proc/{process}/cmdline").read_bytes().split(b"\0")
+        words = FilePath(f"/proc/{process}/cmdline").read_bytes().split(b"\0")
     except OSError:
         return False
     return len(words) > 1 and os.path.basename(words[0]) == b"roam" and words[1] == b"rows"
@@ -99,6 +98,38 @@ def end_left(left: list[tuple[int, int | None]]) -> None:
             time.sleep(0.01)
 
 
+class HeldLock:
+    """Holds the lock of a session in a `with`; what is noted of its processes is read anew."""
+
+    def __init__(self, processes: Processes, may_wait: bool) -> None:
+        self.processes, self.may_wait = processes, may_wait
+
+    def __enter__(self) -> None:
+        self.lock = self.processes.taken_lock(self.may_wait)
+        try:
+            self.processes.read()
+        except BaseException:
+            os.close(self.lock)
+            raise
+
+    def __exit__(self, *fault: object) -> None:
+        os.close(self.lock)
+
+
+class WholeOrNothing:
+    """Undoes what a `with` spawned if that raises something."""
+
+    def __init__(self, processes: Processes) -> None:
+        self.processes = processes
+
+    def __enter__(self) -> None:
+        """Begin."""
+
+    def __exit__(self, kind: object, *fault: object) -> None:
+        if kind:
+            self.processes.undo()
+
+
 class Processes:
     """What belongs to a session, by roles, as it is noted in its folder."""
 
@@ -109,7 +140,7 @@ class Processes:
     served = "server"
 
     def __init__(self, folder: str | os.PathLike[str], server: int | None = None) -> None:
-        self.folder = pathlib.Path(folder)
+        self.folder = FilePath(folder)
         # A server that was spawned by hand, where it is known.
         self.by_hand = server
         self.note = self.folder / "state.json"
@@ -175,15 +206,10 @@ class Processes:
 
     # ---- the lock
 
-    @contextlib.contextmanager
-    def locked(self, may_wait: bool = True) -> Iterator[None]:
-        """Makes its folder, and keeps others from starting what belongs to it; BlockingIOError tells of another where that may not wait."""
-        lock = self.taken_lock(may_wait)
-        try:
-            self.read()
-            yield
-        finally:
-            os.close(lock)
+    def locked(self, may_wait: bool = True) -> HeldLock:
+        """Make its folder, and keep others from starting what belongs to it, in a `with`. BlockingIOError tells of another if that may not
+        wait."""
+        return HeldLock(self, may_wait)
 
     def taken_lock(self, may_wait: bool) -> int:
         """The lock, once this process has it: that of the folder that is there by then, since the one before may have been removed."""
@@ -205,7 +231,7 @@ class Processes:
             if not is_own_folder(self.folder):
                 raise Fault(f"{self.folder} is no folder of yours")
             # Who removes the folder may do so just now.
-            with contextlib.suppress(FileNotFoundError):
+            with suppress(FileNotFoundError):
                 return os.open(self.folder / "lock", os.O_RDWR | os.O_CREAT | os.O_CLOEXEC | os.O_NOFOLLOW, 0o600)
 
     def is_lock(self, lock: int) -> bool:
@@ -246,7 +272,7 @@ class Processes:
 
         refused = f"session {self.name}: {ROLES[role].said} can't be spawned"
         try:
-            replace_text(self.note, json.dumps(self.state))
+            self.write_note()
             make_room(self.log)
             with open(self.log, "ab") as log:
                 output: int | IO[bytes] = subprocess.PIPE if is_heard else log
@@ -261,15 +287,21 @@ class Processes:
         self.own[role] = process
         return process
 
+    def write_note(self, state: State | None = None) -> None:
+        """Write the note: what is known, or this."""
+        import json
+
+        replace_text(self.note, json.dumps(self.state if state is None else state))
+
     def note_own(self, role: str) -> None:
         """Notes this process as the one of a role."""
         state = {**(self.state or {}), role: [os.getpid(), begun(os.getpid())]}
-        replace_text(self.note, json.dumps(state))
+        self.write_note(state)
 
     def unnoted(self) -> str:
         """Why the note can't be written, as far as that is so still."""
         try:
-            replace_text(self.note, json.dumps(self.state))
+            self.write_note()
         except OSError as fault:
             return f": {reason(fault)}"
         return ""
@@ -290,7 +322,7 @@ class Processes:
 
     def tells(self) -> bool:
         """Whether its log tells more than that client processes ended with their server."""
-        with contextlib.suppress(FileNotFoundError), open(self.log, "rb") as log:
+        with suppress(FileNotFoundError), open(self.log, "rb") as log:
             return any(line.strip() not in (b"", ENDED) for line in log)
         return False
 
@@ -326,25 +358,24 @@ class Processes:
         host = self.process("host")
         return [(one, begun(one)) for one in children_of(host) if is_scrollback_process(one)] if host else []
 
-    @contextlib.contextmanager
-    def whole(self) -> Iterator[None]:
-        """Ends what is spawned inside, where not all of it could be; what it left goes, and the folder where its log tells nothing."""
-        try:
-            yield
-        except BaseException:
-            for role in list(self.own):
-                self.end(role)
-            with contextlib.suppress(Fault, OSError):
-                self.clean()
-                self.forget()
-            raise
+    def whole(self) -> WholeOrNothing:
+        """Have all of what is spawned in a `with` be there, or nothing of it."""
+        return WholeOrNothing(self)
+
+    def undo(self) -> None:
+        """End what was spawned, of which something could not be; what it left goes, and the folder if its log tells nothing."""
+        for role in list(self.own):
+            self.end(role)
+        with suppress(Fault, OSError):
+            self.clean()
+            self.forget()
 
     def clean(self) -> None:
         """Removes what processes that don't run any more left."""
 
     def forget(self) -> None:
         """Removes the folder of one that doesn't run, where its log tells nothing; its lock is held."""
-        with contextlib.suppress(OSError):
+        with suppress(OSError):
             if not self.logged():
                 for name in ("log", "lock", FRONT_ENDS):
                     (self.folder / name).unlink(missing_ok=True)

@@ -1,14 +1,14 @@
 """Sessions of other machines: a relay stands in for the server."""
 from __future__ import annotations
 
-import contextlib
 import os
-import signal
 import time
 
 from roam_live.common.build_info import identity
 from roam_live.common.errors import Fault
 from roam_live.common.process import end_words, holder_of
+from roam_live.common.signals import signal
+from roam_live.common.suppress import suppress
 from roam_live.session.folder import SessionFolder
 from roam_live.session.names import BUILD, WINDOWS, WINDOWS_VERSION, numbers_in
 from roam_live.session.roles import relay_words
@@ -162,7 +162,7 @@ def in_front() -> None:
 def take_front(group: int) -> None:
     """Has a process group read what is typed at this process's terminal, where it has one."""
     before = signal.signal(signal.SIGTTOU, signal.SIG_IGN)
-    with contextlib.suppress(OSError):
+    with suppress(OSError):
         own = os.open("/dev/tty", os.O_RDWR | os.O_CLOEXEC)
         try:
             os.tcsetpgrp(own, group)

@@ -2,8 +2,8 @@
 from __future__ import annotations
 
 import os
-from collections import namedtuple
 
+from roam_live.common.named_fields import NamedFields
 from roam_live.common.process import TOOLS, program
 
 TYPE_CHECKING = False
@@ -13,7 +13,7 @@ if TYPE_CHECKING:
     Folder = str | os.PathLike[str]
 
 
-class ProcessRole(namedtuple("ProcessRole", "name said socket starter ends")):
+class ProcessRole(NamedFields):
     """A role: its word in notes, its name in messages, its socket, and in words who starts it and when it ends."""
 
     name: str

@@ -2,12 +2,11 @@
 from __future__ import annotations
 
 import os
-import re
 import select
-import socket
 import time
 
 from roam_live.common.io import LineReader
+from roam_live.common.patterns import LazyPattern
 from roam_live.common.unix_socket import connected_now
 from roam_live.protocol.host_lines import SESSION, led
 from roam_live.protocol.panes import PanesState
@@ -15,6 +14,8 @@ from roam_live.protocol.presence import CLIENTS
 
 TYPE_CHECKING = False
 if TYPE_CHECKING:
+    import socket
+
     from roam_live.protocol.panes import Places
     from roam_live.session.folder import SessionFolder
 
@@ -22,7 +23,7 @@ if TYPE_CHECKING:
 ANSWERS = 0.3
 
 # The last line of the answer to `clients`.
-CLIENT_COUNT = re.compile(rf"{SESSION} {CLIENTS} (\d{{1,4}})", re.ASCII)
+CLIENT_COUNT = LazyPattern(rf"(?a){SESSION} {CLIENTS} (\d{{1,4}})")
 
 
 class PanesQuestion:

@@ -1,14 +1,17 @@
 """What has to last of a session's folder: a cleaner of old files, as some systems have for /tmp, takes what nobody used for days."""
 from __future__ import annotations
 
-import contextlib
 import errno
 import fcntl
 import os
 import time
-from collections.abc import Callable, Iterator
 
+from roam_live.common.suppress import suppress
 from roam_live.session.names import WINDOWS
+
+TYPE_CHECKING = False
+if TYPE_CHECKING:
+    from collections.abc import Callable, Iterator
 
 # So many seconds after it was used last what lies in the folder is used again, and so often it is looked whether that is due: by the
 # clock of the day, which goes on while the machine sleeps.
@@ -74,7 +77,7 @@ class Lasting:
         if self.held >= 0 and identity(os.fstat(self.held)) == self.own:
             return
         self.let_go()
-        with contextlib.suppress(OSError):
+        with suppress(OSError):
             end = os.open(self.folder, os.O_RDONLY | os.O_DIRECTORY | os.O_CLOEXEC)
             try:
                 fcntl.flock(end, fcntl.LOCK_EX | fcntl.LOCK_NB)
@@ -96,7 +99,7 @@ class Lasting:
     def keep_session(self) -> None:
         """Writes the session's id again, which this user alone may read, where its file is gone: no process tells it."""
         path = os.path.join(self.folder, "session")
-        with contextlib.suppress(OSError):
+        with suppress(OSError):
             if not self.is_missing("session"):
                 with open(path, "rb") as file:
                     self.session = file.read(64)
@@ -109,7 +112,7 @@ class Lasting:
     def use(self) -> None:
         """Marks all that lies in the folder as used now."""
         for path in self.paths():
-            with contextlib.suppress(OSError):
+            with suppress(OSError):
                 os.utime(path, follow_symlinks=False)
 
     def paths(self) -> Iterator[str]:

@@ -1,0 +1,165 @@
+"""roam_bundle.py: loads many modules at once, from one file of compiled code. Run as a script it writes these files, as installers do.
+
+Python's import takes some 2,500 bytecodes and five system calls for each module, which is most of what a front end takes to be there. A
+bundle has the code of modules in the order of their imports, in `__pycache__` beside this file. It is used while each source is as it was;
+otherwise the modules are imported as ever, and the bundle is written anew. If Python is told to write no bytecode there are no bundles.
+
+A tool imports this before all else: an interrupt while it loads ends it without a word, and `run_tool` takes interrupts from then on.
+"""
+import marshal
+import os
+import sys
+from _signal import SIG_DFL, SIGINT, signal
+
+signal(SIGINT, SIG_DFL)
+
+FOLDER = os.path.dirname(os.path.realpath(__file__))
+PACKAGE = "roam_live"
+
+# For each bundle, the modules that it is for; it has them with what they import at once, but for what the bundles before it have: what all
+# words of mux need that go to a session, and what a front end needs besides.
+ROOTS = {
+    "mux": (f"{PACKAGE}.cli.mux", f"{PACKAGE}.cli.attaching"),
+    "front_end": (f"{PACKAGE}.frontend.app",),
+}
+
+ModuleType, ModuleSpec = type(sys), type(sys.__spec__)
+
+
+def path_of(name):
+    """Return the path of a bundle, which each version of Python has for itself."""
+    return f"{FOLDER}/__pycache__/{name}.{sys.implementation.cache_tag}.bundle"
+
+
+def stamp_of(source):
+    """Return what changes with a source: its time and its size."""
+    found = os.stat(source)
+    return found.st_mtime_ns, found.st_size
+
+
+def load(name):
+    """Load the modules of a bundle that are not there yet, or leave them to be imported."""
+    if sys.dont_write_bytecode:
+        return
+    modules = modules_in(name)
+    if modules is None:
+        write(name)
+        return
+    for module, source, _, code in modules:
+        if module not in sys.modules:
+            begin(module, source, code)
+
+
+def modules_in(name):
+    """Return the modules of a bundle: the name, source, stamp and code of each; None if it is not there, or a source has changed."""
+    try:
+        with open(path_of(name), "rb", 0) as file:
+            version, folder, modules = marshal.loads(file.read())
+        if (version, folder) != (sys.version, FOLDER):
+            return None
+        for _, source, stamp, _ in modules:
+            if stamp_of(source) != stamp:
+                return None
+    except (OSError, ValueError, EOFError, TypeError):
+        return None
+    return modules
+
+
+def begin(name, source, code):
+    """Make a module, and run its code."""
+    module = ModuleType(name)
+    is_package = source.endswith("/__init__.py")
+    module.__file__, module.__spec__ = source, ModuleSpec(name, None, origin=source, is_package=is_package)
+    parent, _, last = name.rpartition(".")
+    module.__package__ = parent
+    if is_package:
+        module.__package__, module.__path__ = name, [os.path.dirname(source)]
+    sys.modules[name] = module
+    try:
+        exec(code, module.__dict__)
+    except BaseException:
+        del sys.modules[name]
+        raise
+    if parent:
+        setattr(sys.modules[parent], last, module)
+
+
+# ---- how a bundle is made
+
+def write(name):
+    """Write a bundle if this user may, so that the next process has it."""
+    if not os.access(os.path.dirname(path_of(name)), os.W_OK):
+        return
+    made = f"{path_of(name)}.{os.getpid()}"
+    try:
+        data = marshal.dumps((sys.version, FOLDER, made_of(name)))
+        with open(made, "wb") as file:
+            file.write(data)
+        os.replace(made, path_of(name))
+    except (OSError, SyntaxError):
+        if os.path.exists(made):
+            os.unlink(made)
+
+
+def made_of(name):
+    """Return the modules of a bundle, compiled: each behind those that it imports."""
+    names = list(ROOTS)
+    before = {}
+    for one in names[: names.index(name)]:
+        add_all(ROOTS[one], before)
+    found = dict(before)
+    add_all(ROOTS[name], found)
+    return [(module, source, stamp, code) for module, (source, stamp, code) in found.items() if module not in before]
+
+
+def add_all(names, found):
+    """Add modules, each behind its packages and behind what it imports at once, unless they are there."""
+    import ast
+
+    for name in names:
+        source = source_of(name)
+        if name in found or source is None:
+            continue
+        add_all([name.rpartition(".")[0]], found)
+        stamp = stamp_of(source)
+        with open(source, encoding="utf-8") as file:
+            tree = ast.parse(file.read(), source)
+        add_all(imports_of(tree), found)
+        found[name] = source, stamp, compiled(tree, source)
+
+
+def compiled(tree, source):
+    """Return the code of a module, without the texts that explain it. What it imports from `__future__` is told to the compiler alone: as it
+    runs that would be one more module."""
+    import ast
+    import __future__
+
+    tree.body = [node for node in tree.body if not (isinstance(node, ast.ImportFrom) and node.module == "__future__")]
+    return compile(tree, source, "exec", __future__.annotations.compiler_flag, dont_inherit=True, optimize=2)
+
+
+def source_of(name):
+    """Return the source of a module of this package; None if the name is none."""
+    if name.partition(".")[0] != PACKAGE:
+        return None
+    base = os.path.join(FOLDER, *name.split("."))
+    return next((path for path in (f"{base}/__init__.py", f"{base}.py") if os.path.isfile(path)), None)
+
+
+def imports_of(tree):
+    """Return the names that a module imports at once, of modules or of what is in them."""
+    import ast
+
+    names = []
+    for node in tree.body:
+        if isinstance(node, ast.Import):
+            names += [alias.name for alias in node.names]
+        elif isinstance(node, ast.ImportFrom):
+            names += [node.module, *(f"{node.module}.{alias.name}" for alias in node.names)]
+    return names
+
+
+if __name__ == "__main__":
+    os.makedirs(os.path.dirname(path_of("")), exist_ok=True)
+    for bundle in ROOTS:
+        write(bundle)

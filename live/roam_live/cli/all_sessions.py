@@ -1,0 +1,50 @@
+"""Words of `mux` about all sessions of this machine, and about roam itself."""
+from __future__ import annotations
+
+from roam_live.common.errors import Fault, say
+from roam_live.common.text import printable
+from roam_live.session.lookup import sessions_here
+
+TYPE_CHECKING = False
+if TYPE_CHECKING:
+    from roam_live.cli.args import Asked
+    from roam_live.session.folder import SessionFolder
+
+
+def list_sessions(asked: Asked) -> int:
+    """Prints a line for each session that runs, and cleans up after those that don't."""
+    from roam_live.session.survey import surveyed
+
+    status = 0
+    running_here: list[tuple[SessionFolder, list[SessionFolder]]] = []
+    for session in sessions_here():
+        try:
+            running_here += [(session, session.windows())] if session.is_listed() else []
+        except Fault as fault:
+            say(f"session {session.name}: {fault}")
+            status = 1
+    for line in surveyed(running_here):
+        print(printable(line))
+    if not running_here and not status:
+        say("no session is running")
+    return status
+
+
+def print_settings(asked: Asked) -> int:
+    """Tells where the settings file is looked for, and what of it isn't done; status 1 where something isn't."""
+    from roam_live.config.user_file import OWN, settings_path, undone
+
+    OWN.read()
+    print(printable(settings_path()) + ("" if OWN.found else ", which isn't there"))
+    lines = undone(OWN.found) if OWN.found else []
+    print("".join(f"{line}\n" for line in lines), end="")
+    return 1 if lines else 0
+
+
+def explain_upgrade(asked: Asked) -> int:
+    """Prints which sessions run another build, and what to do."""
+    from roam_live.cli import upgrade
+
+    for line in upgrade.report(session for session in sessions_here() if session.is_listed()):
+        print(line)
+    return 0

@@ -1,0 +1,133 @@
+"""Words of `mux` that say or ask something of a session that runs, of a window of it or of a pane."""
+from __future__ import annotations
+
+import os
+import sys
+
+from roam_live.cli.targets import ready, running, window_named
+from roam_live.common.errors import Fault
+
+TYPE_CHECKING = False
+if TYPE_CHECKING:
+    from roam_live.cli.args import Asked
+
+
+def list_windows(asked: Asked) -> int:
+    """Prints a line for each window of a session."""
+    from roam_live.cli import windows
+
+    return windows.list_windows(window_named(asked.name)[0])
+
+
+def new_window(asked: Asked) -> int:
+    """Opens a window in a session, and prints its name."""
+    from roam_live.cli import windows
+
+    return windows.new_window(window_named(asked.name)[0], asked.title or "")
+
+
+def rename_window(asked: Asked) -> int:
+    """Gives a window a name."""
+    from roam_live.cli import windows
+
+    return windows.rename(window_named(asked.name)[0], asked.title or "")
+
+
+def command(asked: Asked) -> int:
+    """Does a command of tmux's words in a session."""
+    from roam_live.cli import cmd
+
+    if not asked.words:
+        raise Fault("a command stands behind the session")
+    window, pane = window_named(asked.name)
+    return cmd.run(ready(window), pane, asked.words)
+
+
+def list_clients(asked: Asked) -> int:
+    """Prints a line for each terminal at a session."""
+    from roam_live.cli import windows
+
+    return windows.list_clients(window_named(asked.name)[0])
+
+
+def send(asked: Asked) -> int:
+    """Types words into a session: keys and texts, characters alone, or acts."""
+    words = list(asked.words)
+    # Behind NAME they stand too, as behind tmux's `send-keys -t NAME`.
+    flags = {"-l": asked.is_plain, "-a": asked.has_acts}
+    while words and words[0] in flags:
+        flags[words.pop(0)] = True
+    words = words[1:] if words[:1] == ["--"] else words
+    if all(flags.values()):
+        raise Fault("characters are sent by -l, or acts by -a, and not both")
+    if not words:
+        raise Fault("what is typed stands behind the session, as in `mux send work 'make test' Enter`")
+    window, pane = window_named(asked.name)
+    ready(window)
+    if flags["-l"]:
+        from roam_live.cli import paste as cli_paste
+        from roam_live.protocol import paste_text
+
+        text = os.fsencode("".join(words)).decode("utf-8", "replace")
+        return cli_paste.type_text(window, paste_text.cleaned(text), pane, is_plain=True)
+    from roam_live.cli import send as cli_send
+
+    return cli_send.send(window, words, pane) if flags["-a"] else cli_send.send_words(window, words, pane)
+
+
+def paste(asked: Asked) -> int:
+    """Pastes standard input into a session."""
+    from roam_live.cli import paste as cli_paste
+
+    window, pane = window_named(asked.name)
+    return cli_paste.type_text(ready(window), cli_paste.read_text(asked.is_raw), pane, is_plain=False)
+
+
+def capture(asked: Asked) -> int:
+    """Prints what a session shows, or a pane of it; where rows are named, or how they are printed, rows of a pane."""
+    window, pane = window_named(asked.name)
+    has_rows = asked.begin is not None or asked.end is not None or asked.has_styles or asked.is_joined
+    if has_rows and asked.is_drawn:
+        raise Fault("a picture is drawn of what is shown, and of no other rows")
+    if has_rows:
+        from roam_live.cli import scrollback
+
+        return scrollback.capture_rows(window, pane, asked.begin, asked.end, asked.has_styles, asked.is_joined)
+    from roam_live.cli import capture as cli_capture
+
+    return cli_capture.capture(ready(window), asked.is_drawn, pane)
+
+
+def log(asked: Asked) -> int:
+    """Prints the rows of a pane as they come."""
+    from roam_live.cli import scrollback
+
+    window, pane = window_named(asked.name)
+    return scrollback.log_rows(window, pane, asked.has_styles, asked.is_joined)
+
+
+def keep_texts(asked: Asked) -> int:
+    """Lists, prints, sets or pastes buffers."""
+    from roam_live.cli import scrollback
+
+    session, pane = window_named(asked.name)
+    if pane and asked.does != "paste":
+        raise Fault("buffers are of a session, and of no pane")
+    if asked.does == "paste":
+        return scrollback.put_buffer(ready(session), asked.what, pane)
+    if asked.does == "list" and asked.what is not None:
+        raise Fault("all buffers are listed")
+    if asked.does == "list":
+        return scrollback.list_buffers(session)
+    return scrollback.show_buffer(session, asked.what) if asked.does == "show" else scrollback.set_buffer(session, asked.what)
+
+
+def print_environment(asked: Asked) -> int:
+    """Prints what new panes of a session have of the last attach, for a shell."""
+    from roam_live.session import environment
+
+    session, _ = window_named(asked.name)
+    if session.served != "server":
+        raise Fault(f"session {session.name} is of another machine: what its panes have is told there")
+    sys.stdout.buffer.write(os.fsencode("".join(f"{line}\n" for line in environment.shell_lines(session))))
+    return 0

@@ -1,0 +1,170 @@
+"""Words of `mux` that begin a session and attach to one: of this machine, or of another over ssh."""
+from __future__ import annotations
+
+import os
+
+import roam_bundle
+
+from roam_live.cli.targets import is_in, running, session_of, target_of
+from roam_live.common.errors import Fault, say
+from roam_live.config.environment import chosen_history, chosen_prediction, chosen_prefix, sets_clipboard, wants_mouse
+from roam_live.config.user_file import OWN
+from roam_live.session.foreground import own_pane
+from roam_live.session.lookup import session_named, sweep
+from roam_live.session.names import check_name
+
+TYPE_CHECKING = False
+if TYPE_CHECKING:
+    from collections.abc import Callable
+
+    from roam_live.cli.args import Asked
+    from roam_live.protocol.panes import Places
+    from roam_live.session.folder import SessionFolder
+
+
+def launched(session: SessionFolder) -> bool:
+    """Sees that a session runs with its shells, and tells whether it did before; its lock is held."""
+    if not session.find():
+        session.kill()
+        return False
+    session.note_found()
+    session.demand_host()
+    return True
+
+
+def begin(session: SessionFolder, command: list[str] | None = None) -> None:
+    """Launches a session with all that belongs to it, or nothing of it; its lock is held. Where the environment chooses what can't be it
+    refuses."""
+    OWN.read()
+    chosen_history()
+    with session.whole():
+        session.launch(command or ())
+        session.demand_client()
+
+
+def demand_terminal() -> None:
+    """Refuses to attach where there is no terminal, or what the environment chooses can't be."""
+    OWN.read()
+    chosen_prefix()
+    chosen_prediction()
+    wants_mouse()
+    sets_clipboard()
+    if not (os.isatty(0) and os.isatty(1)):
+        raise Fault("standard input and output have to be a terminal")
+    from roam_live.common.tty import demand_able
+
+    demand_able()
+
+
+def demand_outside(session: SessionFolder) -> None:
+    """Refuses to show a session in a pane of its own, of whichever window."""
+    folder = own_pane()[0]
+    if folder and is_in(folder, session):
+        raise Fault(f"this is a pane of session {session.name}; a session inside itself has no end")
+
+
+def enter(name: str, is_read_only: bool = False, prediction: str | None = None) -> int:
+    """Attaches to a session, which is launched where it isn't running."""
+    demand_terminal()
+    target = target_of(name)
+    session = session_of(target)
+    demand_outside(session)
+    with session.locked():
+        was_there = launched(session)
+        if not was_there:
+            begin(session)
+        window = session.window(target.window)
+        if was_there:
+            window.demand_client()
+    return follow(window, is_read_only, prediction, lambda places: not was_there)
+
+
+def follow(session: SessionFolder, is_read_only: bool, prediction: str | None, is_new: Callable[[Places | None], bool]) -> int:
+    """Has a person follow a session, and tells the status. Of one that has ended then nothing is left."""
+    roam_bundle.load("front_end")
+    from roam_live.frontend import app
+
+    status = app.follow(session, is_read_only, chosen_prefix(), chosen_prediction(prediction), is_new)
+    session.whole_session().await_end()
+    sweep()
+    return status
+
+
+def attach(asked: Asked) -> int:
+    """Attaches to a session that runs; where that is wanted all others leave it first."""
+    session = running(asked.name)
+    if asked.is_alone:
+        from roam_live.cli import windows
+
+        demand_terminal()
+        demand_outside(session)
+        stay = windows.detach_others(session.window(target_of(asked.name).window))
+        if stay:
+            say(f"session {session.name}: {stay} of the terminals there don't leave, as where they are stopped")
+    return enter(asked.name, prediction=asked.predict)
+
+
+def new(asked: Asked) -> int:
+    """Launches a session that isn't running, and attaches to it where that is wanted."""
+    import shutil
+
+    check_name(asked.name)
+    if asked.command and not shutil.which(asked.command[0]):
+        raise Fault(f"{asked.command[0]!r} is no command; the options of new stand before NAME")
+    if not asked.is_detached:
+        demand_terminal()
+    session = session_named(asked.name)
+    with session.locked():
+        if session.find():
+            raise Fault(f"session {asked.name} is running; `mux attach {asked.name}` attaches to it")
+        session.kill()
+        begin(session, asked.command)
+        if asked.is_detached:
+            session.demand_ready()
+    if not asked.is_detached:
+        return follow(session.window(), False, asked.predict, lambda places: True)
+    sweep()
+    return 0
+
+
+def refuse_detach(asked: Asked) -> int:
+    """Tells what leaves a session."""
+    raise Fault(f"{chosen_prefix()} d, typed in the front end, detaches it; the session goes on")
+
+
+def watch(asked: Asked) -> int:
+    """Shows a session."""
+    running(asked.name)
+    return enter(asked.name, True)
+
+
+def enter_far(asked: Asked) -> int:
+    """Attaches to a session of another machine, over ssh: by the relay and the client process that are there, or by new ones."""
+    from roam_live.cli import ssh
+
+    target = target_of(asked.name)
+    check_name(asked.name if target.pane else target.name)
+    demand_terminal()
+    asked.name = target.name
+    command = ssh.command_of(asked)
+    session = ssh.near_session(asked, command)
+    with session.locked():
+        has_begun = not session.find()
+        if has_begun:
+            session.kill()
+            status = session.launch_relay(command, ssh.host_of(asked))
+            if status:
+                return status
+            session.await_windows(target.window, ssh.TOLD_WAIT)
+        window = session.window(target.window)
+        window.demand_client()
+    return follow(window, False, asked.predict, lambda places: has_begun and ssh.is_first_client(places))
+
+
+def carry(asked: Asked) -> int:
+    """Carries a session's datagrams over standard input and output."""
+    from roam_live.cli import ssh
+
+    if os.isatty(0):
+        raise Fault("standard input is a terminal; `mux ssh` on another machine spawns this end")
+    return ssh.carry(asked.name, launched)

@@ -1,0 +1,111 @@
+"""Counts what a tool costs as a process: bytecodes, modules and system calls. No clock and no load changes these counts.
+
+A count may end at the first write that contains a text, as the painting of a terminal.
+"""
+import contextlib
+import ctypes
+import os
+import pathlib
+import signal
+import sys
+
+from roam_live.common.process import TOOLS
+
+CHILD = pathlib.Path(__file__).resolve().parent / "counted_child.py"
+
+# ptrace(2) requests and options of x86-64 Linux, and where the registers of a system call's number and first three arguments are.
+TRACEME, SYSCALL, GETREGS, SETOPTIONS, GOOD_STOPS = 0, 24, 12, 0x4200, 1
+NUMBER, FIRST, SECOND, THIRD = 15, 14, 13, 12
+WRITE = 1
+
+# Marks a stop at a system call, by GOOD_STOPS.
+AT_CALL = signal.SIGTRAP | 0x80
+
+LIBC = ctypes.CDLL(None, use_errno=True)
+LIBC.ptrace.argtypes = [ctypes.c_long, ctypes.c_long, ctypes.c_void_p, ctypes.c_void_p]
+LIBC.ptrace.restype = ctypes.c_long
+
+
+def plain_environment(**more):
+    """The environment of a counted run: that of this process without what changes how Python runs."""
+    return {**{name: value for name, value in os.environ.items() if not name.startswith(("PYTHON", "ROAM"))}, **more}
+
+
+def tool_words(tool, *words):
+    """The words that run a tool of live/ as `roam` does."""
+    return [sys.executable, "-S", str(TOOLS / tool), *words]
+
+
+def traced_words(out, until, tool, *words):
+    """The words that run a tool and write to a file how many bytecodes and modules that took, until a text is written."""
+    return [sys.executable, "-S", str(CHILD), str(out), until, str(TOOLS / tool), *words]
+
+
+# ---- system calls
+
+def ptrace(request, process, data=None):
+    """Make a ptrace request; OSError if the system refuses."""
+    if LIBC.ptrace(request, process, None, data) == -1:
+        raise OSError(ctypes.get_errno(), "ptrace")
+
+
+def has_written(process, text):
+    """Return True if a process that is stopped at a system call is about to write a text."""
+    registers = (ctypes.c_ulonglong * 27)()
+    ptrace(GETREGS, process, ctypes.addressof(registers))
+    if registers[NUMBER] != WRITE:
+        return False
+    with open(f"/proc/{process}/mem", "rb", 0) as memory:
+        memory.seek(registers[SECOND])
+        return text in memory.read(min(registers[THIRD], 1 << 16))
+
+
+def begin_traced(words, environment, terminal):
+    """Fork a process that runs words on a terminal, None for this one's, and is traced; return its number."""
+    process = os.fork()
+    if process:
+        return process
+    try:
+        if terminal is not None:
+            os.setsid()
+            for end in range(3):
+                os.dup2(terminal, end)
+        LIBC.ptrace(TRACEME, 0, None, None)
+        os.kill(os.getpid(), signal.SIGSTOP)
+        os.execvpe(words[0], words, environment)
+    finally:
+        os._exit(127)
+
+
+def system_calls(words, environment, terminal=None, until=b""):
+    """Run words, and return how many system calls that took, until a text is written if one is named; the run ends then."""
+    process = begin_traced(words, environment, terminal)
+    os.waitpid(process, 0)
+    count = passed = 0
+    try:
+        ptrace(SETOPTIONS, process, GOOD_STOPS)
+        while True:
+            ptrace(SYSCALL, process, passed)
+            _, status = os.waitpid(process, 0)
+            if not os.WIFSTOPPED(status):
+                process = 0
+                return count // 2
+            stop = os.WSTOPSIG(status)
+            passed = 0 if stop in (AT_CALL, signal.SIGTRAP) else stop
+            count += stop == AT_CALL
+            if until and stop == AT_CALL and count % 2 and has_written(process, until):
+                return count // 2
+    finally:
+        if process:
+            with contextlib.suppress(OSError):
+                os.kill(process, signal.SIGKILL)
+                os.waitpid(process, 0)
+
+
+# ---- bytecodes
+
+def counts_in(path):
+    """What a counted run wrote: bytecodes, modules, modules of roam, and the names of all."""
+    with open(path, encoding="ascii") as file:
+        numbers, names = file.read().splitlines()
+    return (*map(int, numbers.split()), names.split())
