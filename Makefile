@@ -17,9 +17,12 @@ all: program = roam
 show: program = roam_show_bin
 
 # Each crate prints a line as it is proved; as many go side by side as there are processors. One build waits for another of the same tree.
+# `current` is the stamp by which ./roam knows that nothing has changed since: what is edited meanwhile is newer.
 all show:
 	@mkdir -p crates/roam/out
+	@touch crates/roam/out/began
 	@flock crates/roam/out/lock $(MAKE) -s --no-print-directory -j "$$(nproc)" crates/$(program)/out/built
+	@mv -f crates/roam/out/began crates/$(program)/out/current
 	@crates/$(program)/out/$(program) --help > /dev/null
 
 # A crate is proved, and a program built, once those are proved that it stands on.
