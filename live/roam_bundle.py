@@ -16,10 +16,11 @@ signal(SIGINT, SIG_DFL)
 FOLDER = os.path.dirname(os.path.realpath(__file__))
 PACKAGE = "roam_live"
 
-# For each bundle, the modules that it is for; it has them with what they import at once, but for what the bundles before it have: what all
-# words of mux need that go to a session, and what a front end needs besides.
+# For each bundle, the modules that it is for; it has them with what they import at once, but for what the bundles before it have: what the
+# words of mux need that go to a session, what a front end needs besides to show a window, and the rest of it.
 ROOTS = {
     "mux": (f"{PACKAGE}.cli.mux", f"{PACKAGE}.cli.attaching"),
+    "first_painting": (f"{PACKAGE}.frontend.follow",),
     "front_end": (f"{PACKAGE}.frontend.app",),
 }
 

@@ -11,9 +11,10 @@ from aids import Case, StillLoop, closed, read_now, record
 from roam_live.common import tty
 from roam_live.common.errors import Fault
 from roam_live.common.event_loop import comes
-from roam_live.frontend import app, outer_terminal, paste, window_views
+from roam_live.frontend import app, first_painting, follow, outer_terminal, paste, window_views
 from roam_live.frontend.app import FrontEnd
 from roam_live.frontend.connection import Connecting
+from roam_live.frontend.first_painting import FirstPainting
 from roam_live.frontend.modes import ScrollMode
 from roam_live.input import mouse_reports
 from roam_live.input.extended_keys import QUERY, WANTED, given_back
@@ -72,6 +73,12 @@ class AnySession:
         self.is_closed = True
 
 
+def made_front(place, is_read_only=False, prediction="adaptive", loop=None, is_whole=False, **more):
+    """A front end of a session, which has neither taken the terminal nor connected."""
+    first = FirstPainting(place, is_read_only, "C-b", prediction, is_whole, loop or StillLoop())
+    return FrontEnd(place, is_read_only, "C-b", prediction, lambda places: False, first, **more)
+
+
 class Fronts(Case):
     """A front end on a pseudo-terminal of 24 by 80."""
 
@@ -88,11 +95,11 @@ class Fronts(Case):
         self.addCleanup(self.give_back, kept, slave)
         os.set_blocking(self.master, False)
         self.wakeup, self.wakes = self.pipe()
-        self.patch_of(app, "woken", return_value=self.wakeup)
+        self.patch_of(first_painting, "woken", return_value=self.wakeup)
         self.quiet = self.patch_of(app, "unwoken")
         self.panes = PlayedPanes(self.place)
         self.patch_of(window_views, "PanesSubscriber", lambda folder, loop, changed, tells: self.panes)
-        self.front = FrontEnd(self.place, False, "C-b", "adaptive", lambda places: False, StillLoop())
+        self.front = made_front(self.place)
         self.addCleanup(lambda: closed(self.front.display.outer.end))
         self.addCleanup(lambda: self.front.views.link.close())
         self.addCleanup(lambda: self.front.host_link.end())
@@ -310,6 +317,7 @@ class Loop(Fronts):
         for part, name in ((self.front.connection, "connect"), (self.front, "turn")):
             with self.subTest(name), mock.patch.object(part, name, side_effect=RuntimeError), \
                     mock.patch.object(self.front.views.link, "part") as parts:
+                self.front.display.outer.enter()
                 with self.assertRaises(RuntimeError):
                     self.front.run()
                 parts.assert_not_called()
@@ -320,7 +328,7 @@ class Loop(Fronts):
     def test_not_taken(self):
         """A terminal that can't be taken is left alone."""
         with mock.patch.object(tty, "make_raw", return_value=None), self.assertRaisesRegex(Fault, "^the terminal can't be made raw$"):
-            self.front.run()
+            self.front.first.begin()
         self.assertEqual((termios.tcgetattr(self.slave), self.shown()), (self.before, b""))
 
     def test_colours(self):
@@ -621,11 +629,12 @@ class Loop(Fronts):
 
             with mock.patch.object(self.front.connection, "connect", self.fill), mock.patch.object(self.front, "part", part):
                 self.front.left = "[terminated]"
+                self.front.display.outer.enter()
                 self.front.run()
             self.assertEqual(steps, [(given_back(0) + tty.LEFT + b"[terminated]\r\n", True)])
             self.assertEqual((outer.waiting, outer.is_taken, termios.tcgetattr(self.slave)), (b"", False, self.before))
             self.assertEqual(self.shown().endswith(tty.LEFT + b"[terminated]\r\n"), takes)
-            self.assertEqual(self.quiet.call_args_list.pop(), mock.call(*app.LEAVING))
+            self.assertEqual(self.quiet.call_args_list.pop(), mock.call(*first_painting.LEAVING))
 
     def test_waits(self):
         """What waits for a write that could wait is written a byte each time, while the terminal takes one."""
@@ -646,6 +655,7 @@ class Loop(Fronts):
                     mock.patch.object(self.front, "part", side_effect=ValueError("part")), \
                     mock.patch.object(self.front.connection, "connect", side_effect=None if fails else RuntimeError("first")):
                 self.front.left = "[left]"
+                self.front.display.outer.enter()
                 self.assertRaisesRegex(fails or RuntimeError, "left" if fails else "first", self.front.run)
             self.assertTrue(self.shown().endswith(tty.LEFT + b"[left]\r\n"))
             self.assertEqual(termios.tcgetattr(self.slave), self.before)
@@ -660,14 +670,26 @@ class Loop(Fronts):
             seen.append(has_front_ends(self.place.folder))
             return 5
 
+        self.patch_of(follow, "PAINTS", 0.0)
         with mock.patch.object(app, "FrontEnd") as made:
             made.return_value.run = runs
             self.environment(ROAM_MOUSE="on", ROAM_CLIPBOARD="off")
-            self.assertEqual(app.follow(self.place, True, "C-a", "never"), 5)
+            self.assertEqual(follow.follow(self.place, True, "C-a", "never"), 5)
             self.assertEqual(made.call_args[0][:4], (self.place, True, "C-a", "never"))
-            self.assertEqual(made.call_args[1], {"is_whole": False, "has_mouse": True, "has_clips": False})
+            self.assertEqual(made.call_args[1], {"has_mouse": True, "has_clips": False})
+            first = made.call_args[0][5]
+            self.addCleanup(lambda: closed(first.display.outer.end))
+            self.assertEqual(self.taken(self.listener).recv(999), b"events\nwatch\npart 23 80\n")
+            first.leave()
+            # What can't be is refused before the terminal is taken, and else it is given back.
+            self.shown()
             self.environment(ROAM_MOUSE="no")
-            self.assertRaises(Fault, app.follow, self.place, True, "C-a", "never")
+            self.assertRaises(Fault, follow.follow, self.place, True, "C-a", "never")
+            self.assertEqual(self.shown(), b"")
+            self.environment(ROAM_MOUSE="on")
+            made.side_effect = Fault("the session has ended")
+            self.assertRaises(Fault, follow.follow, self.place, True, "C-a", "never")
+            self.assertTrue(self.shown().endswith(tty.LEFT))
         self.assertEqual((seen, has_front_ends(self.place.folder), self.place.is_closed), ([True], False, True))
 
 
@@ -720,7 +742,7 @@ class Mouse(Fronts):
 
     def test_own(self):
         """Where roam has the mouse itself the terminal is asked as soon as the panes are known."""
-        self.front = FrontEnd(self.place, False, "C-b", "adaptive", lambda places: False, StillLoop(), has_mouse=True)
+        self.front = made_front(self.place, has_mouse=True)
         self.addCleanup(lambda: closed(self.front.display.outer.end))
         self.addCleanup(lambda: self.front.views.link.close())
         self.connect()
@@ -750,7 +772,7 @@ class Clipboard(Fronts):
 
     def front_of(self, is_read_only=False, has_clips=True):
         """A front end that sets it, or doesn't, connected and with a painting."""
-        self.front = FrontEnd(self.place, is_read_only, "C-b", "adaptive", lambda places: False, StillLoop(), has_clips=has_clips)
+        self.front = made_front(self.place, is_read_only, has_clips=has_clips)
         self.addCleanup(lambda: closed(self.front.display.outer.end))
         self.addCleanup(lambda: self.front.views.link.close())
         self.connect()

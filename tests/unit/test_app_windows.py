@@ -12,14 +12,13 @@ from roam_live.common.errors import Fault
 from roam_live.common.event_loop import comes
 from roam_live.config.environment import choose_by_file
 from roam_live.config.user_file import OWN, settings_path
-from roam_live.frontend import app, command_line, window_views
-from roam_live.frontend.app import FrontEnd
+from roam_live.frontend import app, command_line, first_painting, window_views
 from roam_live.frontend.lists import WINDOWS_LINE
 from roam_live.frontend.modes import CopyPasteMode
 from roam_live.frontend.windows import BY_HAND, DROPPED, FAR, LATE, LISTS, NOT_AWAITED, NO_ROOM, OPENING, OPENS, SMALL, TAKES_LONG
 from roam_live.protocol.panes import Places, Rect
 from test_display import PlayedPanes, painting, places
-from test_app import AnySession
+from test_app import AnySession, made_front
 
 LONG = "a text that is long enough to be handed to the pty host"
 
@@ -66,7 +65,7 @@ class Windows(Case):
         os.dup2(slave, 0), os.dup2(slave, 1)
         self.addCleanup(self.give_back, kept, slave)
         os.set_blocking(self.master, False)
-        self.patch_of(app, "woken", return_value=self.pipe()[0])
+        self.patch_of(first_painting, "woken", return_value=self.pipe()[0])
         self.sent_environment = self.patch_of(app, "environment_lines", return_value=[])
         self.patch_of(window_views, "PanesSubscriber", lambda folder, loop, changed, tells: self.played(folder))
         self.loop = StillLoop(lambda: self.now)
@@ -75,7 +74,7 @@ class Windows(Case):
     def front_of(self, **more):
         """A front end that has connected, and was painted something."""
         self.emulated = Emulated(24, 80)
-        front = FrontEnd(self.place, more.pop("is_read_only", False), "C-b", "never", lambda places: False, self.loop, **more)
+        front = made_front(self.place, more.pop("is_read_only", False), "never", self.loop, **more)
         self.addCleanup(self.close, front)
         front.display.outer.enter()
         self.front = front

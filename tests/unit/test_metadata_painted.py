@@ -6,11 +6,11 @@ import random
 import re
 
 from roam_live.frontend import window_views
-from roam_live.frontend.app import FrontEnd
 from roam_live.protocol.panes_client import PanesSubscriber
-from aids import StillLoop, closed, read_now, record
+
+from aids import closed, read_now, record
 from control_strings import chunks, controls
-from test_app import Fronts
+from test_app import Fronts, made_front
 
 # What may be written, by name. In each the text of a group has to be printable.
 FORMS = {
@@ -67,7 +67,7 @@ class Written(Fronts):
 
     def begin(self):
         """A front end that sets the clipboard, at sockets at which panes and notices are told."""
-        self.front = FrontEnd(self.place, False, "C-b", "adaptive", lambda places: False, StillLoop(), has_clips=True)
+        self.front = made_front(self.place, has_clips=True)
         self.addCleanup(lambda outer=self.front.display.outer: closed(outer.end))
         self.addCleanup(self.front.views.link.close)
         self.connect()

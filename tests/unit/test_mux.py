@@ -16,7 +16,7 @@ from roam_live.common.process import TOOLS
 from roam_live.config import environment as config_environment
 from roam_live.config.command_table import BY_NAME, DEFAULT_KEYS
 from roam_live.config.user_file import OWN, settings_path
-from roam_live.frontend import app
+from roam_live.frontend import follow
 from roam_live.protocol.panes import Places, Rect
 from roam_live.relay.frames import greeting
 from roam_live.session import environment as session_environment, local, lookup
@@ -38,7 +38,7 @@ class Mux(Case):
         self.environment(ROAM_PREFIX=None, ROAM_PREDICT=None, ROAM_MOUSE=None, ROAM_CLIPBOARD=None, ROAM_PANE=None, ROAM_HISTORY=None,
                          SHELL="/bin/sh", TERM="xterm")
         self.said, self.text = self.heard(), self.printed()
-        self.follows = self.patch_of(app, "follow", return_value=7)
+        self.follows = self.patch_of(follow, "follow", return_value=7)
         self.is_terminal = True
         self.patch_of(mux.os, "isatty", lambda end: self.is_terminal)
         # What others left is no matter either.

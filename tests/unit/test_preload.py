@@ -1,146 +1,89 @@
-"""What a front end imports while nothing else is to be done, so that it goes on where its files are gone."""
+"""What a front end loads, and when: first what shows something, then the rest, and what few need as they first use it."""
 import ast
 import pathlib
 import subprocess
 import sys
 from unittest import mock
 
-from aids import Case, StillLoop, record
-from roam_live.frontend import connection, status_line
+from aids import Case
+from roam_live.common import build_guard
+from roam_live.common.build_guard import BuildGuard
+from roam_live.frontend import status_line
 from roam_live.frontend.commands import REPLACED
-from roam_live.frontend.connection import BEGINS, MODULES, STEP, Preloading
 from roam_live.frontend.copymode import controller
-from test_display import painting
 from test_app import Fronts
 
-LIVE = pathlib.Path(connection.__file__).resolve().parents[2]
+LIVE = pathlib.Path(build_guard.__file__).resolve().parents[2]
 
-# So many modules of its packages a front end loads at once at most.
-MOST_OWN = 35
+# So many modules of roam the words of mux load, a front end before it shows something, and in all before a key is typed.
+MOST = {"roam_live.cli.attaching": 45, "roam_live.frontend.follow": 65, "roam_live.frontend.app": 105}
 
-# What a process has loaded in which a front end runs: `mux`, or `attach`.
-ROOTS = ("roam_live.frontend.app", "roam_live.session.lookup", "roam_live.session.port_session")
-
-
-def names_of(node):
-    """The modules that a statement imports."""
-    if isinstance(node, ast.Import):
-        return [one.name for one in node.names]
-    named = [f"{node.module}.{one.name}" for one in node.names]
-    return [name if (LIVE / f"{name.replace('.', '/')}.py").exists() else node.module for name in named]
+# What no tool loads that a person waits for.
+SLOW = {"argparse", "base64", "collections", "contextlib", "dataclasses", "enum", "functools", "json", "pathlib", "re", "shlex", "signal", "socket",
+        "subprocess", "tempfile", "threading", "traceback", "typing", "urllib"}
 
 
-def imports(path):
-    """The modules that a module imports where it is loaded, and those that it imports inside of functions."""
-    found = [], []
-
-    def walk(node, is_inside):
-        for child in ast.iter_child_nodes(node):
-            if isinstance(child, ast.If) and getattr(child.test, "id", "") == "TYPE_CHECKING":
-                continue
-            if isinstance(child, (ast.Import, ast.ImportFrom)):
-                found[is_inside].extend(names_of(child))
-            walk(child, is_inside or isinstance(child, (ast.FunctionDef, ast.Lambda)))
-
-    walk(ast.parse(path.read_text(encoding="utf-8")), False)
+def at_once(path):
+    """The modules that a module imports where it is loaded."""
+    found = []
+    for node in ast.parse(path.read_text(encoding="utf-8")).body:
+        if isinstance(node, ast.Import):
+            found += [one.name for one in node.names]
+        elif isinstance(node, ast.ImportFrom):
+            found += [node.module, *(f"{node.module}.{one.name}" for one in node.names)]
     return found
-
-
-def reached(roots):
-    """The modules that these load, with themselves, and those that any of them imports inside of functions."""
-    loaded, inside, left = set(), set(), [*roots]
-    while left:
-        name = left.pop()
-        path = LIVE / f"{name.replace('.', '/')}.py"
-        if name in loaded or not path.exists():
-            loaded.add(name)
-            continue
-        loaded.add(name)
-        at_once, later = imports(path)
-        left += at_once
-        inside.update(later)
-    return loaded, inside
 
 
 class Modules(Case):
     """Which modules those are."""
 
-    def test_all(self):
-        """With them nothing is left that a module of a front end imports inside of a function."""
-        loaded, inside = reached([*ROOTS, *MODULES])
-        self.assertEqual(inside - loaded, set())
-        at_first, _ = reached(ROOTS)
-        self.assertEqual([name for name in MODULES if name in at_first], [], "loaded at once, so that they needn't be listed")
-
-    def test_imported(self):
-        """In a process that imports them in turn all are there, and each of the package that they use."""
-        loaded, _ = reached([*ROOTS, *MODULES])
-        text = ("import sys; sys.path.insert(0, sys.argv[1])\nfor name in sys.argv[2].split(): __import__(name)\n"
-                "print(*[name for name in sys.argv[3].split() if name not in sys.modules])")
-        words = [sys.executable, "-Sc", text, str(LIVE), " ".join((*ROOTS, *MODULES)), " ".join(loaded)]
-        run = subprocess.run(words, stdout=subprocess.PIPE, check=True)
-        self.assertEqual(run.stdout.split(), [])
-
+    def loaded(self, name):
+        """The modules that a process has which imports one."""
+        text = f"import sys; sys.path.insert(0, sys.argv[1])\nimport {name}\nprint(*sys.modules)"
+        run = subprocess.run([sys.executable, "-ISc", text, str(LIVE)], stdout=subprocess.PIPE, check=True)
+        return run.stdout.decode().split()
 
     def test_few(self):
-        """A front end loads few modules before its first painting: of its packages not more than these, and none that takes long."""
-        text = "import sys; sys.path.insert(0, sys.argv[1])\nimport roam_live.frontend.app\nprint(*sys.modules)"
-        run = subprocess.run([sys.executable, "-ISc", text, str(LIVE)], stdout=subprocess.PIPE, check=True)
-        names = run.stdout.decode().split()
-        own = [name for name in names if name.startswith(("roam_live.frontend.", "roam_live.config.", "roam_live.input."))]
-        self.assertLessEqual(len(own), MOST_OWN, own)
-        self.assertEqual({"argparse", "json", "subprocess", "threading", "typing", "shlex", "base64"} & set(names), set())
+        """They are few of roam, and none that takes long."""
+        for name, most in MOST.items():
+            names = self.loaded(name)
+            own = [one for one in names if one.startswith("roam_live.")]
+            self.assertLessEqual(len(own), most, (name, own))
+            self.assertEqual(SLOW & set(names), set(), name)
+
+    def test_types(self):
+        """Types are imported for who checks them alone, in each module that is loaded then."""
+        for name in self.loaded("roam_live.frontend.app"):
+            path = LIVE / f"{name.replace('.', '/')}.py"
+            if name.startswith("roam_live.") and path.exists():
+                self.assertEqual({"collections.abc", "typing"} & set(at_once(path)), set(), name)
 
 
-class Turns(Case):
-    """When they are imported."""
+class Guarded(Case):
+    """Imports of another build."""
 
-    def test_steps(self):
-        """They begin once, a moment later, and each has a turn of its own."""
-        loop = StillLoop(lambda: self.now)
-        done = Preloading(loop)
-        with mock.patch("builtins.__import__") as imported:
-            done.begin()
-            done.begin()
-            for step in range(len(MODULES) + 1):
-                self.now += STEP if step else BEGINS
-                self.assertEqual(imported.call_count, step)
-                loop.do_due()
-            self.now += 9
-            loop.do_due()
-        self.assertEqual(([call[0][0] for call in imported.call_args_list], loop.due), ([*MODULES], {}))
-
-    def test_gone(self):
-        """One that can't be imported is told of, and the rest is left."""
-        loop = StillLoop(lambda: self.now)
-        done = Preloading(loop)
-        done.begin()
-        self.now += BEGINS
-        with mock.patch("builtins.__import__", side_effect=ModuleNotFoundError("none")):
-            self.assertRaises(ImportError, loop.do_due)
-        self.assertEqual((loop.due, done.left), ({}, []))
+    def test_guard(self):
+        """A module of roam isn't imported once another build is in its place; those of others are, and so is all behind it."""
+        built = self.patch_of(build_guard, "identity", return_value="1 a")
+        guard = BuildGuard()
+        guard.begin()
+        self.assertIs(sys.meta_path[0], guard)
+        self.assertIsNone(guard.find_spec("roam_live.any"))
+        built.return_value = "1 b"
+        self.assertRaises(ImportError, __import__, "roam_live.cli.none")
+        self.assertIsNone(guard.find_spec("shlex"))
+        guard.end()
+        self.assertNotIn(guard, sys.meta_path)
 
 
 class Gone(Fronts):
-    """A front end whose files are gone."""
-
-    def test_begins(self):
-        """The first painting begins the imports."""
-        self.connect()
-        self.assertNotIn("import", self.front.loop.due)
-        self.paints()
-        self.assertEqual(self.front.loop.due["import"][0], self.now + BEGINS)
-        self.client.send(record("anew", data=painting(23, 80)))
-        self.front.loop.drop("import")
-        self.turn()
-        self.assertNotIn("import", self.front.loop.due)
+    """A front end in whose place another build was put."""
 
     def test_key(self):
-        """A key that needs a module that is gone is told of, and the next ones are typed."""
+        """A key that needs a module of another build is told of, and the next ones are typed."""
         client = self.connect()
         self.paints()
-        gone = ModuleNotFoundError("No module named 'roam_live.frontend.copymode.keys'")
-        with mock.patch.object(controller.Copying, "open", side_effect=gone):
+        with mock.patch.object(controller.Copying, "open", side_effect=ImportError("another build")):
             self.type(b"\x02[x")
         self.assertEqual((self.front.display.row.told, self.front.left), (REPLACED, None))
         self.assertIn(b"char 78\n", client.recv(9999))
@@ -154,7 +97,7 @@ class Gone(Fronts):
         commands.copying.state.events.append(None)
 
         def fails():
-            raise ModuleNotFoundError("none")
+            raise ImportError("another build")
 
         self.front.loop.later("anything", 0.0, fails)
         self.turn(1)

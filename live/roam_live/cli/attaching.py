@@ -81,10 +81,10 @@ def enter(name: str, is_read_only: bool = False, prediction: str | None = None) 
 
 def follow(session: SessionFolder, is_read_only: bool, prediction: str | None, is_new: Callable[[Places | None], bool]) -> int:
     """Has a person follow a session, and tells the status. Of one that has ended then nothing is left."""
-    roam_bundle.load("front_end")
-    from roam_live.frontend import app
+    roam_bundle.load("first_painting")
+    from roam_live.frontend import follow as frontend
 
-    status = app.follow(session, is_read_only, chosen_prefix(), chosen_prediction(prediction), is_new)
+    status = frontend.follow(session, is_read_only, chosen_prefix(), chosen_prediction(prediction), is_new)
     session.whole_session().await_end()
     sweep()
     return status

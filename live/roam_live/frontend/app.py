@@ -3,15 +3,14 @@ from __future__ import annotations
 
 import time
 
+from roam_live.common.build_guard import BuildGuard
 from roam_live.common.errors import all_done
-from roam_live.common.event_loop import Loop
 from roam_live.common.io import read
-from roam_live.common.process import unwoken, woken
+from roam_live.common.process import unwoken
 from roam_live.common.signals import signal
-from roam_live.config.environment import sets_clipboard, wants_mouse
 from roam_live.frontend.bindings import Keymap
 from roam_live.frontend.connection import PROBES, SIZES, Connecting
-from roam_live.frontend.display import Display
+from roam_live.frontend.first_painting import LEAVING, FirstPainting
 from roam_live.frontend.interpreter import Interpreter
 from roam_live.frontend.modes import ModeStack
 from roam_live.frontend.settings import FrontSettings, StatusRow, format_values
@@ -22,7 +21,6 @@ from roam_live.protocol.client_link import LAST_WAIT
 from roam_live.protocol.host_link import HostLink
 from roam_live.protocol.panes import KEYPAD, Places
 from roam_live.session.environment import environment_lines
-from roam_live.session.front_end_lock import FrontEndLock
 from roam_live.session.host_watchdog import HostWatchdog
 
 TYPE_CHECKING = False
@@ -41,22 +39,20 @@ DETACHED = "[detached from elsewhere]"
 # What is said besides of a paste that could not be handed over any more.
 UNPASTED = " what was pasted last isn't typed"
 
-LEAVING = (signal.SIGTERM, signal.SIGHUP, signal.SIGINT)
-
 
 class FrontEnd:
     """A person at a terminal, and the session there: at one of its windows, where it has several."""
 
     def __init__(self, session: AnySession, is_read_only: bool, prefix: str, prediction: str, is_new: Callable[[Places | None], bool],
-                 loop: Loop | None = None, is_whole: bool = False, has_mouse: bool = False, has_clips: bool = False) -> None:
-        self.session, self.loop = session, loop or Loop()
+                 first: FirstPainting, has_mouse: bool = False, has_clips: bool = False) -> None:
+        self.session, self.first, self.loop = session, first, first.loop
         self.left: str | None = None
         self.left_at: float | None = None
         self.status = 0
         self.command_runner: CommandRunner | None = None
-        self.wakeup = woken(signal.SIGWINCH, signal.SIGCONT, signal.SIGTSTP, *LEAVING)
+        self.wakeup, self.display = first.wakeup, first.display
+        self.guard = BuildGuard()
         self.watchdog = HostWatchdog(session, self.loop, lambda line: self.display.row.tell(line, LOSS_TOLD))
-        self.display = Display(self.loop, lambda line: self.connection.say(line))
         self.keyboard = Interpreter(ModeStack(Keymap()), self.display, self.loop, lambda: self.views.view.commands, lambda: self.windows)
         # The name of a session without its window, which changes.
         self.name = session.name.removesuffix(f":{session.number}")
@@ -64,10 +60,12 @@ class FrontEnd:
         self.settings = FrontSettings(self.keyboard, status_row, prefix, prediction)
         self.host_link = HostLink(session.common, self.loop, self.display.outer.size, is_read_only)
         self.host_link.environment = environment_lines(session, is_read_only)
-        maker = ViewMaker(self.keyboard, self.settings, self.host_link, self.leave, is_read_only, is_whole, has_clips and not is_read_only)
-        self.views = WindowViews(maker, session, is_new)
+        maker = ViewMaker(self.keyboard, self.settings, self.host_link, self.leave, is_read_only, first.is_whole,
+                          has_clips and not is_read_only)
+        self.views = WindowViews(maker, session, is_new, first.link)
         self.windows = WindowWishes(self.views, self.host_link)
         self.connection = Connecting(self.views, self.windows.leave)
+        first.says = self.connection.say
         self.join_parts()
         self.keyboard.choose(prefix)
         self.views.commands.pointing.is_on = has_mouse
@@ -212,11 +210,11 @@ class FrontEnd:
     def run(self) -> int:
         """Follows the session until the person leaves or it ends, and tells the status."""
         try:
-            self.display.outer.enter()
+            self.guard.begin()
             self.ask_colours()
             self.settings.tell(advice(self.settings.prefix))
             self.settings.run_file()
-            self.connection.connect()
+            self.connection.begin(self.first.records)
             if self.views.view.server is None:
                 self.loop.later("probe", PROBES, self.connection.probe)
             while self.left is None or self.hands_over():
@@ -230,18 +228,4 @@ class FrontEnd:
         whatever hangs behind that is ended by a signal."""
         outer, left = self.display.outer, self.left
         all_done(self.views.commands.left, lambda: outer.begin_leave(left and left + UNPASTED * self.views.hands_over()), self.part,
-                 outer.end_leave, lambda: unwoken(*LEAVING))
-
-
-def follow(session: AnySession, is_read_only: bool, prefix: str, prediction: str,
-           is_new: Callable[[Places | None], bool] = lambda places: False, is_whole: bool = False) -> int:
-    """Has a person follow a session at this terminal, and tells the status; predictions are shown always, where that helps, or never. Where
-    the session is new, which may be known a moment later, it gets this terminal's size, whatever that is. It may be shown whole, where
-    there is room for its own status row."""
-    try:
-        has_mouse, has_clips = wants_mouse(), sets_clipboard()
-        with FrontEndLock(session.common):
-            return FrontEnd(session, is_read_only, prefix, prediction, is_new, is_whole=is_whole, has_mouse=has_mouse,
-                            has_clips=has_clips).run()
-    finally:
-        session.close()
+                 outer.end_leave, self.guard.end, lambda: unwoken(*LEAVING))

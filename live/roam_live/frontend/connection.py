@@ -1,5 +1,5 @@
 """A front end's connection to the client process of the window where the person is: it is had again where it is lost, and a person is told
-where lines that were typed aren't taken. While nothing else is to be done it imports what may be needed later."""
+where lines that were typed aren't taken."""
 from __future__ import annotations
 
 import os
@@ -15,48 +15,6 @@ from roam_live.protocol.display_records import DisplayRecord
 TYPE_CHECKING = False
 if TYPE_CHECKING:
     from collections.abc import Callable
-
-# What the modules of a front end import inside of functions, in an order in which none brings many others.
-MODULES = (
-    "roam_live.input.key_names", "roam_live.config.command_table", "roam_live.frontend.copymode.keys", "roam_live.frontend.copymode.rows",
-    "roam_live.protocol.screen_cells", "roam_live.frontend.copymode.motions", "roam_live.frontend.copymode.search",
-    "roam_live.frontend.copymode.selection", "roam_live.frontend.copymode.viewport", "roam_live.frontend.copymode.actions",
-    "roam_live.frontend.copymode.mode", "roam_live.frontend.copymode.state", "roam_live.frontend.copymode.render",
-    "roam_live.frontend.copymode.mouse", "base64", "roam_live.frontend.copymode.controller", "roam_live.frontend.borders",
-    "roam_live.frontend.resize_keys", "roam_live.frontend.spawn_commands", "roam_live.frontend.command_line", "roam_live.config.parser",
-    "roam_live.config.loader", "roam_live.config.formats", "shlex", "traceback",
-)
-
-# So many seconds after the first painting they begin, and so many lie between two: a key isn't kept waiting by more than one.
-BEGINS = 0.2
-STEP = 0.01
-
-
-class Preloading:
-    """The imports of one front end, each in a turn of its loop."""
-
-    def __init__(self, loop: Loop) -> None:
-        self.loop = loop
-        self.left = list(MODULES)
-        self.has_begun = False
-
-    def begin(self) -> None:
-        """Begin, if that wasn't done before."""
-        if not self.has_begun:
-            self.has_begun = True
-            self.loop.later("import", BEGINS, self.step)
-
-    def step(self) -> None:
-        """Import the next module that isn't there yet. ImportError where it can't be imported: the rest is left then."""
-        if self.left:
-            name, *self.left = self.left
-            try:
-                __import__(name)
-            except ImportError:
-                self.left = []
-                raise
-            self.loop.later("import", STEP, self.step)
-
 
 # What the moment is called at which it is looked again, and how many seconds lie between two looks.
 MOMENT = "untaken"
@@ -146,8 +104,17 @@ class Connecting:
 
     def __init__(self, views: WindowViews, leaves_window: Callable[[int], bool]) -> None:
         self.views, self.leaves_window, self.display, self.loop = views, leaves_window, views.display, views.loop
-        self.preloading = Preloading(self.loop)
         self.untaken = UntakenLines(lambda: views.link, self.display.row, self.loop, self.ask_server)
+
+    def begin(self, records: list[DisplayRecord]) -> None:
+        """Go on with the connection that the first painting came by, of which these records came; without one, connect."""
+        if not self.views.link.peer:
+            self.connect()
+            return
+        self.views.view.reconnector.connected()
+        self.follow_window()
+        for record in records:
+            self.note(record)
 
     def connect(self) -> None:
         """Connect to the client; if that can't be done now it is tried again, and the person may leave."""
@@ -182,12 +149,16 @@ class Connecting:
 
     def show_window(self) -> None:
         """Have a client that is connected paint what is to be shown."""
+        self.display.notice = ""
+        self.display.begin()
+        self.follow_window()
+
+    def follow_window(self) -> None:
+        """Go by what a client that is connected reports, and have it show what there is to see."""
         link, commands = self.views.link, self.views.commands
         self.loop.add(link, self.hear, self.send, hears=lambda: len(self.display.outer.waiting) < PAINTED_LIMIT,
                       has_more=lambda: link.waiting)
         commands.acts.paused = False
-        self.display.notice = ""
-        self.display.begin()
         commands.show_known()
         commands.follower.fit_first()
         commands.acts.act(*([] if commands.modes.has(ScrollMode) else [NEWEST]))
@@ -228,11 +199,14 @@ class Connecting:
             self.take(record)
 
     def take(self, record: DisplayRecord) -> None:
-        """Take a record: by the size of what is painted that of the session may be known, if nothing else reports it."""
+        """Take a record."""
         self.display.take(record)
+        self.note(record)
+
+    def note(self, record: DisplayRecord) -> None:
+        """Take note of a record: by the size of what is painted that of the session may be known, if nothing else reports it."""
         if record.word in ("paint", "anew"):
             self.untaken.painted = self.loop.clock()
-            self.preloading.begin()
         elif record.word == "size":
             follower = self.views.commands.follower
             if not follower.is_fitted and "size" not in self.loop.due:

@@ -113,8 +113,7 @@ class Interpreter:
         """Make the key of a name the prefix."""
         self.modes.keymap.choose(prefix)
         self.modes.keymap.rows = self.display.outer.size()[0]
-        self.display.row.fits_line = "" if self.commands().link.is_read_only else f"{prefix} r fits"
-        self.display.row.leaves_line = f"{prefix} d leaves"
+        self.display.row.name_keys(prefix, self.commands().link.is_read_only)
 
     # ---- what is typed
 

@@ -65,6 +65,11 @@ class LastRow:
         # The line that stands there, and where.
         self.line_put: tuple[str, int, int] | None = None
 
+    def name_keys(self, prefix: str, is_read_only: bool) -> None:
+        """Have the row tell keys behind the prefix of this name: which fits the session to the terminal, and which leaves."""
+        self.fits_line = "" if is_read_only else f"{prefix} r fits"
+        self.leaves_line = f"{prefix} d leaves"
+
     # ---- what it says
 
     def line(self) -> str:

@@ -199,10 +199,11 @@ class ViewMaker:
         self.display.row.tell(line, LOSS_TOLD)
         self.here().show_known()
 
-    def begun(self, session: AnySession, is_new: Callable[[Places | None], bool] = lambda places: False) -> WindowView:
-        """Return a view of a window."""
-        loop, display = self.loop, self.display
-        link, panes = ClientLink(session.terminals, self.is_read_only, self.settings.prediction), self.followed(session)
+    def begun(self, session: AnySession, is_new: Callable[[Places | None], bool] = lambda places: False,
+              link: ClientLink | None = None) -> WindowView:
+        """Return a view of a window, by a connection to its client process that was begun before, or by another."""
+        loop, display, panes = self.loop, self.display, self.followed(session)
+        link = link or ClientLink(session.terminals, self.is_read_only, self.settings.prediction)
         host = HostClient(self.host_link, session.number, lambda: commands.follower.others_told())
         host.notices = lambda words: display.row.tell(words, LOSS_TOLD)
         commands = Commands(session, panes, link, display, loop, self.leave, self.keyboard.modes, self.keyboard.take_back,
@@ -218,7 +219,8 @@ class WindowViews:
     come to another.
     """
 
-    def __init__(self, maker: ViewMaker, session: AnySession, is_new: Callable[[Places | None], bool]) -> None:
+    def __init__(self, maker: ViewMaker, session: AnySession, is_new: Callable[[Places | None], bool],
+                 link: ClientLink | None = None) -> None:
         self.maker, self.loop, self.display = maker, maker.loop, maker.display
         self.draining = DrainingViews(maker.loop)
         # The sizes of the windows of which all was shown as they were left, by their numbers.
@@ -226,7 +228,7 @@ class WindowViews:
         self.server_ends: Callable[[WindowView], object] = lambda view: None
         self.shows: Callable[[], object] = lambda: None
         server = opened_server(session)
-        self.enter(maker.begun(session, is_new), server)
+        self.enter(maker.begun(session, is_new, link), server)
 
     # ---- the window where the person is
 

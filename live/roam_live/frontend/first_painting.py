@@ -1,0 +1,75 @@
+"""Shows a window on a person's terminal before the rest of the front end is loaded: the terminal is taken, the client process is asked for
+what it is to show, and what it paints is written. The front end goes on with all of that."""
+from __future__ import annotations
+
+import time
+
+from roam_live.common.errors import all_done
+from roam_live.common.event_loop import READ, Loop, ready
+from roam_live.common.process import woken
+from roam_live.common.signals import signal
+from roam_live.config.environment import text_of
+from roam_live.frontend.display import Display
+from roam_live.frontend.sizes import NO_SIZE
+from roam_live.protocol.client_link import ClientLink
+
+TYPE_CHECKING = False
+if TYPE_CHECKING:
+    from collections.abc import Callable
+
+    from roam_live.protocol.display_records import DisplayRecord
+    from roam_live.protocol.session_interface import AnySession
+
+LEAVING = (signal.SIGTERM, signal.SIGHUP, signal.SIGINT)
+
+
+class FirstPainting:
+    """A person's terminal, and the connection to the client process of the window that is shown there first.
+
+    `says` takes the lines by which the display asks the client for something. Whoever goes on with the display sets it.
+    """
+
+    def __init__(self, session: AnySession, is_read_only: bool, prefix: str, prediction: str, is_whole: bool = False,
+                 loop: Loop | None = None) -> None:
+        self.loop, self.is_whole = loop or Loop(), is_whole
+        # Signals are kept from here on, since the terminal has to be given back.
+        self.wakeup = woken(signal.SIGWINCH, signal.SIGCONT, signal.SIGTSTP, *LEAVING)
+        self.link = ClientLink(session.terminals, is_read_only, prediction)
+        self.says: Callable[[str], object] = self.link.say
+        self.display = Display(self.loop, lambda line: self.says(line))
+        self.display.part.is_row_hidden = text_of("status") == "off"
+        self.display.row.name_keys(prefix, is_read_only)
+        # What the client reported so far, without what it painted.
+        self.records: list[DisplayRecord] = []
+
+    def begin(self) -> None:
+        """Take the terminal, and ask the client for what is to be shown, if there is one."""
+        self.display.outer.enter()
+        self.display.outer.put()
+        try:
+            self.link.connect()
+        except OSError:
+            # Why, and what becomes of that, is the front end's.
+            return
+        self.display.begin()
+        self.display.know(NO_SIZE, "", self.is_whole)
+        self.link.send()
+
+    def show(self, seconds: float) -> None:
+        """Write what the client paints, once it does in so many seconds."""
+        end = time.monotonic() + seconds
+        while self.link.peer and self.display.part.is_stale and not self.display.notice:
+            if not ready(self.link, READ, end - time.monotonic()):
+                break
+            records = self.link.read_events()
+            if records is None:
+                # The end of the connection is read again.
+                break
+            for record in records:
+                self.display.take(record)
+                self.records.append(record._replace(data=b""))
+        self.display.outer.put()
+
+    def leave(self) -> None:
+        """Give the terminal back."""
+        all_done(lambda: self.display.outer.leave(None), self.link.close)
