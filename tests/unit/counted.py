@@ -4,12 +4,15 @@ A count may end at the first write that contains a text, as the painting of a te
 """
 import contextlib
 import ctypes
+import math
 import os
 import pathlib
 import signal
+import subprocess
 import sys
+import time
 
-from roam_live.common.process import TOOLS
+from roam_live.common.named_fields import NamedFields
 
 CHILD = pathlib.Path(__file__).resolve().parent / "counted_child.py"
 
@@ -31,14 +34,9 @@ def plain_environment(**more):
     return {**{name: value for name, value in os.environ.items() if not name.startswith(("PYTHON", "ROAM"))}, **more}
 
 
-def tool_words(tool, *words):
-    """The words that run a tool of live/ as `roam` does."""
-    return [sys.executable, "-S", str(TOOLS / tool), *words]
-
-
-def traced_words(out, until, tool, *words):
-    """The words that run a tool and write to a file how many bytecodes and modules that took, until a text is written."""
-    return [sys.executable, "-S", str(CHILD), str(out), until, str(TOOLS / tool), *words]
+def tool_words(tools, name, *words):
+    """The words that run a tool of a folder as `roam` does."""
+    return [sys.executable, "-S", str(tools / name), *words]
 
 
 # ---- system calls
@@ -61,15 +59,15 @@ def has_written(process, text):
 
 
 def begin_traced(words, environment, terminal):
-    """Fork a process that runs words on a terminal, None for this one's, and is traced; return its number."""
+    """Fork a process that runs words on a terminal, None for none, and is traced; return its number."""
     process = os.fork()
     if process:
         return process
     try:
-        if terminal is not None:
-            os.setsid()
-            for end in range(3):
-                os.dup2(terminal, end)
+        os.setsid()
+        given = os.open(os.devnull, os.O_RDWR) if terminal is None else terminal
+        for end in range(3):
+            os.dup2(given, end)
         LIBC.ptrace(TRACEME, 0, None, None)
         os.kill(os.getpid(), signal.SIGSTOP)
         os.execvpe(words[0], words, environment)
@@ -104,8 +102,23 @@ def system_calls(words, environment, terminal=None, until=b""):
 
 # ---- bytecodes
 
-def counts_in(path):
-    """What a counted run wrote: bytecodes, modules, modules of roam, and the names of all."""
-    with open(path, encoding="ascii") as file:
-        numbers, names = file.read().splitlines()
-    return (*map(int, numbers.split()), names.split())
+class Counts(NamedFields):
+    """What a run took: bytecodes, modules, those of roam, and the names of all."""
+
+    bytecodes: int
+    modules: int
+    own: int
+    names: list
+
+
+def bytecodes_of(out, tools, words, environment, until=b"", terminal=None, end=math.inf):
+    """Run `mux` of a folder with these words on a terminal, None for none, until a text is written or a moment, and return the counts."""
+    asked = [sys.executable, "-S", str(CHILD), str(out), os.fsdecode(until), str(tools / "mux"), *words]
+    given = subprocess.DEVNULL if terminal is None else terminal
+    with subprocess.Popen(asked, env=environment, stdin=given, stdout=given, stderr=given, start_new_session=True) as process:
+        while not out.exists() and process.poll() is None and time.monotonic() < end:
+            time.sleep(0.01)
+        process.kill()
+    numbers, names = out.read_text(encoding="ascii").splitlines()
+    out.unlink()
+    return Counts(*map(int, numbers.split()), names.split())

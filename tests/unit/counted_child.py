@@ -37,8 +37,10 @@ class BytecodeCounter:
             self.is_done = True
             sys.settrace(None)
             own = sum(name.startswith("roam_live.") for name in sys.modules)
-            with open(self.out, "w", encoding="ascii") as file:
+            made = f"{self.out}.new"
+            with open(made, "w", encoding="ascii") as file:
                 file.write(f"{self.count} {len(sys.modules)} {own}\n{' '.join(sys.modules)}\n")
+            os.replace(made, self.out)
 
 
 def main():

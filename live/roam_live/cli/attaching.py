@@ -44,6 +44,10 @@ def begin(session: SessionFolder, command: list[str] | None = None) -> None:
 
 def demand_terminal() -> None:
     """Refuses to attach where there is no terminal, or what the environment chooses can't be."""
+    # All that shows a window has to do with this terminal.
+    roam_bundle.load("first_painting")
+    from roam_live.common.tty import demand_able
+
     OWN.read()
     chosen_prefix()
     chosen_prediction()
@@ -51,7 +55,6 @@ def demand_terminal() -> None:
     sets_clipboard()
     if not (os.isatty(0) and os.isatty(1)):
         raise Fault("standard input and output have to be a terminal")
-    from roam_live.common.tty import demand_able
 
     demand_able()
 
@@ -81,7 +84,6 @@ def enter(name: str, is_read_only: bool = False, prediction: str | None = None) 
 
 def follow(session: SessionFolder, is_read_only: bool, prediction: str | None, is_new: Callable[[Places | None], bool]) -> int:
     """Has a person follow a session, and tells the status. Of one that has ended then nothing is left."""
-    roam_bundle.load("first_painting")
     from roam_live.frontend import follow as frontend
 
     status = frontend.follow(session, is_read_only, chosen_prefix(), chosen_prediction(prediction), is_new)

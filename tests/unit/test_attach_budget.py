@@ -1,0 +1,86 @@
+"""What an attach and the short words of mux cost as processes, counted in bytecodes and system calls, which no clock and no load changes."""
+import os
+import pty
+import select
+import shutil
+import subprocess
+import threading
+import time
+
+from aids import Case
+from counted import bytecodes_of, plain_environment, system_calls, tool_words
+from played_session import LABELLED, PAINTED, PlayedSession
+from roam_live.common import tty
+from roam_live.common.process import TOOLS
+
+# Most bytecodes and system calls of an attach until the first painting is written, and until the last row has all that is reported. Python
+# 3.11 takes 47,000 and 550, and 94,000 and 710; other versions have other bytecodes.
+MOST_PAINTED = 60000, 650
+MOST_LABELLED = 115000, 850
+
+# The same of words that need no terminal, of which each takes so many at most: `ls` of one session, and the help of a word, for which
+# argparse is loaded.
+MOST_WORDS = {("ls",): (75000, 700), ("help",): (40000, 600), ("help", "ls"): (330000, 1100)}
+
+# So many runs are tried: a machine under load may take a turn of the loop more.
+TRIES = 4
+
+# So many seconds a run has.
+WAIT = 30.0
+
+
+class Budget(Case):
+    """A copy of the tools, with bundles, and a session that is played."""
+
+    def setUp(self):
+        self.folder = self.made_folder()
+        self.tools = self.folder / "live"
+        shutil.copytree(TOOLS, self.tools, ignore=shutil.ignore_patterns("__pycache__"))
+        run = self.folder / "run"
+        run.mkdir(mode=0o700)
+        self.session = PlayedSession(run)
+        self.addCleanup(self.session.close)
+        self.known = plain_environment(XDG_RUNTIME_DIR=str(run), XDG_CONFIG_HOME=str(self.folder), TERM="xterm", LC_ALL="C.UTF-8")
+        # What Python and roam keep of the sources is written before.
+        for words in (tool_words(self.tools, "roam_bundle.py"), tool_words(self.tools, "mux", "help", "ls")):
+            subprocess.run(words, env=self.known, stdout=subprocess.DEVNULL, stderr=subprocess.DEVNULL, check=True)
+
+    def terminal(self):
+        """A terminal of 24 by 80, whose output is read and dropped until the test ends."""
+        master, slave = pty.openpty()
+        tty.set_size(slave, 24, 80)
+        ended = threading.Event()
+
+        def drain():
+            while not ended.is_set():
+                if select.select([master], [], [], 0.05)[0]:
+                    os.read(master, 65536)
+
+        thread = threading.Thread(target=drain, daemon=True)
+        thread.start()
+        self.addCleanup(lambda: (ended.set(), thread.join(), os.close(master), os.close(slave)))
+        return slave
+
+    def demand(self, words, most, until=b"", terminal=None):
+        """Sees that words take no more than so many bytecodes and system calls until a text is written, at best."""
+        found = []
+        for _ in range(TRIES):
+            counts = bytecodes_of(self.folder / "counts", self.tools, words, self.known, until, terminal, time.monotonic() + WAIT)
+            calls = system_calls(tool_words(self.tools, "mux", *words), self.known, terminal, until)
+            found.append((counts.bytecodes, calls))
+            if found[-1][0] <= most[0] and found[-1][1] <= most[1]:
+                return
+        self.fail(f"mux {' '.join(words)}: {found} bytecodes and system calls, and at most {most} are wanted")
+
+    def test_painted(self):
+        """An attach shows the window soon."""
+        self.demand(["attach", "main"], MOST_PAINTED, PAINTED, self.terminal())
+
+    def test_labelled(self):
+        """And all that is reported of the session a little later."""
+        self.demand(["attach", "main"], MOST_LABELLED, LABELLED, self.terminal())
+
+    def test_words(self):
+        """Short words do."""
+        for words, most in MOST_WORDS.items():
+            self.demand([*words], most)
