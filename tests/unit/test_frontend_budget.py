@@ -1,24 +1,28 @@
-"""What a key and its echo cost a front end, counted and not timed: more than that isn't seen before it is felt."""
-import collections
+"""What a key and its echo, and a painting, cost a front end, counted and not timed: more than that isn't seen before it is felt."""
 import os
-import pathlib
 import select
-import sys
 from unittest import mock
 
 from aids import read_now, record
-from roam_live.frontend import app
+from counted_turns import TurnCounter
+from roam_live.frontend.windows_client import WindowsState
 from roam_live.input.keys import Key
+from roam_live.protocol.window_lines import WINDOW
 from test_app import Fronts
 
-LIVE = str(pathlib.Path(app.__file__).resolve().parents[1])
+# So many events are counted, after so many that aren't.
+EVENTS, BEFORE = 10, 3
 
-# So many keys are counted, after so many that aren't.
-KEYS, BEFORE = 10, 3
+# So many seconds after an echo what it has brought about is over.
+SETTLES = 0.05
 
-# A key and its echo take so many calls of Python and bytecodes of the package at most: a tenth more than they do, since other versions of
-# Python have other bytecodes.
-CALLS, BYTECODES = 150, 3300
+# Most calls of Python, bytecodes and system calls of a key with its echo, and of a painting of 200 bytes, with what comes of them in
+# SETTLES seconds. Python 3.11 takes 143, 2,950 and 8, and 87, 1,640 and 4; other versions have other bytecodes.
+MOST_KEY = 150, 3000, 9
+MOST_PAINTING = 100, 1900, 5
+
+# So many windows are listed in the last row beside the one that is shown.
+MANY = 12
 
 
 class CountedKeys(list):
@@ -34,7 +38,13 @@ class CountedKeys(list):
 
 
 class Budget(Fronts):
-    """A key that is typed, taken by the start, and shown."""
+    """A key that is typed, taken by the client, and shown; and a painting."""
+
+    def settle(self):
+        """Lets what is due soon be done: without that no turn is taken."""
+        self.now += SETTLES
+        if any(moment <= self.now for moment, _ in self.front.loop.due.values()):
+            self.front.turn()
 
     def key(self, client):
         """Types a key, and shows it."""
@@ -45,44 +55,55 @@ class Budget(Fronts):
         typed = read_now(client)
         client.send(record("taken", self.front.views.link.lines) + record("paint", data=b"\x1b[5;10Ha\x1b[0m"))
         self.front.turn()
+        self.settle()
         select.select([self.master], [], [], 5)
         return typed, self.shown()
 
-    def counted(self, client):
-        """The calls and the bytecodes of so many keys, by the module in which they are."""
-        calls, codes = collections.Counter(), collections.Counter()
+    def painting(self, client):
+        """Has 200 bytes be painted."""
+        client.send(record("paint", data=b"\x1b[5;1H" + b"x" * 190 + b"\x1b[0m"))
+        self.front.turn()
+        self.settle()
+        select.select([self.master], [], [], 5)
+        return self.shown()
 
-        def trace(frame, event, _):
-            path = frame.f_code.co_filename
-            if not path.startswith(LIVE):
-                return None
-            frame.f_trace_opcodes = True
-            if event in ("call", "opcode"):
-                (calls if event == "call" else codes)[path[len(LIVE) + 1 :]] += 1
-            return trace
+    def demand(self, event, client, most):
+        """Sees that an event costs no more than so much."""
+        for _ in range(BEFORE):
+            event(client)
+        with TurnCounter() as counter:
+            for _ in range(EVENTS):
+                event(client)
+        counts = counter.counts(EVENTS)
+        for found, limit in zip(counts, most):
+            self.assertLessEqual(found, limit, f"{counts}: {counter.told()}")
+        return counts
 
-        before = sys.gettrace()
-        sys.settrace(trace)
-        try:
-            for _ in range(KEYS):
-                self.key(client)
-        finally:
-            sys.settrace(before)
-        return calls, codes
+    def both(self, client):
+        """What a key and a painting cost."""
+        return self.demand(self.key, client, MOST_KEY), self.demand(self.painting, client, MOST_PAINTING)
 
-    def test_key(self):
-        """A key costs so much, and the terminal's size isn't asked for."""
+    def test_costs(self):
+        """Both cost no more than they may, and the same beside many windows; the terminal's size isn't asked for."""
         client = self.connect()
         self.paints()
+        # A pty host is there, as it is in any session.
+        host = self.listening(self.place.folder / "host")
+        self.now += 1.0
+        self.turn()
+        self.taken(host).send(b"0 host a\n0 others 0\n")
         self.key(client)
-        for _ in range(BEFORE):
-            self.assertEqual(self.key(client), (b"char 61\n", b"\x1b[5;10Ha\x1b[0m"))
-        sizes = self.patch("fcntl.ioctl", side_effect=AssertionError("the terminal was asked for its size"))
-        calls, codes = self.counted(client)
+        self.assertEqual(self.key(client), (b"char 61\n", b"\x1b[5;10Ha\x1b[0m"))
+        self.assertEqual(self.painting(client), b"\x1b[5;1H" + b"x" * 190 + b"\x1b[0m")
+        sizes = self.patch("os.get_terminal_size", side_effect=AssertionError("the terminal was asked for its size"))
+        counts = self.both(client)
+        told = WindowsState()
+        for number in range(1, MANY + 2):
+            told.take(f"{WINDOW} {number} -")
+        self.front.windows.told = told
+        self.front.display.row.windows = [told.label(number, 1, 2) for number in told.numbers()], 0
+        self.assertEqual(self.both(client), counts)
         sizes.assert_not_called()
-        told = f"{sum(calls.values()) / KEYS} calls, {sum(codes.values()) / KEYS} bytecodes: {codes.most_common(12)}"
-        self.assertLessEqual(sum(calls.values()) / KEYS, CALLS, told)
-        self.assertLessEqual(sum(codes.values()) / KEYS, BYTECODES, told)
 
     def test_many_keys(self):
         """Of many keys that come at once none is copied for the ones before it."""

@@ -1,19 +1,23 @@
-"""The cost of a key at the pty host, in Python calls and bytecodes: the same with many windows as with one, on any machine and load."""
-import collections
+"""The cost of a key with its echo, and of output, at the pty host, in Python calls, bytecodes and system calls: the same with many windows as
+with one, on any machine and load."""
 import os
-import sys
 
 from aids import read_now
+from counted_turns import TurnCounter
 from roam_live.common.unix_socket import connected_now
 from roam_live.host import pane, window
 from roam_live.session import tmp_keepalive
 from test_pty_host import Host
 
-# Most Python calls and bytecodes of a key and its echo. Python 3.11 needs 90 and 2,060; other versions have other bytecodes.
-MOST_CALLS = 110
-MOST_BYTECODES = 2800
+# Most Python calls, bytecodes and system calls of a key and its echo, and of 200 bytes of output, with what comes of them in SETTLES
+# seconds. Python 3.11 takes 85, 1,940 and 8, and 36, 820 and 4; other versions have other bytecodes.
+MOST_KEY = 95, 2000, 9
+MOST_OUTPUT = 45, 950, 5
 
-KEYS = 20
+# So many seconds later what an event has brought about is over.
+SETTLES = 0.05
+
+EVENTS, BEFORE = 20, 5
 
 
 class Key(Host):
@@ -33,6 +37,12 @@ class Key(Host):
         self.turn()
         self.ends.append([server, *(self.taken(listener) for listener in listeners[1:])])
 
+    def settle(self):
+        """Lets what is due soon be done: without that no turn is taken."""
+        self.now += SETTLES
+        if any(moment <= self.now for moment, _ in self.host.loop.due.values()):
+            self.host.common.turn()
+
     def key(self):
         """A key goes to the program, and its echo comes."""
         self.panes[0].send(b"a")
@@ -41,43 +51,45 @@ class Key(Host):
         self.made[0].send(b"a")
         self.host.common.turn()
         self.assertEqual(read_now(self.panes[0]), b"a")
+        self.settle()
 
-    def counted(self):
-        """How many calls and bytecodes the turns of a key have, of the modules of the tools."""
-        found = collections.Counter()
+    def output(self):
+        """The program writes 200 bytes."""
+        self.made[0].send(b"x" * 200)
+        self.host.common.turn()
+        self.assertEqual(read_now(self.panes[0]), b"x" * 200)
+        self.settle()
 
-        def trace(frame, event, argument):
-            if "roam_live" not in frame.f_code.co_filename:
-                return None
-            frame.f_trace_opcodes, frame.f_trace_lines = True, False
-            found[event] += 1
-            return trace
+    def demand(self, event, most):
+        """Sees that an event costs no more than so much."""
+        for _ in range(BEFORE):
+            event()
+        with TurnCounter() as counter:
+            for _ in range(EVENTS):
+                event()
+        counts = counter.counts(EVENTS)
+        for found, limit in zip(counts, most):
+            self.assertLessEqual(found, limit, f"{counts}: {counter.told()}")
+        return counts
 
-        for _ in range(5):
-            self.key()
-        before = sys.gettrace()
-        sys.settrace(trace)
-        try:
-            for _ in range(KEYS):
-                self.key()
-        finally:
-            sys.settrace(before)
-        return found["call"] / KEYS, found["opcode"] / KEYS
+    def both(self):
+        """What a key and output cost."""
+        return self.demand(self.key, MOST_KEY), self.demand(self.output, MOST_OUTPUT)
 
     def test_budget(self):
-        """It costs no more than it may, and with twelve windows beside it the same."""
+        """They cost no more than they may, and with twelve windows beside it the same."""
         self.panes, self.ends = self.begin(), []
-        calls, bytecodes = self.counted()
-        self.assertLessEqual(calls, MOST_CALLS)
-        self.assertLessEqual(bytecodes, MOST_BYTECODES)
+        counts = self.both()
         for number in range(2, 14):
             self.window(number)
         self.assertEqual(len(self.host.common.windows()), 13)
         self.turn(5)
         found = self.host.loop.found
-        self.assertEqual(self.counted(), (calls, bytecodes))
+        for before, beside in zip(counts, self.both()):
+            # What is looked at each second may be due among so many events.
+            self.assertTrue(all(more <= 1.05 * one for more, one in zip(beside, before)), (beside, before))
         # Each turn had one end at which something was.
-        self.assertEqual(self.host.loop.found - found, 2 * (KEYS + 5))
+        self.assertEqual(self.host.loop.found - found, 3 * (EVENTS + BEFORE))
 
     def test_idle(self):
         """Where nothing happens no turn is due sooner than the look at the folders, with many windows as with one."""

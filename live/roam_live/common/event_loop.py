@@ -349,18 +349,22 @@ class Loop:
 
     def wait_time(self) -> float | None:
         """Call what has to be called before a wait, and return the seconds until the next timer; None if there is none."""
-        self.do_next()
         least = None
-        for does in list(self.before) if self.before else ():
-            moment = self.hooked(does)
-            if moment is not None and (least is None or moment < least):
-                least = moment
-        if self.next:
-            return 0.0
+        if self.next or self.before:
+            least = self.next_hook()
+            if self.next:
+                return 0.0
         if self.due:
             first = min(self.due.values(), key=MOMENT)[0]
             least = first if least is None or first < least else least
         return None if least is None else max(0.0, least - self.clock())
+
+    def next_hook(self) -> float | None:
+        """Make the calls that were asked for by `soon` and those before each wait, and return the moment by which one has to be called
+        again."""
+        self.do_next()
+        moments = [moment for moment in map(self.hooked, list(self.before)) if moment is not None]
+        return min(moments) if moments else None
 
     def hooked(self, does: Callable[[], float | None]) -> float | None:
         """Call a hook, and return the moment by which it has to be called again. A hook that failed is called again after a pause."""
@@ -387,13 +391,17 @@ class Loop:
     def turn(self) -> None:
         """Wait once, and call what is ready: callbacks of ends first, then timers."""
         ready = self.ready(self.wait_time())
-        if ready:
-            found = [(self.sources[number], number, events) for number, events in ready.items()]
-            if len(found) > 1:
-                found.sort(key=place_of)
-            for source, number, events in found:
-                # A callback before it may have removed it, or closed it and opened another under its number.
-                while events and self.sources.get(number) is source:
-                    events = self.do(number, source, events)
+        if len(ready) == 1:
+            number, events = ready.popitem()
+            self.serve(self.sources[number], number, events)
+        elif ready:
+            for found in sorted([(self.sources[number], number, events) for number, events in ready.items()], key=place_of):
+                self.serve(*found)
         self.do_due()
-        self.do_next()
+        if self.next:
+            self.do_next()
+
+    def serve(self, source: LoopEnd, number: int, events: int) -> None:
+        """Call the callbacks of a ready end. One that was called before may have removed it, or opened another under its number."""
+        while events and self.sources.get(number) is source:
+            events = self.do(number, source, events)
