@@ -3,7 +3,6 @@ from __future__ import annotations
 
 from roam_live.common.io import write
 from roam_live.protocol.host_link import HostLink
-from roam_live.protocol.panes import is_pane
 from roam_live.protocol.presence import HERE, WHO, OtherTerminals, Presence
 from roam_live.protocol.scrollback_client import ScrollbackClient
 from roam_live.protocol.zoom_record import NONE, ZOOM, ZOOMED, ZoomNote, zoomed_in

@@ -1,0 +1,118 @@
+"""Bundles of modules: what they have, when they are used, and what becomes of one that can't be."""
+import os
+import shutil
+import subprocess
+import sys
+
+from aids import Case
+from counted import plain_environment
+from roam_live.common.process import TOOLS
+
+# A small tree with the modules for which bundles are.
+TREE = {
+    "__init__": "", "common/__init__": "", "cli/__init__": "", "frontend/__init__": "",
+    "common/text": '"""Words."""\nfrom __future__ import annotations\n\n\ndef shown(text: Unknown) -> str:\n    """Show it."""\n    return f"<{text}>"\n',
+    "common/other": "from roam_live.common.text import shown\n",
+    "cli/mux": "import os\nfrom roam_live.common import text\n", "cli/attaching": "from roam_live.cli.mux import text\n",
+    "frontend/follow": "from roam_live.common.text import shown\n\n\ndef later():\n    from roam_live.frontend import late\n",
+    "frontend/app": "import roam_live.frontend.follow\n", "frontend/late": "from roam_live.common.text import shown\n",
+}
+
+# The modules that each bundle adds to those before it.
+ADDED = {"mux": 6, "first_painting": 2, "front_end": 1}
+
+# Prints how many modules of roam bundles bring, and sees that they are as an import makes them.
+LOADS = """
+import sys
+sys.path.insert(0, sys.argv[1])
+import roam_bundle
+for name in sys.argv[2:]:
+    roam_bundle.load(name)
+print(len([name for name in sys.modules if name.startswith("roam_live")]))
+import roam_live.common.text
+import roam_live.common as common
+text = sys.modules["roam_live.common.text"]
+assert common.text is text and text.shown("a") == "<a>", vars(text)
+assert text.__file__.endswith("roam_live/common/text.py") and text.__package__ == "roam_live.common" and text.__spec__.name == text.__name__
+assert common.__path__ and common.__package__ == "roam_live.common"
+# A module that no bundle has is imported as ever, and finds those that are there.
+import roam_live.common.other
+assert roam_live.common.other.shown is text.shown
+"""
+
+
+class Bundles(Case):
+    """Bundles of a small tree."""
+
+    def setUp(self):
+        self.tools = self.made_folder() / "live"
+        for name, text in TREE.items():
+            path = self.tools / f"roam_live/{name}.py"
+            path.parent.mkdir(parents=True, exist_ok=True)
+            path.write_text(text, encoding="utf-8")
+        shutil.copy(TOOLS / "roam_bundle.py", self.tools)
+
+    def run_python(self, *words, **more):
+        """What Python prints that is run with these words."""
+        run = subprocess.run([sys.executable, "-S", *words], env=plain_environment(**more), stdout=subprocess.PIPE, check=True)
+        return run.stdout.decode()
+
+    def write(self):
+        """Writes all bundles."""
+        self.run_python(str(self.tools / "roam_bundle.py"))
+        return {path.name.partition(".")[0]: path for path in self.tools.rglob("*.bundle")}
+
+    def brought(self, *names, **more):
+        """How many modules bundles bring."""
+        return int(self.run_python("-c", LOADS, str(self.tools), *names, **more))
+
+    def test_loaded(self):
+        """A bundle has all that its roots import at once; the first call writes it, and the next ones use it."""
+        self.assertEqual((self.brought("mux"), self.brought("mux")), (0, ADDED["mux"]))
+        self.write()
+        self.assertEqual(self.brought("mux", "first_painting"), ADDED["mux"] + ADDED["first_painting"])
+        self.assertEqual(self.brought(*ADDED), sum(ADDED.values()))
+
+    def test_changed(self):
+        """One with a source that has changed, or is gone, isn't used, and is written anew."""
+        self.write()
+        source = self.tools / "roam_live/common/text.py"
+        source.write_text(source.read_text(encoding="utf-8") + "\nMORE = 1\n", encoding="utf-8")
+        self.assertEqual((self.brought("mux"), self.brought("mux")), (0, ADDED["mux"]))
+        os.utime(source, (1, 1))
+        self.assertEqual((self.brought("mux"), self.brought("mux")), (0, ADDED["mux"]))
+        (self.tools / "roam_live/cli/mux.py").write_text("import roam_live.common.text\n", encoding="ascii")
+        (self.tools / "roam_live/cli/attaching.py").unlink()
+        self.assertEqual((self.brought("mux"), self.brought("mux")), (0, ADDED["mux"] - 1))
+        source.write_text("def shown(:\n", encoding="ascii")
+        self.run_python("-c", "import sys; sys.path.insert(0, sys.argv[1]); import roam_bundle; roam_bundle.load('mux')", str(self.tools))
+        self.assertEqual([path for path in self.tools.rglob("*.bundle.*")], [])
+
+    def test_odd(self):
+        """What is no bundle, or one of another folder, isn't used; neither is any where Python writes no bytecode."""
+        path = self.write()["mux"]
+        whole = path.read_bytes()
+        for data in (b"", b"x", whole[:100], whole[:-1], b"N", b"i\0\0\0\0"):
+            path.write_bytes(data)
+            self.assertEqual(self.brought("mux"), 0, data[:9])
+            self.assertEqual(self.brought("mux"), ADDED["mux"])
+        self.assertEqual(self.brought("mux", PYTHONDONTWRITEBYTECODE="1"), 0)
+        moved = self.tools.with_name("moved")
+        self.tools.rename(moved)
+        self.tools = moved
+        self.assertEqual((self.brought("mux"), self.brought("mux")), (0, ADDED["mux"]))
+
+    def test_unwritable(self):
+        """Where no bundle can be written the modules are imported."""
+        (self.tools / "__pycache__").write_text("", encoding="ascii")
+        self.assertEqual((self.brought("mux"), self.brought("mux")), (0, 0))
+
+    def test_same_output(self):
+        """mux says the same by bundles and without."""
+        self.tools = self.made_folder() / "live"
+        shutil.copytree(TOOLS, self.tools, ignore=shutil.ignore_patterns("__pycache__"))
+        self.write()
+        for words in (["help"], ["help", "send"]):
+            told = [self.run_python(str(self.tools / "mux"), *words, **more) for more in ({}, {"PYTHONDONTWRITEBYTECODE": "1"})]
+            self.assertEqual(*told)
+            self.assertTrue(told[0])
