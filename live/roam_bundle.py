@@ -130,8 +130,8 @@ def add_all(names, found):
 
 
 def compiled(tree, source):
-    """Return the code of a module, without the texts that explain it. What it imports from `__future__` is told to the compiler alone: as it
-    runs that would be one more module."""
+    """Return the code of a module, without docstrings. What it imports from `__future__` is a flag of the compiler, and no module at run
+    time."""
     import ast
     import __future__
 

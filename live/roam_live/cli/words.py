@@ -65,7 +65,8 @@ WORDS = {
         PREDICT,
         ONE_OR_MAIN,
     )),
-    "new": Word("attaching.new", "launches a session that isn't running, main where none is named, and attaches to it; options stand before NAME", (
+    "new": Word("attaching.new", "launches a session that isn't running, main where none is named, and attaches to it; options stand "
+                "before NAME", (
         argument("-d", dest="is_detached", action="store_true", help="without a front end"),
         PREDICT,
         ONE_OR_MAIN,
@@ -74,7 +75,9 @@ WORDS = {
     "detach": Word("attaching.refuse_detach", "is done in the front end, by the prefix and d", (ONE_OR_MAIN,)),
     "ls": LISTS,
     "list": LISTS,
-    "list-windows": Word("asking.list_windows", "lists the windows of a session: number, name, size, panes, what runs there", (ONE_OR_OWN,)),
+    "list-windows": Word("asking.list_windows", "lists the windows of a session: number, name, size, panes, what runs there", (
+        ONE_OR_OWN,
+    )),
     "new-window": Word("asking.new_window", "opens a window in a session that is running, and prints its name", (
         argument("-n", dest="title", metavar="TITLE", help="the name that it has then"),
         ONE_OR_OWN,
@@ -118,7 +121,7 @@ WORDS = {
         ONE_OR_PANE,
         argument("words", metavar="COMMAND", nargs=REST, help="the command and its words"),
     )),
-    "upgrade": Word("all_sessions.explain_upgrade", "lists the sessions that run another build of roam than this one, and says what to do", ()),
+    "upgrade": Word("all_sessions.explain_upgrade", "lists the sessions that run another build of roam than this one, and says what to do"),
     "settings": Word("all_sessions.print_settings", "tells where the settings file is looked for, and which of its lines aren't done", ()),
     "ssh": Word("attaching.enter_far", "attaches to a session of another machine over ssh", (
         argument("--ssh", metavar="COMMAND", default="ssh", help="how ssh is called here"),

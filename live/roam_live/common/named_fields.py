@@ -1,4 +1,4 @@
-"""Tuples whose places have names. `collections.namedtuple` has the same, and takes 0.15 ms a class, which a person who attaches waits for."""
+"""Tuples whose places have names, as those of `collections.namedtuple`. That takes 0.15 ms to make a class, and an attach has thirty of them."""
 from __future__ import annotations
 
 from _operator import itemgetter

@@ -14,8 +14,8 @@ if TYPE_CHECKING:
     from roam_live.protocol.panes import Places
     from roam_live.protocol.session_interface import AnySession
 
-# So many seconds the client has for the first painting before the rest is loaded: that would keep the painting waiting for as long. One that
-# takes longer, as over a network, is written behind it.
+# Seconds that the first painting has before the rest is loaded, which would delay it by as long. A later one, as over a network, is written
+# behind that.
 PAINTS = 0.05
 
 

@@ -198,7 +198,7 @@ def opened_by(line: str) -> tuple[int, str] | None:
         return None
     if rest.startswith("none "):
         why = rest[len("none ") :]
-        return (0, printable(why)) if 0 < len(why) <= LONGEST_WHY else None
+        return (0, printable(why)) if 0 < len(why) <= LONGEST_WHY and "\n" not in why else None
     number = decimal_in(rest, MOST_WINDOWS)
     return (number, "") if number else None
 

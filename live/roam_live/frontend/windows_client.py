@@ -48,7 +48,7 @@ class WindowsState:
             return self.take_name(number, more)
         if word == RUNS:
             return self.take_program(number, more)
-        if word == GONE and not more:
+        if word == GONE and rest == first:
             return self.forget({number})
         if word == BELL and is_pane(more) or word == ACTIVITY and rest == first:
             (self.rung if word == BELL else self.wrote).add(number)
