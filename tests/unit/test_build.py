@@ -1,0 +1,204 @@
+"""tools/build: which crates have to be proved, in which order, and what a build does with them."""
+import importlib.machinery
+import importlib.util
+import io
+import os
+import pathlib
+import sys
+
+from aids import Case
+
+TOOL = pathlib.Path(__file__).resolve().parents[2] / "tools/build"
+loader = importlib.machinery.SourceFileLoader("build_tool", str(TOOL))
+tool = importlib.util.module_from_spec(importlib.util.spec_from_loader("build_tool", loader))
+# A dataclass looks its module up.
+sys.modules["build_tool"] = tool
+loader.exec_module(tool)
+
+LINES = """# comment
+low: kit          # what is not a crate of the repository is the kit's
+left: low
+right: low kit
+small: low
+show: small
+roam may_wait=2: left right
+"""
+SECONDS = "low 10\nleft 100\nright 20\nsmall 5\nshow 7\nroam 50\n"
+CRATES = tool.read_crates(LINES, SECONDS)
+
+
+class Proof:
+    """A proof that has ended with a status."""
+
+    def __init__(self, status):
+        self.returncode, self.is_ended = status, False
+
+    def poll(self):
+        """The status, at once."""
+        return self.returncode
+
+    def terminate(self):
+        """It is ended."""
+        self.is_ended = True
+
+    def wait(self):
+        """Nothing is left to wait for."""
+
+
+class Reading(Case):
+    """crates.txt, and what is derived from it."""
+
+    def test_crates(self):
+        """Each line is a crate, with the crates of the repository below it, and its seconds if they were measured."""
+        self.assertEqual({name: (crate.below, crate.seconds) for name, crate in tool.read_crates(LINES, "low 10\nodd\n").items()},
+                         {"low": ([], 10.0), "left": (["low"], 30.0), "right": (["low"], 30.0), "small": (["low"], 30.0),
+                          "show": (["small"], 30.0), "roam": (["left", "right"], 30.0)})
+
+    def test_needed(self):
+        """The crates below a goal come before it."""
+        self.assertEqual(tool.needed(CRATES, "roam"), ["low", "left", "right", "roam"])
+
+    def test_ways(self):
+        """The longest way from each crate to the end."""
+        self.assertEqual(tool.ways(CRATES, tool.needed(CRATES, "roam")), {"low": 160.0, "left": 150.0, "right": 70.0, "roam": 50.0})
+
+    def test_threads(self):
+        """A proof gets the processors that no other needs, one at least and four at most."""
+        for jobs, others, wanted in ((4, 0, 4), (4, 1, 3), (4, 3, 1), (4, 9, 1), (1, 0, 1), (16, 0, 4), (2, 0, 2)):
+            self.assertEqual(tool.threads_for(jobs, others), wanted, (jobs, others))
+
+
+class Stale(Case):
+    """Which crates have to be proved."""
+
+    def setUp(self):
+        self.top = self.made_folder()
+        for name, crate in CRATES.items():
+            (self.top / "crates" / name / "src").mkdir(parents=True)
+            (self.top / "crates" / name / "out").mkdir()
+            self.write(name, "src/lib.rt", "code", 100)
+            self.write(name, "out/built", crate.line, 200)
+
+    def write(self, name, file, text, moment):
+        """Writes a file of a crate, as at a moment, and gives its folder the moment of the sources."""
+        place = self.top / "crates" / name / file
+        place.write_text(text, encoding="utf-8")
+        os.utime(place, (moment, moment))
+        os.utime(place.parent, (100, 100))
+
+    def stale(self, goal="roam"):
+        """What has to be proved for a goal."""
+        return tool.stale(self.top, CRATES, tool.needed(CRATES, goal))
+
+    def test_none(self):
+        """Nothing has to be proved if each stamp is newer than what it stands for."""
+        self.assertEqual(self.stale(), [])
+
+    def test_source(self):
+        """A source that is newer than the stamp makes its crate stale, and those above."""
+        self.write("left", "src/lib.rt", "code", 201)
+        self.assertEqual((self.stale(), self.stale("show")), (["left", "roam"], []))
+
+    def test_folder(self):
+        """So does a file that was removed, which its folder tells."""
+        os.utime(self.top / "crates/right/src", (300, 300))
+        self.assertEqual(self.stale(), ["right", "roam"])
+
+    def test_missing(self):
+        """So does a stamp that is missing, and one that is newer below."""
+        (self.top / "crates/low/out/built").unlink()
+        self.assertEqual(self.stale(), ["low", "left", "right", "roam"])
+        self.write("low", "out/built", CRATES["low"].line, 250)
+        self.assertEqual(self.stale(), ["left", "right", "roam"])
+
+    def test_line(self):
+        """So does another line of crates.txt, but not a line of another crate."""
+        self.write("roam", "out/built", "roam: left\n", 200)
+        self.assertEqual((self.stale(), self.stale("left")), (["roam"], []))
+
+
+class Planned(Case):
+    """The order, and the time that is left."""
+
+    def test_order(self):
+        """The longest way goes first; what an earlier goal needs goes before what only a later one needs."""
+        names = ["low", "left", "right", "roam", "small", "show"]
+        self.assertEqual(tool.Plan.of(CRATES, ["roam", "show"], names).left, ["low", "left", "right", "roam", "small", "show"])
+        self.assertEqual(tool.Plan.of(CRATES, ["show", "roam"], names).left, ["low", "small", "show", "left", "right", "roam"])
+
+    def test_ready(self):
+        """A crate can start once those below it are proved."""
+        plan = tool.Plan.of(CRATES, ["roam"], ["left", "right", "roam"])
+        self.assertEqual((plan.ready([]), plan.ready(["low"])), (["left", "right"], []))
+
+    def test_minutes(self):
+        """The time left is the longest way or the sum by processors, at the pace of this machine."""
+        plan = tool.Plan.of(CRATES, ["roam"], ["right", "roam"])
+        self.assertEqual(plan.minutes({}, 4), 70 / 60)
+        self.assertEqual(plan.minutes({"left": 40.0}, 4), 110 / 60)
+        plan.factor = 2.0
+        self.assertEqual((plan.minutes({"left": 40.0}, 4), plan.minutes({"left": 40.0}, 1)), (260 / 60, 300 / 60))
+
+
+class Built(Case):
+    """A build of proofs that end at once."""
+
+    def build(self, goals, left, jobs=2, failing=()):
+        """A build, what it starts, and what it tells."""
+        self.started, self.told = [], []
+
+        def prove(name, threads):
+            self.started.append((name, threads))
+            return Proof(1 if name in failing else 0)
+
+        return tool.Build(tool.Plan.of(CRATES, goals, left), jobs, prove, self.told.append)
+
+    def test_whole(self):
+        """Each crate is proved once, and a line says how many are done."""
+        build = self.build(["roam"], ["low", "left", "right", "roam"])
+        self.assertTrue(build.run())
+        self.assertEqual([name for name, _ in self.started], ["low", "left", "right", "roam"])
+        self.assertEqual([threads for _, threads in self.started], [2, 1, 1, 2])
+        self.assertEqual([line.split(": ")[2].split(",")[0] for line in self.told],
+                         ["1 of 4 crates", "2 of 4 crates", "3 of 4 crates", "4 of 4 crates"])
+
+    def test_failed(self):
+        """Nothing is started behind a proof that failed; those that run end."""
+        build = self.build(["roam"], ["low", "left", "right", "roam"], failing=("left",))
+        self.assertFalse(build.run())
+        self.assertEqual(([name for name, _ in self.started], build.failed), (["low", "left", "right"], ["left"]))
+
+    def test_until(self):
+        """A build stops at the first goal, and goes on from there."""
+        build = self.build(["show", "roam"], ["low", "small", "show", "left", "right", "roam"], jobs=1)
+        self.assertTrue(build.run(until="show"))
+        self.assertEqual([name for name, _ in self.started], ["low", "small", "show"])
+        self.assertTrue(build.run())
+        self.assertEqual([name for name, _ in self.started][3:], ["left", "right", "roam"])
+
+    def test_stopped(self):
+        """A build that is stopped ends the proofs that run."""
+        build = self.build(["roam"], ["low"])
+        build.start_ready()
+        proof = build.running["low"][0]
+        build.stop()
+        self.assertTrue(proof.is_ended)
+
+
+class Told(Case):
+    """How a build shows its lines."""
+
+    def shown(self, is_terminal):
+        """What two lines come to."""
+        stream = io.StringIO()
+        stream.fileno = lambda: 9
+        self.patch_of(tool.os, "isatty", lambda descriptor: is_terminal)
+        line = tool.Line(stream)
+        line.tell("one")
+        line.tell("two")
+        line.end()
+        return stream.getvalue()
+
+    def test_shown(self):
+        """A terminal has one line that is rewritten; a file has all."""
+        self.assertEqual((self.shown(True), self.shown(False)), ("\r\x1b[Kone\r\x1b[Ktwo\n", "one\ntwo\n"))
