@@ -75,21 +75,21 @@ EMACS_ROWS = (
 
 # The lines of the page's table, and the commands of their keys.
 PAGE = {
-    "by characters": ("cursor-left", "cursor-right", "cursor-up", "cursor-down"),
-    "by words": ("next-word", "previous-word", "next-word-end", "next-space", "previous-space", "next-space-end"),
-    "of a line": ("start-of-line", "back-to-indentation", "end-of-line"),
-    "to a character": ("jump f", "jump F", "jump t", "jump T", "jump-again", "jump-reverse"),
-    "of the screen": ("top-line", "middle-line", "bottom-line"),
-    "pages, halves": ("page-up", "page-down", "halfpage-up", "halfpage-down"), "scroll a line": ("scroll-up", "scroll-down"),
-    "top, bottom": ("history-top", "history-bottom"), "so many rows back": ("goto-line",),
-    "paragraphs": ("previous-paragraph", "next-paragraph"), "brackets": ("next-matching-bracket", "previous-matching-bracket"),
-    "mark, go there": ("set-mark", "jump-to-mark"),
+    "by character": ("cursor-left", "cursor-right", "cursor-up", "cursor-down"),
+    "by word": ("next-word", "previous-word", "next-word-end", "next-space", "previous-space", "next-space-end"),
+    "within a line": ("start-of-line", "back-to-indentation", "end-of-line"),
+    "jump to a character": ("jump f", "jump F", "jump t", "jump T", "jump-again", "jump-reverse"),
+    "top, middle, bottom": ("top-line", "middle-line", "bottom-line"),
+    "page, half page": ("page-up", "page-down", "halfpage-up", "halfpage-down"), "scroll one row": ("scroll-up", "scroll-down"),
+    "first, last row": ("history-top", "history-bottom"), "go to row from end": ("goto-line",),
+    "paragraph": ("previous-paragraph", "next-paragraph"), "matching bracket": ("next-matching-bracket", "previous-matching-bracket"),
+    "set mark, go to it": ("set-mark", "jump-to-mark"),
     "search": ("search-forward", "search-backward", "search-again", "search-reverse", "search-forward-word", "search-backward-word",
                "search-forward-incremental", "search-backward-incremental"),
-    "select": ("begin-selection",), "lines": ("select-line",), "a block, or none": ("rectangle-toggle",), "the other end": ("other-end",),
-    "clear": ("clear-selection",), "copy and leave": ("copy-selection-and-cancel",), "copy and stay": ("copy-selection",),
-    "behind the newest": ("append-selection-and-cancel",), "the rest of a line": ("copy-end-of-line-and-cancel",),
-    "rows as they are now": ("refresh-from-pane",), "leave": ("cancel",),
+    "begin selection": ("begin-selection",), "select lines": ("select-line",), "block on, off": ("rectangle-toggle",),
+    "other end": ("other-end",), "clear selection": ("clear-selection",), "copy and leave": ("copy-selection-and-cancel",),
+    "copy and stay": ("copy-selection",), "append and leave": ("append-selection-and-cancel",),
+    "copy rest and leave": ("copy-end-of-line-and-cancel",), "refresh": ("refresh-from-pane",), "leave": ("cancel",),
 }
 
 
@@ -162,8 +162,8 @@ class CopyKeys(unittest.TestCase):
 
     def test_page(self):
         """Each key of the page's table has a row, whose command is one of its line, and each command is in a line with its keys."""
-        table = re.search(r"^\.SH COPY MODE\n.*?^\tvi\temacs\n(.*?)^\.TE", MAN.read_text(encoding="utf-8"), re.MULTILINE | re.DOTALL)[1]
-        lines = [line.split("\t") for line in table.splitlines()]
+        table = re.search(r"^\.SH COPY MODE\n.*?^ \| vi \| emacs\n(.*?)^\.TE", MAN.read_text(encoding="utf-8"), re.MULTILINE | re.DOTALL)[1]
+        lines = [[cell.strip() for cell in line.split(" | ")] for line in table.splitlines()]
         self.assertEqual([line[0] for line in lines], list(PAGE))
         for column, rows in ((1, VI_ROWS), (2, EMACS_ROWS)):
             commands = {key.lower() if len(key) > 3 else key: command for key, command, _ in rows}

@@ -33,6 +33,7 @@ PREFIXED = (
     ("[, PgUp, /", "[", Perform("copy")), ("[, PgUp, /", PAGE_UP, Perform("copy page")), ("[, PgUp, /", "/", Perform("copy search")),
     ("], =", "]", Perform("paste")), ("], =", "=", Perform("choose")), ("m", "m", Perform("mouse")), ("d", "d", Perform("detach")),
     ("D", "D", Perform("leave others")), ("C-z", "\x1a", Perform("suspend")), ("r", "r", Perform("repaint")), ("t", "t", Perform("row")),
+    ("R", "R", Perform("settings")), (":", ":", Perform("command line")),
     ("?", "?", Perform("help")), ("C-b", "\x02", SendLiteral(Key("\x02", "\x02"))),
 )
 
