@@ -43,12 +43,12 @@ class Texts(unittest.TestCase):
         keys = [key for line in others.split("\n") for key in line.partition(": ")[0].split()]
         self.assertNotIn("x", keys)
         self.assertNotIn("r", keys)
-        self.assertIn("  % \"        split-window -h, -v: splits the pane\n", others)
-        self.assertIn("  c          new-window: opens a window\n", others)
+        self.assertIn("  % \"        split-window -h, -v: split the pane\n", others)
+        self.assertIn("  c          new-window: open a window\n", others)
         self.assertTrue(others.endswith("  C-a        C-a itself"))
         for key in DEFAULT_KEYS:
             self.assertTrue(key in ("x", "r", ":") or key in keys, key)
-        self.assertIn("  :          command-prompt: asks for a command\n", others)
+        self.assertIn("  :          command-prompt: ask for a command\n", others)
 
     def test_typed(self):
         """Where a key is bound by a command that was typed that is told too."""
