@@ -1,11 +1,11 @@
-"""What people do all day in tmux, each act once in roam, as the page FROM_TMUX has them."""
+"""What people do all day in tmux, each act once in roam, as the guide's page for tmux users lists them."""
 import os
 import pathlib
 import subprocess
 
 from tried import SESSION, Outer, check, comes, listed, said, scene, tool
 
-PAGE = pathlib.Path(__file__).resolve().parents[3] / "docs/FROM_TMUX.md"
+PAGE = pathlib.Path(__file__).resolve().parents[3] / "docs/guide/from-tmux.md"
 ACTS = 50
 
 PREFIX = b"\x02"
