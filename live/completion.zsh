@@ -21,27 +21,27 @@ _roam_typed() {
 _roam_mux_words() {
     local -a found
     found=(
-        'attach:attaches to a session that is running, main where none is named'
-        'new:launches a session that isn'\''t running, main where none is named, and attaches to it; options stand before NAME'
-        'ls:lists the sessions: name, rows and columns, panes, terminals'
-        'list:lists the sessions: name, rows and columns, panes, terminals'
-        'list-windows:lists the windows of a session: number, name, size, panes, what runs there'
-        'new-window:opens a window in a session that is running, and prints its name'
-        'rename-window:gives a window a name, or none where no title is named'
-        'clients:lists the terminals at a session: number, name, size, window, since when'
-        'watch:shows a session without typing there'
-        'kill:ends a session and the programs in it, or a window or a pane; it asks where one is no shell'
-        'send:types keys and texts, or acts, into a session or a pane, and ends once the session has taken all of it'
-        'paste:pastes standard input into a session or a pane, in one piece'
-        'capture:prints the rows that a session, or a pane, shows, or rows of a pane that left its screen'
-        'log:prints each row of a pane as it leaves the screen, until the pane ends'
-        'buffer:lists, prints, sets or pastes the texts that were copied last in a session'
-        'env:prints the lines by which a shell has what new panes have of the last attach'
-        'cmd:does a command in tmux'\''s words, as split-window -h'
-        'upgrade:lists the sessions that run another build of roam than this one, and says what to do'
-        'settings:tells where the settings file is looked for, and which of its lines aren'\''t done'
-        'ssh:attaches to a session of another machine over ssh'
-        'help:explains the words, or one of them'
+        'attach:attach to a running session, main if none is named'
+        'new:start a session that is not running, main if none is named, and attach to it'
+        'ls:list the sessions'
+        'list:list the sessions'
+        'list-windows:list the windows of a session'
+        'new-window:open a window in a running session, and print its name'
+        'rename-window:name a window, or remove its name if no title is given'
+        'clients:list the terminals at a session'
+        'watch:show a session without typing there'
+        'kill:end a session, a window or a pane, and the programs in it'
+        'send:type keys and text into a session or a pane'
+        'paste:paste standard input into a session or a pane, in one piece'
+        'capture:print the rows that a session or a pane shows, or rows of its scrollback'
+        'log:print each row of a pane as it scrolls off, until the pane ends'
+        'buffer:list, print, set or paste the paste buffers of a session'
+        'env:print shell commands that set the environment of the last attach'
+        'cmd:run a tmux command in a session, such as split-window -h'
+        'upgrade:list the sessions that run another build of roam, and explain how to move them'
+        'settings:print the path of the settings file, and each line of it that has no effect'
+        'ssh:attach to a session on another machine over ssh'
+        'help:explain all commands, or one of them'
     )
     _describe -t commands command found
     _roam_sessions
@@ -53,26 +53,26 @@ _roam_mux() {
     _arguments -C '--help[explains the words]' '--version[prints which build this is]' '1: :_roam_mux_words' '*:: :->behind'
     [[ $state = behind ]] || return
     case $words[1] in
-    attach) _arguments '-d[all other terminals leave it first]' '--predict=[when what keys will show is predicted and shown\: adaptive, always, never]:WHEN:(adaptive always never)' '--help[explains this word]' '1:NAME:_roam_sessions' ;;
-    new) _arguments '-d[without a front end]' '--predict=[when what keys will show is predicted and shown\: adaptive, always, never]:WHEN:(adaptive always never)' '--help[explains this word]' '1:NAME:' '2:COMMAND:_command_names -e' ;;
+    attach) _arguments '-d[detach all other terminals first]' '--predict=[when to show predictions of keys\: adaptive, always, never]:WHEN:(adaptive always never)' '--help[explains this word]' '1:NAME:_roam_sessions' ;;
+    new) _arguments '-d[start no front end; options precede NAME]' '--predict=[when to show predictions of keys\: adaptive, always, never]:WHEN:(adaptive always never)' '--help[explains this word]' '1:NAME:' '2:COMMAND:_command_names -e' ;;
     ls) _arguments '--help[explains this word]' ;;
     list) _arguments '--help[explains this word]' ;;
     list-windows) _arguments '--help[explains this word]' '1:NAME:_roam_sessions' ;;
-    new-window) _arguments '-n[the name that it has then]:TITLE:' '--help[explains this word]' '1:NAME:_roam_sessions' ;;
+    new-window) _arguments '-n[the name of the window]:TITLE:' '--help[explains this word]' '1:NAME:_roam_sessions' ;;
     rename-window) _arguments '--help[explains this word]' '1:NAME\:K:_roam_sessions' '2:TITLE:' ;;
     clients) _arguments '--help[explains this word]' '1:NAME:_roam_sessions' ;;
     watch) _arguments '--help[explains this word]' '1:NAME:_roam_sessions' ;;
-    kill) _arguments '-f[without a question]' '--help[explains this word]' '1:NAME[\:K][.P]:_roam_sessions' ;;
-    send) _arguments '-l[all words are typed as their characters]' '-a[the words are acts, as '\''char 61'\'' or '\''split right'\'', or keys]' '--help[explains this word]' '1:NAME[\:K][.P]:_roam_sessions' '*: :_roam_typed' ;;
-    paste) _arguments '--raw[keeps its escapes]' '--help[explains this word]' '1:NAME[\:K][.P]:_roam_sessions' ;;
-    capture) _arguments '--svg[draws a picture, an SVG]' '-S[from a row on\: 0 is the first of the screen, -1 the last above it, - the first]:ROW:' '-E[up to a row; - is the last]:ROW:' '-e[with their styles]' '-J[those as one line that went on in the next]' '--help[explains this word]' '1:NAME[\:K][.P]:_roam_sessions' ;;
-    log) _arguments '-e[with their styles]' '-J[those as one line that went on in the next]' '--help[explains this word]' '1:NAME[\:K][.P]:_roam_sessions' ;;
+    kill) _arguments '-f[do not ask]' '--help[explains this word]' '1:NAME[\:K][.P]:_roam_sessions' ;;
+    send) _arguments '-l[type the characters of all words]' '-a[the words are acts, such as '\''char 61'\'' or '\''split right'\'', or keys]' '--help[explains this word]' '1:NAME[\:K][.P]:_roam_sessions' '*: :_roam_typed' ;;
+    paste) _arguments '--raw[keep escape characters]' '--help[explains this word]' '1:NAME[\:K][.P]:_roam_sessions' ;;
+    capture) _arguments '--svg[print a picture in SVG]' '-S[the first row\: 0 is the first of the screen, -1 the last above it, - the oldest]:ROW:' '-E[the last row; - is the last of the screen]:ROW:' '-e[include styles, as SGR sequences]' '-J[join soft-wrapped rows into one line]' '--help[explains this word]' '1:NAME[\:K][.P]:_roam_sessions' ;;
+    log) _arguments '-e[include styles, as SGR sequences]' '-J[join soft-wrapped rows into one line]' '--help[explains this word]' '1:NAME[\:K][.P]:_roam_sessions' ;;
     buffer) _arguments '--help[explains this word]' '1:list|show|set|paste:(list show set paste)' '2:NAME[\:K][.P]:_roam_sessions' '3:N|TEXT:' ;;
     env) _arguments '--help[explains this word]' '1:NAME:_roam_sessions' ;;
     cmd) _arguments '--help[explains this word]' '1:NAME[\:K][.P]:_roam_sessions' '2:COMMAND:(bind bind-key choose-buffer choose-tree choose-window command-prompt copy-mode detach detach-client display display-message display-panes displayp kill-pane kill-window killp killw last last-pane last-window lastp list-keys lsk new-window neww next next-layout next-window nextl paste-buffer pasteb prev previous-window refresh refresh-client rename-window renamew resize-pane resizep run run-shell select-layout select-pane select-window selectl selectp selectw send send-keys send-prefix set set-option set-window-option setw source source-file split-window splitw suspend-client suspendc synchronize-panes toggle-mouse toggle-status unbind unbind-key)' ;;
     upgrade) _arguments '--help[explains this word]' ;;
     settings) _arguments '--help[explains this word]' ;;
-    ssh) _arguments '--ssh=[how ssh is called here]:COMMAND:' '--far=[how roam-mux is called there]:COMMAND:' '--predict=[when what keys will show is predicted and shown\: adaptive, always, never]:WHEN:(adaptive always never)' '--help[explains this word]' '1:HOST:_hosts' '2:NAME:' ;;
+    ssh) _arguments '--ssh=[the command that runs ssh here]:COMMAND:' '--far=[the command that runs roam-mux there]:COMMAND:' '--predict=[when to show predictions of keys\: adaptive, always, never]:WHEN:(adaptive always never)' '--help[explains this word]' '1:HOST:_hosts' '2:NAME:' ;;
     help) _arguments '--help[explains this word]' '1:WORD:(attach new ls list list-windows new-window rename-window clients watch kill send paste capture log buffer env cmd upgrade settings ssh help)' ;;
     esac
 }

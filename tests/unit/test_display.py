@@ -848,7 +848,7 @@ class Words(unittest.TestCase):
             lines = help_with(prefix).split("\n")
             self.assertLessEqual(len(lines), 23)
             self.assertTrue(all(len(line) < 80 for line in lines), lines)
-        self.assertIn("  ? R :    these keys, until the next key; read roam.conf; a command", HELP)
+        self.assertIn("  ? R :    list the keys; read the settings file again; ask for a command", HELP)
 
     def test_wrapped(self):
         for line, width, rows in (("C-b r fits this", 8, ["C-b r", "fits", "this"]), ("abcdefghij", 4, ["abcd", "efgh", "ij"]),

@@ -45,7 +45,7 @@ class Texts(unittest.TestCase):
         self.assertNotIn("r", keys)
         self.assertIn("  % \"        split-window -h, -v: split the pane\n", others)
         self.assertIn("  c          new-window: open a window\n", others)
-        self.assertTrue(others.endswith("  C-a        C-a itself"))
+        self.assertTrue(others.endswith("  C-a        type C-a itself"))
         for key in DEFAULT_KEYS:
             self.assertTrue(key in ("x", "r", ":") or key in keys, key)
         self.assertIn("  :          command-prompt: ask for a command\n", others)

@@ -603,7 +603,7 @@ class Words(Mux):
         for words in (("help",), ("-h",), ("--help",)):
             before = len(self.text.getvalue())
             self.assertEqual(self.mux(*words), 0)
-            self.assertTrue(self.text.getvalue()[before:].startswith("mux [NAME] | WORD ..: sessions by name."))
+            self.assertTrue(self.text.getvalue()[before:].startswith("mux [NAME] | COMMAND ..: terminal sessions"))
         self.assertEqual(self.mux("help", "ls"), 0)
         self.assertIn("usage: mux ls", self.text.getvalue())
         self.refuses("'lst' is no command of mux; did you mean ls? `mux help` lists them", "help", "lst")
@@ -611,7 +611,7 @@ class Words(Mux):
         self.refuses("'zebra' is no command of mux; `mux help` lists them", "help", "zebra")
         with self.assertRaises(SystemExit):
             self.mux("kill", "--help")
-        self.assertIn("ends a session and the programs in it", self.text.getvalue())
+        self.assertIn("End a session, a window or a pane, and the programs in it", self.text.getvalue())
 
     def test_unknown_variables(self):
         """An unknown variable is named in one printable line on standard error, with the one that it is near to; up to four are."""
@@ -646,11 +646,11 @@ class Words(Mux):
         """It is called as it was named."""
         with mock.patch.object(mux, "CALLED", "roam mux"):
             self.assertEqual(self.mux("help"), 0)
-            self.assertTrue(self.text.getvalue().startswith("roam mux [NAME] | WORD"))
+            self.assertTrue(self.text.getvalue().startswith("roam mux [NAME] | COMMAND"))
 
     def test_words(self):
         """The words are those of the page roam-mux(1)."""
-        page = PAGE.read_text(encoding="utf-8")
+        page = PAGE.read_text(encoding="utf-8").replace("\\fB", "")
         for word in mux.WORDS:
             self.assertRegex(page, rf"\b{word}\b")
         self.assertEqual(list(mux.WORDS), "attach new detach ls list list-windows new-window rename-window clients watch kill send paste "

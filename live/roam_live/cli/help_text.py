@@ -1,74 +1,73 @@
 """What `mux help` prints."""
 
 HELP = """\
-mux [NAME] | WORD ..: sessions by name.
+mux [NAME] | COMMAND ..: terminal sessions that keep running when you leave.
 
-  [NAME]             attaches to session NAME, main where none is named; where it isn't running it is launched: a server, a shell in each
-                     of its panes, and a front end here. C-b ? shows the keys; C-b d detaches, and the session goes on.
-  attach [-d] [NAME] attaches to a session that is running; with -d all other terminals leave it first
+  [NAME]             Attach to session NAME, main if none is named. If it is not running, start it.
+                     C-b ? lists the keys. C-b d detaches, and the session keeps running.
+  attach [-d] [NAME] Attach to a running session, main if none is named. -d detaches all other terminals first.
   new [-d] [NAME [COMMAND ..]]
-                     launches a session that isn't running, with COMMAND in each pane in place of the shell; with -d without a front end
-  ls                 lists the sessions: name, rows and columns, panes, terminals, and windows where there are several; so does list.
-                     ssh:HOST:NAME is one of another machine
-  list-windows NAME  lists the windows of a session: number, name, rows and columns, panes, and what runs there
+                     Start a session that is not running, main if none is named, and attach to it. COMMAND runs in each pane instead of the
+                     shell. -d starts no front end.
+  ls                 List the sessions: name, rows and columns, panes, terminals, windows. list is the same. ssh:HOST:NAME is a session on
+                     another machine.
+  list-windows NAME  List the windows of a session: number, name, rows and columns, panes, programs.
   new-window [-n TITLE] NAME
-                     opens a window in a session that is running, and prints its name, as NAME:2
+                     Open a window in a running session, and print its name, such as NAME:2.
   rename-window NAME:K [TITLE]
-                     gives a window a name, or none
-  clients NAME       lists the terminals at a session: number, name, size, window, since when, and which of them watch
-  watch NAME         shows a session without typing there
-  kill [-f] NAME     ends a session and the programs in it; where one is no shell it asks, but with -f. Of ssh:HOST:NAME it ends the relay.
-                     NAME:K is one window, which is shut
-  send NAME WORD ..  types keys by tmux's names, as C-c, Enter or x, and the characters of any other word, as in
-                     `send work 'make test' Enter`, and ends once the session has taken all of them
+                     Name a window, or remove its name if no title is given.
+  clients NAME       List the terminals at a session: number, name, size, window, start time.
+  watch NAME         Show a session without typing there.
+  kill [-f] NAME     End a session, a window or a pane, and the programs in it. It asks if one is not a shell; -f does not. For
+                     ssh:HOST:NAME, it ends the relay here.
+  send NAME WORD ..  Type keys and text into a session or a pane, as in `send work 'make test' Enter`. A key has its tmux name, such as C-c.
+                     The command ends when the session has taken the input.
   send -l NAME WORD ..
-                     types the characters of all words, in one piece
+                     Type the characters of all words, in one piece.
   send -a NAME ACT ..
-                     types acts, as 'char 61', 'key return' or 'split right', and keys by tmux's names
-  paste [--raw] NAME pastes standard input, in one piece, between brackets where the program wants that; --raw keeps its escapes
+                     Type acts, such as 'char 61', 'key return' or 'split right', and keys by their tmux names.
+  paste [--raw] NAME Paste standard input into a session or a pane, in one piece. It is bracketed if the program asked for it. --raw keeps
+                     escape characters.
   capture [--svg] NAME
-                     prints the rows that a session shows, or a picture of them
+                     Print the rows that a session or a pane shows, or rows of its scrollback. --svg prints a picture.
   capture [-S ROW] [-E ROW] [-e] [-J] NAME
-                     prints rows of the pane in focus, of those that left its screen too: 0 is the first of the screen, -1 the last above
-                     it, - the first of all, or the last; -e with their styles, -J those as one line that went on
-  log [-e] [-J] NAME prints each row of the pane in focus as it leaves the screen, until the pane ends
-  buffer list NAME   lists the texts that were copied last; buffer show NAME [N] prints one, the newest where none is named, buffer paste
-                     NAME [N] pastes one, and buffer set NAME [TEXT] has one kept, of standard input where no text is named
-  env NAME           prints the lines by which a shell has what new panes have of the last attach: `eval "$(mux env NAME)"`
+                     Print rows of the active pane. Row 0 is the first of the screen, -1 the last above it, - the first or last of all. -e
+                     includes styles, and -J joins soft-wrapped rows.
+  log [-e] [-J] NAME Print each row of a pane as it scrolls off, until the pane ends.
+  buffer list|show|set|paste NAME [N|TEXT]
+                     List, print, set or paste the paste buffers of a session. N is a number of the list, the newest if none is named.
+                     Without TEXT, set reads standard input.
+  env NAME           Print shell commands that set the environment of the last attach, for `eval "$(mux env NAME)"`.
   cmd NAME COMMAND ..
-                     does a command in tmux's words, as split-window -h or send-keys ls Enter; roam.conf(5) has all
-  upgrade            lists the sessions that run another build of roam than this one, and says what to do
-  settings           tells where the settings file is looked for, and which of its lines aren't done; roam.conf(5) has what may stand there
+                     Run a tmux command in a session, such as split-window -h or send-keys ls Enter. roam.conf(5) lists them.
+  upgrade            List the sessions that run another build of roam, and explain how to move them.
+  settings           Print the path of the settings file, and each line of it that has no effect. roam.conf(5) describes the file.
   ssh [--ssh COMMAND] [--far COMMAND] [OPTION ..] HOST [NAME]
-                     attaches to a session of another machine over ssh, and stays there while the network breaks: a relay carries what goes
-                     between, by encrypted UDP where it can. COMMAND is how ssh is called here, and roam-mux there, where it isn't so.
-                     OPTIONs, as -p 2222, are for ssh.
-  far NAME           is what that runs on HOST: it carries a session, which is launched where it isn't running
-  help [WORD]        explains these words, or one of them, as --help behind it does; --version prints which build this is
+                     Attach to a session on another machine over ssh. The front end stays while the network is broken. A relay carries the
+                     session over encrypted UDP if it can. COMMAND runs ssh here, or roam-mux there. OPTIONs such as -p 2222 are for ssh.
+  far NAME           Carry a session over standard input and output for mux ssh on another machine. mux ssh runs this on HOST.
+  help [WORD]        Explain all commands, or one of them; so does --help after a command. --version prints the build of roam.
 
-A session has windows, 1 to 99, each with panes of its own; each terminal shows the one that it wants. NAME:K is window K, and NAME that
-where somebody was last; NAME:K.P and NAME.P are pane P there: kill closes it, and what is typed there is so with P in focus, which goes
-back to where it was. In a pane its session's NAME, and K, may be left out, as in `mux capture`, `mux kill :2` or `mux send .1 Up`.
+Targets: a session has windows 1 to 99, each with panes of its own. NAME:K is window K, and NAME the window that was last in use. NAME:K.P
+and NAME.P are pane P there. Inside a pane, the name of its own session and window may be omitted, as in `mux capture`, `mux kill :2` or
+`mux send .1 Up`. A name has at most 32 letters, digits, - and _. `new NAME` and `-- NAME` accept a name that is also a command.
 
-A settings file, ~/.config/roam/roam.conf, has tmux's words as far as roam has what they are for; what the environment chooses goes before
-it. C-b is the prefix, where ROAM_PREFIX names no other: C-a to C-z, C-], C-\\, C-^ or C-_. A program that asks for the mouse has it; with
-ROAM_MOUSE=on, or after C-b m, roam has it too: a click focuses a pane, the wheel scrolls, text is copied by dragging, and borders are
-dragged. C-b [ shows all scrollback rows of a pane, with tmux's keys. With ROAM_CLIPBOARD=on programs set the terminal's clipboard, which
-they don't with external, as where nothing says so; what is copied is set there but with off.
+Settings: the file ~/.config/roam/roam.conf has tmux's syntax. ROAM_PREFIX, ROAM_MOUSE, ROAM_CLIPBOARD, ROAM_PREDICT and ROAM_HISTORY
+override it. C-b is the prefix unless ROAM_PREFIX names another key: C-a to C-z, C-], C-\\, C-^ or C-_.
 
-A session has one size. Where no other terminal is there it grows to this one's; a terminal that is smaller shows the part with the cursor,
-and in its last row the key that fits the session to it, C-b r, which cuts what is wider.
+Mouse and clipboard: programs that ask for the mouse get it. With ROAM_MOUSE=on, or after C-b m, roam uses it too: a click activates a
+pane, the wheel scrolls, and dragging copies text or moves a border. Copied text goes to the clipboard unless ROAM_CLIPBOARD is off. With
+ROAM_CLIPBOARD=on, programs may set the clipboard.
 
-What keys will show is predicted and shown at once, where what is typed takes long to be shown, as over a slow network. `--predict always`
-or `never` behind attach, new or ssh, or ROAM_PREDICT in the environment, has it otherwise. What is predicted is seen at this terminal
-alone.
+Size: a session has one size. It grows to this terminal if nobody else types there. A smaller terminal shows the part around the cursor,
+and its last row shows the key that resizes the session, C-b r, which cuts longer lines.
 
-All terminals of this machine share one client process, 16 at once. A server knows 64 starts that edit in its life, and gives none back: a
-start that ends is followed by another, and each machine that comes by ssh has one. Where more than 32 are used `ls` tells how many.
+Predictions: if keys are slow to be shown, roam displays their predicted effect at this terminal alone. --predict always or never after
+attach, new or ssh, or ROAM_PREDICT, changes that.
 
-What is known of a session lies in a folder that the user alone may enter, in XDG_RUNTIME_DIR or /tmp: sockets, the session's id,
-processes, and a log of what they said. No id stands in the words of a process, and no port is open but for `ssh`: encrypted UDP goes
-between the machines then, where both can, and ROAM_UDP=never at either has it go over ssh alone. A name has letters, digits, - and _, 32 at
-most; one that is a word of these commands or of tmux, or differs from such a word of these by a letter, is taken by `new NAME` and by `--
-NAME`, and alone where such a session runs.
+Limits: all terminals of this machine share one client process, 16 at once. A server accepts 64 clients in its lifetime, and each machine
+that attaches by ssh uses one. ls shows how many are used if more than 32 are.
+
+Security: only you may enter a session's directory, in XDG_RUNTIME_DIR or /tmp. It contains sockets, the session's id and a log. No
+process has the id in its arguments. Only ssh sessions open a port, for encrypted UDP; ROAM_UDP=never on either machine prevents that.
 """

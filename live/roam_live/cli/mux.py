@@ -39,6 +39,11 @@ def explain(asked: Asked) -> int:
     return 0
 
 
+def sentence(text: str) -> str:
+    """Return a text of a table as a sentence."""
+    return f"{text[0].upper()}{text[1:]}."
+
+
 def parser_of(word: str) -> argparse.ArgumentParser:
     """The parser of what follows a word."""
     from roam_live.cli.args import WordParser
@@ -46,7 +51,7 @@ def parser_of(word: str) -> argparse.ArgumentParser:
     if word not in WORDS:
         hint = hint_of(word) or f"{word!r} is no command of mux"
         raise Fault(f"{hint}{' ' if hint.endswith('?') else '; '}`{called()} help` lists them")
-    parser = WordParser(prog=f"{called()} {word}", description=f"{word} {WORDS[word].tells}.", allow_abbrev=False)
+    parser = WordParser(prog=f"{called()} {word}", description=sentence(WORDS[word].tells), allow_abbrev=False)
     for names, more in WORDS[word].arguments:
         parser.add_argument(*names, **more)
     return parser

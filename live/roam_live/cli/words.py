@@ -53,83 +53,83 @@ ONE_OR_OWN = argument("name", metavar="NAME", nargs="?", default="")
 ONE_OR_PANE = argument("name", metavar="NAME[:K][.P]")
 PANE_OR_OWN = argument("name", metavar="NAME[:K][.P]", nargs="?", default="")
 ONE_OR_MAIN = argument("name", metavar="NAME", nargs="?", default="main")
-STYLED = argument("-e", dest="has_styles", action="store_true", help="with their styles")
-JOINED = argument("-J", dest="is_joined", action="store_true", help="those as one line that went on in the next")
+STYLED = argument("-e", dest="has_styles", action="store_true", help="include styles, as SGR sequences")
+JOINED = argument("-J", dest="is_joined", action="store_true", help="join soft-wrapped rows into one line")
 PREDICT = argument("--predict", choices=PREDICTION, metavar="WHEN",
-                   help="when what keys will show is predicted and shown: adaptive, always, never")
-LISTS = Word("all_sessions.list_sessions", "lists the sessions: name, rows and columns, panes, terminals")
+                   help="when to show predictions of keys: adaptive, always, never")
+LISTS = Word("all_sessions.list_sessions", "list the sessions")
 
 WORDS = {
-    "attach": Word("attaching.attach", "attaches to a session that is running, main where none is named", (
-        argument("-d", dest="is_alone", action="store_true", help="all other terminals leave it first"),
+    "attach": Word("attaching.attach", "attach to a running session, main if none is named", (
+        argument("-d", dest="is_alone", action="store_true", help="detach all other terminals first"),
         PREDICT,
         ONE_OR_MAIN,
     )),
     "new": Word("attaching.new", "launches a session that isn't running, main where none is named, and attaches to it; options stand "
                 "before NAME", (
-        argument("-d", dest="is_detached", action="store_true", help="without a front end"),
+        argument("-d", dest="is_detached", action="store_true", help="start no front end; options precede NAME"),
         PREDICT,
         ONE_OR_MAIN,
-        argument("command", metavar="COMMAND", nargs=REST, help="what runs in each pane in place of the shell"),
+        argument("command", metavar="COMMAND", nargs=REST, help="the command to run in each pane instead of the shell"),
     )),
-    "detach": Word("attaching.refuse_detach", "is done in the front end, by the prefix and d", (ONE_OR_MAIN,)),
+    "detach": Word("attaching.refuse_detach", "refused; press the prefix and d in the front end", (ONE_OR_MAIN,)),
     "ls": LISTS,
     "list": LISTS,
-    "list-windows": Word("asking.list_windows", "lists the windows of a session: number, name, size, panes, what runs there", (
+    "list-windows": Word("asking.list_windows", "list the windows of a session", (
         ONE_OR_OWN,
     )),
-    "new-window": Word("asking.new_window", "opens a window in a session that is running, and prints its name", (
-        argument("-n", dest="title", metavar="TITLE", help="the name that it has then"),
+    "new-window": Word("asking.new_window", "open a window in a running session, and print its name", (
+        argument("-n", dest="title", metavar="TITLE", help="the name of the window"),
         ONE_OR_OWN,
     )),
-    "rename-window": Word("asking.rename_window", "gives a window a name, or none where no title is named", (
+    "rename-window": Word("asking.rename_window", "name a window, or remove its name if no title is given", (
         argument("name", metavar="NAME:K", help="the window; : is that of this pane"),
-        argument("title", metavar="TITLE", nargs="?", default="", help="64 characters at most"),
+        argument("title", metavar="TITLE", nargs="?", default="", help="the name, at most 64 characters"),
     )),
-    "clients": Word("asking.list_clients", "lists the terminals at a session: number, name, size, window, since when", (ONE_OR_OWN,)),
-    "watch": Word("attaching.watch", "shows a session without typing there", (ONE,)),
-    "kill": Word("ending.kill", "ends a session and the programs in it, or a window or a pane; it asks where one is no shell", (
-        argument("-f", dest="is_forced", action="store_true", help="without a question"),
+    "clients": Word("asking.list_clients", "list the terminals at a session", (ONE_OR_OWN,)),
+    "watch": Word("attaching.watch", "show a session without typing there", (ONE,)),
+    "kill": Word("ending.kill", "end a session, a window or a pane, and the programs in it", (
+        argument("-f", dest="is_forced", action="store_true", help="do not ask"),
         PANE_OR_OWN,
     )),
-    "send": Word("asking.send", "types keys and texts, or acts, into a session or a pane, and ends once the session has taken all of it", (
-        argument("-l", dest="is_plain", action="store_true", help="all words are typed as their characters"),
-        argument("-a", dest="has_acts", action="store_true", help="the words are acts, as 'char 61' or 'split right', or keys"),
+    "send": Word("asking.send", "type keys and text into a session or a pane", (
+        argument("-l", dest="is_plain", action="store_true", help="type the characters of all words"),
+        argument("-a", dest="has_acts", action="store_true", help="the words are acts, such as 'char 61' or 'split right', or keys"),
         ONE_OR_PANE,
-        argument("words", metavar="WORD", nargs=REST, help="a key, as C-c or Enter, or a text; -- stands before one that is -l or -a"),
+        argument("words", metavar="WORD", nargs=REST, help="a key such as C-c or Enter, or text; put -- before a word -l or -a"),
     )),
-    "paste": Word("asking.paste", "pastes standard input into a session or a pane, in one piece", (
-        argument("--raw", dest="is_raw", action="store_true", help="keeps its escapes"),
+    "paste": Word("asking.paste", "paste standard input into a session or a pane, in one piece", (
+        argument("--raw", dest="is_raw", action="store_true", help="keep escape characters"),
         PANE_OR_OWN,
     )),
-    "capture": Word("asking.capture", "prints the rows that a session, or a pane, shows, or rows of a pane that left its screen", (
-        argument("--svg", dest="is_drawn", action="store_true", help="draws a picture, an SVG"),
-        argument("-S", dest="begin", metavar="ROW", help="from a row on: 0 is the first of the screen, -1 the last above it, - the first"),
-        argument("-E", dest="end", metavar="ROW", help="up to a row; - is the last"),
+    "capture": Word("asking.capture", "print the rows that a session or a pane shows, or rows of its scrollback", (
+        argument("--svg", dest="is_drawn", action="store_true", help="print a picture in SVG"),
+        argument("-S", dest="begin", metavar="ROW", help="the first row: 0 is the first of the screen, -1 the last above it, - the oldest"),
+        argument("-E", dest="end", metavar="ROW", help="the last row; - is the last of the screen"),
         STYLED,
         JOINED,
         PANE_OR_OWN,
     )),
-    "log": Word("asking.log", "prints each row of a pane as it leaves the screen, until the pane ends", (STYLED, JOINED, PANE_OR_OWN)),
-    "buffer": Word("asking.keep_texts", "lists, prints, sets or pastes the texts that were copied last in a session", (
-        argument("does", metavar="list|show|set|paste", choices=("list", "show", "set", "paste"), help="what is done"),
+    "log": Word("asking.log", "print each row of a pane as it scrolls off, until the pane ends", (STYLED, JOINED, PANE_OR_OWN)),
+    "buffer": Word("asking.keep_texts", "list, print, set or paste the paste buffers of a session", (
+        argument("does", metavar="list|show|set|paste", choices=("list", "show", "set", "paste"), help="the action"),
         PANE_OR_OWN,
-        argument("what", metavar="N|TEXT", nargs="?", default=None, help="the number of a buffer, or the text of one that is set"),
+        argument("what", metavar="N|TEXT", nargs="?", default=None, help="the number of a buffer, or a text to set"),
     )),
-    "env": Word("asking.print_environment", "prints the lines by which a shell has what new panes have of the last attach", (ONE_OR_OWN,)),
-    "cmd": Word("asking.command", "does a command in tmux's words, as split-window -h", (
+    "env": Word("asking.print_environment", "print shell commands that set the environment of the last attach", (ONE_OR_OWN,)),
+    "cmd": Word("asking.command", "run a tmux command in a session, such as split-window -h", (
         ONE_OR_PANE,
-        argument("words", metavar="COMMAND", nargs=REST, help="the command and its words"),
+        argument("words", metavar="COMMAND", nargs=REST, help="the command and its arguments"),
     )),
-    "upgrade": Word("all_sessions.explain_upgrade", "lists the sessions that run another build of roam than this one, and says what to do"),
-    "settings": Word("all_sessions.print_settings", "tells where the settings file is looked for, and which of its lines aren't done", ()),
-    "ssh": Word("attaching.enter_far", "attaches to a session of another machine over ssh", (
-        argument("--ssh", metavar="COMMAND", default="ssh", help="how ssh is called here"),
-        argument("--far", metavar="COMMAND", default="roam-mux", help="how roam-mux is called there"),
+    "upgrade": Word("all_sessions.explain_upgrade", "list the sessions that run another build of roam, and explain how to move them"),
+    "settings": Word("all_sessions.print_settings", "print the path of the settings file, and each line of it that has no effect", ()),
+    "ssh": Word("attaching.enter_far", "attach to a session on another machine over ssh", (
+        argument("--ssh", metavar="COMMAND", default="ssh", help="the command that runs ssh here"),
+        argument("--far", metavar="COMMAND", default="roam-mux", help="the command that runs roam-mux there"),
         PREDICT,
-        argument("host", metavar="HOST", help="with what stands before it, as -p 2222, for ssh"),
+        argument("host", metavar="HOST", help="the other machine; options before it, such as -p 2222, are for ssh"),
         ONE_OR_MAIN,
     )),
-    "far": Word("attaching.carry", "carries a session over standard input and output, as `mux ssh` on another machine has it", (ONE,)),
-    "help": Word("mux.explain", "explains the words, or one of them", (argument("word", metavar="WORD", nargs="?", default=None),)),
+    "far": Word("attaching.carry", "carry a session over standard input and output for mux ssh on another machine", (ONE,)),
+    "help": Word("mux.explain", "explain all commands, or one of them", (argument("word", metavar="WORD", nargs="?", default=None),)),
 }

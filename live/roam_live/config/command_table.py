@@ -197,7 +197,7 @@ TABLE = (
     NamedCommand(("rename-window", "renamew"), "", texted("window name", is_needed=False), "name the window"),
     NamedCommand(("next-window", "next"), "", wish("go next"), "go to the next window"),
     NamedCommand(("previous-window", "prev"), "", wish("go previous"), "go to the previous window"),
-    NamedCommand(("last-window", "last"), "", wish("go last"), "go to the last window of this terminal"),
+    NamedCommand(("last-window", "last"), "", wish("go last"), "go to the last window"),
     NamedCommand(("select-window", "selectw"), "t:npl", window_of, "go to a window, by its number"),
     NamedCommand(("choose-window", "choose-tree"), "swZG", wish("window list"), "choose a window from a list"),
     NamedCommand(("split-window", "splitw"), "hvc:d", begun({"h": "split right", "v": "split down"}, "split down"),

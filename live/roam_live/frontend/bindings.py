@@ -32,28 +32,28 @@ NEWEST = f"view -{MOST_VIEW}"
 
 HELP = """\
 C-b and then:
-  c n p l  open a window; go to the next, the one before, the last one
-  1 to 9 0 the window of this number, 10, ' asks; q and a digit: the pane
-  w , &    choose a window from a list; name this one; shut it
-  % " x    split the pane: the new one to the right, or below; close the pane
-  o ;      the next pane, the one in focus before; arrows: the pane there
-  C-arrows move the pane's border there, or where it has none that on the
-           other side; again within half a second without C-b
-  z        zoom: this pane fills the terminal, until z or another pane has the
-           focus. All panes grow, so on the way back rows are cut on screens
-           (kept rows aren't), others see a part, and links carry more
-  [ PgUp / copy mode: all rows that are kept; tmux's keys, vi's where EDITOR
-           is: Space or C-Space selects, Return or M-w copies, q leaves
-  ] =      paste what was copied last; choose what is pasted
-  m        the mouse: a click focuses the pane there, the wheel scrolls, text
-           is dragged over, and borders; again, it selects as without roam
-  d D      detach: the session goes on; detach all others
-  C-z      suspend: the shell that this came from is there again, until `fg`
-  r        size the session to this terminal, which cuts what is wider where
-           that is smaller, and paint all anew
-  t Space  hide the last row, or show it; even shares for all panes
-  ? R :    these keys, until the next key; read roam.conf; a command
-  C-b      C-b itself"""
+  c        open a window
+  n p l    go to the next window; the previous window; the last window
+  1 to 9 0 go to a window, by its number; ' asks for it
+  w , &    choose a window from a list; name the window; close the window
+  % " x    split the pane: on the right, or below; close the pane
+  o ;      go to the next pane; to the previously active pane
+  arrows   go to the pane in that direction; q and a digit: by its number
+  C-arrows move one of its borders; again within half a second without C-b
+  z        zoom the pane, until z or another pane is active. The session
+           grows meanwhile; later, lines may be cut on the screens
+  [ PgUp / enter copy mode; one page up; with a search. Space or C-Space
+           selects, Return or M-w copies, q leaves
+  ] =      paste the newest buffer; choose a buffer to paste
+  m        give the mouse to roam, or back: a click activates a pane, the
+           wheel scrolls, dragging copies text or moves a border
+  d D      detach this terminal; all others. The session keeps running
+  C-z      suspend the front end; `fg` continues it
+  r        resize the session to this terminal, and repaint. If that is
+           smaller, longer lines are cut
+  t Space  hide the last row, or show it; divide the space evenly
+  ? R :    list the keys; read the settings file again; ask for a command
+  C-b      type C-b itself"""
 
 
 def help_with(prefix: str) -> str:
@@ -165,7 +165,7 @@ def help_of(prefix: str, own: Own, is_typed: bool = False) -> str:
     by = f"roam.conf or {prefix} :bind" if is_typed else "roam.conf"
     lines = section(f"{prefix} and then, by {by}:", own, "prefix") + section(f"without it, by {by}:", own, "root")
     if ("prefix", ALL) not in own:
-        lines += [f"{prefix} and then, as roam has it:", *default_lines(own), f"  {prefix:{COLUMNS}} {prefix} itself"]
+        lines += [f"{prefix} and then, as roam has it:", *default_lines(own), f"  {prefix:{COLUMNS}} type {prefix} itself"]
     return "\n".join(lines)
 
 

@@ -130,7 +130,7 @@ def moved(folder):
     time.sleep(1)
     (folder / "tree").rename(folder / "moved")
     for keys, text in ((b"\x02[", "copy mode"), (b"/4", "4"), (b"\rq", "[1] 1:"), (b"\x02:display-message moved\r", "moved"),
-                       (b"\x02R", "roam.conf was read"), (b"\x02?", "these keys")):
+                       (b"\x02R", "roam.conf was read"), (b"\x02?", "list the keys")):
         outer.type(keys)
         check(f"{keys!r} does what it does", comes(lambda text=text: any(text in row for row in outer.rows())), outer.rows)
     outer.type(b"x\x02d")

@@ -398,7 +398,7 @@ def smaller(folder):
     is_fitted = large.ends() and comes(lambda: listed()[1:4] == ["23", "by", "100"])
     check("until the key is typed there", is_fitted and outer.shows("right-9") and comes(lambda: FITS not in outer.rows()[-1]), outer.rows)
     outer.type(b"\x02?")
-    is_narrow = outer.shows("these keys, until the next key") and not any(row[80:].strip() for row in outer.rows())
+    is_narrow = outer.shows("list the keys; read the settings file again") and not any(row[80:].strip() for row in outer.rows())
     check("the keys fit 80 columns", is_narrow, outer.rows)
     subprocess.run(tool("mux", "kill", "other"), check=True)
 

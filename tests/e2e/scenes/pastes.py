@@ -184,7 +184,7 @@ def paste_lost(folder):
     text = b"x" * 5000
     outer.type(b"<" + pasted(text) + b">")
     outer.type(b"\x02?")
-    check("while the host is stopped the front end goes on", outer.shows("these keys"), outer.rows)
+    check("while the host is stopped the front end goes on", outer.shows("list the keys"), outer.rows)
     outer.type(b"q")
     os.kill(host, signal.SIGCONT)
     check("once it is continued all comes, in order", has(path, b"<" + text + b">"), path.read_bytes)
